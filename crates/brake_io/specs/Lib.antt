@@ -1,0 +1,4 @@
+pub mod Rose
+pub mod Meanings
+pub mod ShelfState
+pub mod SinkState
