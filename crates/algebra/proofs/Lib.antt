@@ -1,0 +1,5 @@
+pub mod Laws
+pub mod Polynomials
+pub mod Ring
+pub mod Order
+pub mod Widths

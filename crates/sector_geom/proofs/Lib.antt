@@ -1,0 +1,17 @@
+pub mod Turns
+pub mod CornerTables
+pub mod CoverLaw
+pub mod Wedge
+pub mod CoverShape
+pub mod Symmetry
+pub mod OuterCase
+pub mod InnerCase
+pub mod ClearLaw
+pub mod NoseLaw
+pub mod Fits
+pub mod Crossings
+pub mod AllMeet
+pub mod Radii
+pub mod Cases
+pub mod Comparisons
+pub mod PieceLaws
