@@ -1,0 +1,2 @@
+pub mod HalfDeduction
+pub mod AllowTable

@@ -1,0 +1,5 @@
+pub mod Words
+pub mod BlankOf
+pub mod RunText
+pub mod Stops
+pub mod Run

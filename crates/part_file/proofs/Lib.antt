@@ -1,0 +1,6 @@
+pub mod Fit
+pub mod FitFaces
+pub mod FitPart
+pub mod Joints
+pub mod RowData
+pub mod Walks

@@ -1,0 +1,17 @@
+//! A sheet metal part: flat rectangular faces joined by right-angle bends, and its file.
+#![tactic(auto)]
+
+mod fault;
+mod part;
+mod reader;
+mod rows;
+mod rules;
+mod tree;
+
+pub use fault::PartFault;
+pub use part::{Dir, Face, Joint, Part, Side};
+pub use reader::read_part;
+pub use tree::{bent, path, side_of};
+
+#[cfg(test)]
+mod tests;

@@ -1,0 +1,6 @@
+pub mod Bind
+pub mod Each
+pub mod Firsts
+pub mod Integers
+pub mod Sizes
+pub mod Utf8

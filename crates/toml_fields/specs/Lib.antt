@@ -1,0 +1,4 @@
+pub mod Document
+pub mod Fields
+pub mod Lists
+pub mod Results

@@ -1,0 +1,3 @@
+pub mod Tools
+pub mod Names
+pub mod ToolsFile

@@ -1,0 +1,14 @@
+pub mod Signed
+pub mod Faces
+pub mod Listing
+pub mod Lines
+pub mod ChainLemmas
+pub mod Quarters
+pub mod FrameLemmas
+pub mod Finding
+pub mod Extents
+pub mod Layouts
+pub mod HingeLaws
+pub mod FoldLaws
+pub mod PlaceLaws
+pub mod Unfolded

@@ -1,0 +1,10 @@
+pub mod Near
+pub mod Cores
+pub mod Chains
+pub mod Blank
+pub mod Extent
+pub mod Design
+pub mod Tables
+pub mod Around
+pub mod Fold
+pub mod Frames

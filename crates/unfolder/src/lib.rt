@@ -1,0 +1,16 @@
+//! The blank of a part: its faces laid flat, each less what its bends take.
+#![tactic(auto)]
+
+mod blank;
+mod bounds;
+pub mod cores;
+mod frame;
+mod layout;
+mod refusals;
+
+pub use blank::{BendLine, Blank, FlatFace, FlatRect, UnfoldFault};
+pub use bounds::extent;
+pub use layout::unfold;
+
+#[cfg(test)]
+mod tests;
