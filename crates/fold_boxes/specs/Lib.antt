@@ -1,0 +1,4 @@
+pub mod Shapes
+pub mod Folded
+pub mod Hinges
+pub mod Places
