@@ -1,0 +1,17 @@
+//! Times what the speed of a search rests on, and prints nanoseconds to standard error.
+#![tactic(auto)]
+
+mod folds;
+mod pools;
+mod sectors;
+mod timing;
+
+use folds::time_folds;
+use pools::time_pools;
+use sectors::time_sectors;
+
+fn main(rt: HostRuntime) -> anyhow::Result<()> {
+    time_sectors(&rt)?;
+    time_folds(&rt)?;
+    time_pools(&rt)
+}

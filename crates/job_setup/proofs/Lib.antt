@@ -1,0 +1,4 @@
+pub mod Lists
+pub mod Valid
+pub mod Steps
+pub mod Near

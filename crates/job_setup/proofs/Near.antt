@@ -1,0 +1,51 @@
+-- All coordinates of a valid job's setup lie within 1,000,000,000 micrometres of 0.
+use Rattle.std.proofs.Common.{◌≡◌, ℕ, suc, ◌*◌, ◌<◌, ◌≤◌, ℤ, pos, neg_ℤ, ◌+ℤ◌, ◌≤ℤ◌, List, [], ◌∷◌, length, arith}
+use Rattle.std.specs.Prelude.{All, fold}
+use Rattle.std.proofs.lemmas.Int.{ints}
+use Rattle.machine_file.specs.declared.machine.Fixed.{Fixed}
+use Rattle.machine_file.specs.Machine.{farthest, IsWithin, IsSpan, IsFixed}
+use Rattle.unfolder.specs.Extent.{IsNear}
+use Rattle.job_setup.specs.Setup.{StageData, JobData}
+use Rattle.job_setup.specs.ValidJob.{IsStage, IsJob}
+use Rattle.job_setup.specs.Near.{IsNearBox, IsNearStage, IsNearSetup}
+
+-- how long some pieces can be together, after a length
+total_from : (pieces : List ℤ) (a : ℤ) → All (IsWithin (pos 1) (pos 10000000)) pieces → (a ≤ℤ fold ◌+ℤ◌ a pieces) × (fold ◌+ℤ◌ a pieces ≤ℤ (a +ℤ pos (10000000 * length pieces)))
+total_from [] a all = (omega (arith, ints), omega (arith, ints))
+total_from (piece ∷ pieces) a all =
+    let one : IsWithin (pos 1) (pos 10000000) piece = all 0 piece (omega arith) in
+    let later = total_from pieces (a +ℤ piece) (λ k d within. all (suc k) d (omega arith)) in
+    (omega (arith, ints, later.0, one.bottom), omega (arith, ints, later.1, one.top))
+
+span_near : (low high from to : ℤ) → IsSpan low high from to → neg_ℤ (pos 20000000) ≤ℤ low → high ≤ℤ pos 20000000 → IsNear from × IsNear to
+span_near low high from to span bottom top =
+    ((omega (arith, ints, span.bottom, bottom), omega (arith, ints, span.order, span.top, top)), (omega (arith, ints, span.order, span.bottom, bottom), omega (arith, ints, span.top, top)))
+
+box_near : (low high : ℤ) (box : Fixed) → IsFixed low high box → neg_ℤ (pos 20000000) ≤ℤ low → high ≤ℤ pos 20000000 → IsNearBox box
+box_near low high box fit bottom top =
+    let x = span_near _ _ _ _ fit.along (omega (arith, ints)) (omega (arith, ints)) in
+    let y = span_near _ _ _ _ fit.across (omega (arith, ints)) (omega (arith, ints)) in
+    let z = span_near _ _ _ _ fit.upwards bottom top in
+    record { x0 = x.0; x1 = x.1; y0 = y.0; y1 = y.1; z0 = z.0; z1 = z.1 }
+
+stage_near : (stage : StageData) → IsStage stage → IsNearStage stage
+stage_near stage fit =
+    let long = total_from stage.pieces (pos 0) fit.pieces in
+    record {
+      x0 = (omega (arith, ints, fit.at.bottom), omega (arith, ints, fit.at.top));
+      x1 = (omega (arith, ints, fit.long, long.0, fit.at.bottom), omega (arith, ints, fit.long, long.1, fit.at.top, fit.few_pieces));
+    }
+
+pub setup_near : (j : JobData) → IsJob j → IsNearSetup j
+setup_near j fit =
+    let setup = fit.setup in
+    let bed = span_near _ _ _ _ setup.bed (omega (arith, ints)) (omega (arith, ints)) in
+    record {
+      bed_from = bed.0;
+      bed_to = bed.1;
+      frames_from = λ k d within. (span_near _ _ _ _ (setup.frames k d within) (omega (arith, ints)) (omega (arith, ints))).0;
+      frames_to = λ k d within. (span_near _ _ _ _ (setup.frames k d within) (omega (arith, ints)) (omega (arith, ints))).1;
+      upper = λ k d within. box_near _ _ _ (setup.upper k d within) (omega (arith, ints)) (omega (arith, ints));
+      lower = λ k d within. box_near _ _ _ (setup.lower k d within) (omega (arith, ints)) (omega (arith, ints));
+      stages = λ k d within. stage_near _ (setup.stages k d within);
+    }

@@ -1,0 +1,9 @@
+pub mod Setup
+pub mod Results
+pub mod Stages
+pub mod Loads
+pub mod Stock
+pub mod Places
+pub mod ValidJob
+pub mod JobOf
+pub mod Near

@@ -1,0 +1,73 @@
+//! A job, which is valid by its type.
+ghost use Rattle.std.specs.Prelude.{◌≡◌, ◌+◌, ◌≤◌, length};
+ghost use Rattle.part_file.specs.Part.{part_data};
+ghost use Rattle.job_setup.specs.Setup.{setup_data};
+ghost use Rattle.job_setup.specs.ValidJob.{IsJob};
+
+use crate::setup::Setup;
+use part_file::Part;
+use std::marker::Model;
+
+/// A part, its half deduction and the setup on which it is bent. Its type keeps that it is valid:
+/// the part unfolds, all ranges of its file and of the machine's file hold, and the stages are
+/// equally high, apart, on the bed, and at least one.
+#[derive(Drop)]
+pub struct Job {
+    pub(crate) part: Part,
+    pub(crate) q: i64,
+    pub(crate) setup: Setup,
+}
+
+impl Model for Job {
+    ghost use Rattle.part_file.specs.Part.{part_data};
+    ghost use Rattle.job_setup.specs.Setup.{JobData, setup_data};
+    ghost use Rattle.job_setup.specs.ValidJob.{IsJob};
+
+    ghost Value = { JobData };
+
+    ghost view = { λ j. record { part = part_data j.part; q = j.q; setup = setup_data j.setup } };
+
+    ghost invariant = { λ j. IsJob (record { part = part_data j.part; q = j.q; setup = setup_data j.setup }) };
+}
+
+impl Job {
+    /// The part.
+    pub fn part(&self) -> &Part
+        ensures value { part_data result.now ≡ self.now.part }
+        ensures valid { IsJob self.now }
+    {
+        &self.part
+    }
+
+    /// Half of what the part's outside sizes lose at each bend, in micrometres.
+    pub fn q(&self) -> i64
+        ensures value { result ≡ self.now.q }
+        ensures valid { IsJob self.now }
+    {
+        self.q
+    }
+
+    /// The setup.
+    pub fn setup(&self) -> &Setup
+        ensures value { setup_data result.now ≡ self.now.setup }
+        ensures valid { IsJob self.now }
+    {
+        &self.setup
+    }
+
+    /// The number of bends: one for each face but face 0.
+    pub fn bends(&self) -> u8
+        ensures value { result + 1 ≡ length self.now.part.faces }
+        ensures few { result ≤ 12 }
+    {
+        self.part.faces.len() as u8 - 1
+    }
+
+    /// The number of stages.
+    pub fn stages(&self) -> u8
+        ensures value { result ≡ length self.now.setup.stages }
+        ensures few { result ≤ 6 }
+    {
+        self.setup.stages.len() as u8
+    }
+}

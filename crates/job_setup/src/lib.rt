@@ -1,0 +1,19 @@
+//! A job: a part, its half deduction, and the setup of the machine on which it is bent.
+#![tactic(auto)]
+
+mod fault;
+mod job;
+mod loads;
+mod making;
+mod places;
+mod setup;
+mod stages;
+mod stock;
+
+pub use fault::JobFault;
+pub use job::Job;
+pub use making::make_job;
+pub use setup::{Setup, Stage};
+
+#[cfg(test)]
+mod tests;

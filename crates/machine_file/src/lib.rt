@@ -1,0 +1,16 @@
+//! A press brake: its bed, frames, fixed boxes, backgauge, handling costs and stages, and its file.
+#![tactic(auto)]
+
+mod boxes;
+mod fault;
+mod machine;
+mod reader;
+mod stages;
+mod tables;
+
+pub use fault::MachineFault;
+pub use machine::{Costs, Fixed, GaugeRule, Machine, StageText};
+pub use reader::read_machine;
+
+#[cfg(test)]
+mod tests;
