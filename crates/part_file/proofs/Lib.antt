@@ -2,5 +2,6 @@ pub mod Fit
 pub mod FitFaces
 pub mod FitPart
 pub mod Joints
+pub mod PartRules
 pub mod RowData
 pub mod Walks

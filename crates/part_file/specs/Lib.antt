@@ -1,3 +1,4 @@
 pub mod Part
+pub mod PartRules
 pub mod Rows
 pub mod PartFile

@@ -7,6 +7,7 @@ mod reader;
 mod rows;
 mod rules;
 mod tree;
+mod valid;
 
 pub use fault::PartFault;
 pub use part::{Dir, Face, Joint, Part, Side};

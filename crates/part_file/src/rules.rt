@@ -50,7 +50,7 @@ fn lacks_parent(rows: &[FaceRow], face: usize) -> bool
 }
 
 /// From 1 to 10,000,000 micrometres.
-fn is_size(n: i64) -> bool
+pub fn is_size(n: i64) -> bool
     ensures { result ≡ is_size n }
 {
     1 <= n && n <= 10_000_000
@@ -67,14 +67,14 @@ fn row_side(side: Side, row: &FaceRow) -> i64
 }
 
 /// Whether a range of this width from `at` lies within 0 to `most`.
-fn is_along(at: i64, width: i64, most: i64) -> bool
+pub fn is_along(at: i64, width: i64, most: i64) -> bool
     ensures { result ≡ (int_le (pos 0) at && int_le (at +ℤ width) most) }
 {
     0 <= at && at as i128 + width as i128 <= most as i128
 }
 
 /// Whether a face may stand on this side of the face of a number: on an S side only of face 0.
-fn may_carry(parent: usize, side: Side) -> bool
+pub fn may_carry(parent: usize, side: Side) -> bool
     ensures { result ≡ may_carry parent side }
 {
     match side {

@@ -1,4 +1,5 @@
 use super::*;
+use brake_base::Name;
 use std::alloc::{AllocError, Global};
 use std::test::Fail;
 
@@ -27,6 +28,33 @@ fn staircase(alloc: Global, faces: u8) -> Result<String, AllocError> {
         }
     }
     Ok(text)
+}
+
+/// Whether the part of the text is valid with this face in place of its last one.
+fn is_valid_with(alloc: Global, text: &str, last: Face) -> Result<bool, PartFault> {
+    let mut part = read_part(alloc, text.as_bytes())?;
+    let _ = part.faces.pop();
+    let _ = part.faces.try_push(last);
+    Ok(part.is_valid())
+}
+
+/// Whether the part of the text is valid with this joint of its last face.
+fn is_valid_on(alloc: Global, text: &str, joint: Option<Joint>) -> Result<bool, PartFault> {
+    let mut part = read_part(alloc, text.as_bytes())?;
+    if let Some(face) = part.faces.pop() {
+        let _ = part.faces.try_push(Face { joint, ..face });
+    }
+    Ok(part.is_valid())
+}
+
+/// A bend upwards on that side of a face.
+fn upwards(on: u8, side: Side, at: i64) -> Option<Joint> {
+    Some(Joint {
+        on,
+        side,
+        at,
+        dir: Dir::Up,
+    })
 }
 
 #[test]
@@ -102,5 +130,69 @@ fn thirteen_faces_and_fourteen(rt: HostRuntime) -> Result<(), Fail> {
         read_part(alloc, fourteen.as_bytes()).err(),
         Some(PartFault::TooMany)
     );
+    Ok(())
+}
+
+#[test]
+fn valid_sheets(rt: HostRuntime) -> Result<(), Fail> {
+    let mut part = read_part(rt.alloc(), L_SECTION.as_bytes())?;
+    assert!(rt; part.is_valid());
+    part.thickness = 1501;
+    assert!(rt; !part.is_valid());
+    part.thickness = 50_002;
+    assert!(rt; !part.is_valid());
+    part.thickness = 50_000;
+    assert!(rt; part.is_valid());
+    part.radius = 0;
+    assert!(rt; !part.is_valid());
+    part.radius = 1;
+    assert!(rt; part.is_valid());
+    part.material = Name::new();
+    assert!(rt; !part.is_valid());
+    part.material = Name::from("S 235")?;
+    assert!(rt; !part.is_valid());
+    Ok(())
+}
+
+#[test]
+fn valid_faces(rt: HostRuntime) -> Result<(), Fail> {
+    let alloc = rt.alloc();
+    let mut part = read_part(alloc, L_SECTION.as_bytes())?;
+    assert_eq!(rt; part.faces.len(), 2);
+    let base = part.faces[0];
+    let leg = part.faces[1];
+    assert!(rt; is_valid_with(alloc, L_SECTION, leg)?);
+    let mut face = leg;
+    face.width = 0;
+    assert!(rt; !is_valid_with(alloc, L_SECTION, face)?);
+    face = leg;
+    face.length = i64::MAX;
+    assert!(rt; !is_valid_with(alloc, L_SECTION, face)?);
+    face = leg;
+    face.name = base.name;
+    assert!(rt; !is_valid_with(alloc, L_SECTION, face)?);
+    part.faces.clear();
+    assert!(rt; !part.is_valid());
+    Ok(())
+}
+
+#[test]
+fn valid_joints(rt: HostRuntime) -> Result<(), Fail> {
+    let alloc = rt.alloc();
+    assert!(rt; is_valid_on(alloc, L_SECTION, upwards(0, Side::N, 0))?);
+    assert!(rt; is_valid_on(alloc, L_SECTION, upwards(0, Side::S, 0))?);
+    assert!(rt; !is_valid_on(alloc, L_SECTION, None)?);
+    assert!(rt; !is_valid_on(alloc, L_SECTION, upwards(1, Side::N, 0))?);
+    assert!(rt; !is_valid_on(alloc, L_SECTION, upwards(255, Side::N, 0))?);
+    assert!(rt; !is_valid_on(alloc, L_SECTION, upwards(0, Side::N, 1))?);
+    assert!(rt; !is_valid_on(alloc, L_SECTION, upwards(0, Side::N, -1))?);
+    assert!(rt; !is_valid_on(alloc, L_SECTION, upwards(0, Side::N, i64::MAX))?);
+    assert!(rt; !is_valid_on(alloc, L_SECTION, upwards(0, Side::E, 0))?);
+    let three = staircase(alloc, 3)?;
+    assert!(rt; is_valid_on(alloc, three.as_str(), upwards(1, Side::N, 0))?);
+    assert!(rt; !is_valid_on(alloc, three.as_str(), upwards(1, Side::S, 0))?);
+    let one = staircase(alloc, 1)?;
+    assert!(rt; is_valid_on(alloc, one.as_str(), None)?);
+    assert!(rt; !is_valid_on(alloc, one.as_str(), upwards(0, Side::N, 0))?);
     Ok(())
 }

@@ -53,12 +53,19 @@ fn is_visible(text: &[u8]) -> bool
     text.iter().all(|b| 0x21 <= *b && *b <= 0x7e)
 }
 
-/// The text as a name: 1 to 24 bytes from 0x21 to 0x7E.
+/// Whether the text is a name: 1 to 24 bytes from 0x21 to 0x7E.
+pub fn is_name(text: &str) -> bool
+    ensures { result ≡ is_name text.now }
+{
+    !text.is_empty() && text.len() <= 24 && is_visible(text.as_bytes())
+}
+
+/// The text as a name.
 fn checked_name(text: &str) -> Option<ArrayString<24>>
     ensures value { option_map (λ name. name.bytes) result ≡ checked_name text.now }
     ensures is_name { IfSome result (λ name. IsTrue (is_name name.bytes)) }
 {
-    if text.is_empty() || text.len() > 24 || !is_visible(text.as_bytes()) {
+    if !is_name(text) {
         return None;
     }
     ArrayString::from(text).ok()

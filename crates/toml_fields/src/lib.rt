@@ -8,8 +8,8 @@ mod lists;
 
 pub use document::{DocumentFault, read_document};
 pub use fields::{
-    has_key, has_unknown_key, integer_at, integer_or, name_at, table_at, text_at, value_at,
-    whole_at,
+    has_key, has_unknown_key, integer_at, integer_or, is_name, name_at, table_at, text_at,
+    value_at, whole_at,
 };
 pub use lists::{
     array_at, array_or_none, integers_of, rows_at, rows_or_none, tables_at, tables_or_none,
