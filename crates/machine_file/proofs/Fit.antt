@@ -1,8 +1,6 @@
 -- What is read of a machine's tables meets the rules of the machine file.
-use Rattle.std.proofs.Common.{◌≡◌, ℕ, suc, ◌+◌, ◌≤◌, ℤ, pos, neg_ℤ, unsigned_abs, Bool, true, false, ◌&&◌, List, [], ◌∷◌, codes, length, Option, Some, None, Result, Ok, option_and_then, option_map, if◌then◌else◌, All, refl, sym, ap, subst, ◌∙◌, arith}
-use Rattle.std.specs.Prelude.{int_le, int_lt}
+use Rattle.std.proofs.Common.{◌≡◌, ℕ, suc, ◌+◌, ◌≤◌, ℤ, pos, neg_ℤ, unsigned_abs, Bool, true, false, List, [], ◌∷◌, codes, length, Option, Some, None, Result, Ok, option_and_then, option_map, if◌then◌else◌, All, refl, sym, ap, subst, ◌∙◌, arith}
 use Rattle.std.proofs.lemmas.Int.{ints}
-use Rattle.std.proofs.lemmas.Bool.{and_parts}
 use Rattle.std.proofs.lemmas.List.Elements.{All-nil, All-cons}
 use Rattle.toml.specs.Data.{Data, Members}
 use Rattle.toml_fields.specs.Fields.{within, whole_at, integer_at, has_unknown_key}
@@ -13,8 +11,9 @@ use Rattle.machine_file.specs.declared.fault.MachineFault.TheVariants.{BadField,
 use Rattle.machine_file.specs.declared.machine.Fixed.{Fixed}
 use Rattle.machine_file.specs.declared.machine.GaugeRule.{GaugeRule}
 use Rattle.machine_file.specs.declared.machine.Costs.{Costs}
-use Rattle.machine_file.specs.Machine.{farthest, IsWithin, IsSpan, IsRange, IsFixed, IsGaugeRule, IsCosts}
+use Rattle.machine_file.specs.Machine.{farthest, IsWithin, IsRange, IsFixed, IsGaugeRule, IsCosts}
 use Rattle.machine_file.specs.MachineFile.{is_span, range_of, fixed_of, is_fixed, frame_of, box_of, length_at, gauge_of, cost_at, costs_of}
+use Rattle.machine_file.proofs.Decided.{span_decided, fixed_decided}
 
 -- items that are read in turn, each to a value of which a fact holds
 pub each_all : {A B E : Type 0} (read : ℕ → A → Result B E) (P : B → Type 0) → ((n : ℕ) (x : A) (y : B) → read n x ≡ Ok y → P y) → (n : ℕ) (xs : List A) (ys : List B) → each_from read n xs ≡ Ok ys → All P ys
@@ -40,12 +39,6 @@ pub then_some : {A B : Type 0} (o : Option A) (f : A → Option B) (b : B) → o
 then_some None f b given = absurd (cc)
 then_some (Some a) f b given = (a, refl, given)
 
-span_is : (low high from to : ℤ) → is_span low high from to ≡ true → IsSpan low high from to
-span_is low high from to given =
-    let (lower, top) = and_parts (int_lt from to && int_le low from) (int_le to high) given in
-    let (order, bottom) = and_parts (int_lt from to) (int_le low from) lower in
-    record { order = grind (arith, ints); bottom = grind (arith, ints); top = grind (arith, ints) }
-
 -- a value that is there only where a test holds
 kept : {A : Type 0} (test : Bool) (a b : A) → (if test then Some a else None) ≡ Some b → (test ≡ true) × (a ≡ b)
 kept true a b given = (refl, cc)
@@ -56,7 +49,7 @@ range_is [] range given = absurd (cc)
 range_is (x0 ∷ []) range given = absurd (cc)
 range_is (x0 ∷ x1 ∷ []) range given =
     let fact = kept (is_span (neg_ℤ farthest) farthest x0 x1) (x0, x1) range given in
-    subst (λ (r : ℤ × ℤ). IsRange r) fact.1 (span_is (neg_ℤ farthest) farthest x0 x1 fact.0)
+    subst (λ (r : ℤ × ℤ). IsRange r) fact.1 ((span_decided (neg_ℤ farthest) farthest x0 x1).0 fact.0)
 range_is (x0 ∷ x1 ∷ x2 ∷ more) range given = absurd (cc)
 
 pub frame_is : (i : ℕ) (item : Data) (range : ℤ × ℤ) → frame_of i item ≡ Ok range → IsRange range
@@ -64,21 +57,11 @@ frame_is i item range given =
     let found = then_some (integers_of 2 item) range_of range (ok_or_ok (option_and_then range_of (integers_of 2 item)) (BadBox 0) range given) in
     range_is found.0 range found.2
 
-fixed_is : (low high : ℤ) (box : Fixed) → is_fixed low high box ≡ true → IsFixed low high box
-fixed_is low high box given =
-    let (flat, up) = and_parts (is_span (neg_ℤ farthest) farthest box.x0 box.x1 && is_span (neg_ℤ farthest) farthest box.rect.y0 box.rect.y1) (is_span low high box.rect.z0 box.rect.z1) given in
-    let (along, across) = and_parts (is_span (neg_ℤ farthest) farthest box.x0 box.x1) (is_span (neg_ℤ farthest) farthest box.rect.y0 box.rect.y1) flat in
-    record {
-      along = span_is (neg_ℤ farthest) farthest box.x0 box.x1 along;
-      across = span_is (neg_ℤ farthest) farthest box.rect.y0 box.rect.y1 across;
-      upwards = span_is low high box.rect.z0 box.rect.z1 up;
-    }
-
 pub box_is : (low high : ℤ) (i : ℕ) (item : Data) (box : Fixed) → box_of low high i item ≡ Ok box → IsFixed low high box
 box_is low high i item box given =
     let found = then_some (fixed_of item) (λ read. if is_fixed low high read then Some read else None) box (ok_or_ok (option_and_then (λ read. if is_fixed low high read then Some read else None) (fixed_of item)) (BadBox 0) box given) in
     let fact = kept (is_fixed low high found.0) found.0 box found.2 in
-    subst (λ (b : Fixed). IsFixed low high b) fact.1 (fixed_is low high found.0 fact.0)
+    subst (λ (b : Fixed). IsFixed low high b) fact.1 ((fixed_decided low high found.0).0 fact.0)
 
 -- an integer that is read is within its ends
 pub within_is : (low high : ℤ) (o : Option ℤ) (n : ℤ) → option_and_then (within low high) o ≡ Some n → IsWithin low high n

@@ -1,9 +1,9 @@
 //! The ranges and boxes of a machine's top table.
-ghost use Rattle.std.specs.Prelude.{◌≡◌, ◌≤◌, pos, neg_ℤ, length, map, option_and_then};
+ghost use Rattle.std.specs.Prelude.{◌≡◌, ◌≤◌, ◌↔◌, IsTrue, pos, neg_ℤ, length, map, option_and_then};
 ghost use Rattle.toml.specs.View.{view};
 ghost use Rattle.toml_fields.specs.Lists.{integers_of};
 ghost use Rattle.toml_fields.specs.Results.{Gives, each_from};
-ghost use Rattle.machine_file.specs.Machine.{fixtures_data};
+ghost use Rattle.machine_file.specs.Machine.{fixtures_data, IsRange, IsFixed};
 ghost use Rattle.machine_file.specs.MachineFile.{is_span, range_of, fixed_of, is_level, is_fixed, frame_of, box_of, fixtures_of};
 
 use crate::fault::MachineFault;
@@ -35,6 +35,14 @@ fn is_span(low: i64, high: i64, from: i64, to: i64) -> bool
     ensures { result ≡ is_span low high from to }
 {
     from < to && low <= from && to <= high
+}
+
+/// Whether the range along the bed isn't empty, and its ends lie between -20,000,000 and
+/// 20,000,000 micrometres.
+pub fn is_range(range: &(i64, i64)) -> bool
+    ensures { IsTrue result ↔ IsRange range.now }
+{
+    is_span(-FARTHEST, FARTHEST, range.0, range.1)
 }
 
 /// The range of two integers along the bed.
@@ -94,6 +102,20 @@ fn is_fixed(heights: &Heights, fixed: &Fixed) -> bool
 {
     let rect = fixed.rect;
     is_level(fixed) && is_span(heights.lowest, heights.highest, rect.z0, rect.z1)
+}
+
+impl Fixed {
+    /// Whether the box meets the rules of the machine file: it has an interior, lies between the
+    /// two heights, and its other coordinates between -20,000,000 and 20,000,000 micrometres.
+    pub fn is_between(&self, low: i64, high: i64) -> bool
+        ensures { IsTrue result ↔ IsFixed low high self.now }
+    {
+        let heights = Heights {
+            lowest: low,
+            highest: high,
+        };
+        is_fixed(&heights, self)
+    }
 }
 
 /// An item of `frames`.

@@ -1,6 +1,6 @@
 //! A whole machine file, and refusals.
 
-use crate::{Fixed, MachineFault, read_machine};
+use crate::{Costs, Fixed, GaugeRule, MachineFault, are_within, is_range, is_within, read_machine};
 use brake_base::Rect;
 use std::alloc::{AllocError, Global};
 use std::test::Fail;
@@ -94,5 +94,46 @@ fn refusals(rt: HostRuntime) -> Result<(), Fail> {
     for (old, new, fault) in rows {
         assert!(rt; refusal(rt.alloc(), old, new)? == Some(fault));
     }
+    Ok(())
+}
+
+#[test]
+fn the_parts_of_a_machine_that_is_read_are_valid(rt: HostRuntime) -> Result<(), MachineFault> {
+    let machine = read_machine(rt.alloc(), MACHINE.as_bytes())?;
+    assert!(rt; is_range(&machine.bed) && machine.gauge.is_valid() && machine.cost.is_valid());
+    let upper = machine.upper.as_slice().first().expect(&rt, "an upper box");
+    assert!(rt; upper.is_between(0, 20_000_000));
+    let lower = machine.lower.as_slice().first().expect(&rt, "a lower box");
+    assert!(rt; lower.is_between(-20_000_000, 0));
+    let stage = machine.stages.as_slice().first().expect(&rt, "a stage");
+    assert!(rt; is_within(stage.at, -20_000_000, 20_000_000));
+    assert!(rt; are_within(stage.pieces.as_slice(), 1, 10_000_000));
+    Ok(())
+}
+
+#[test]
+fn changed_parts_are_not_valid(rt: HostRuntime) -> Result<(), MachineFault> {
+    let machine = read_machine(rt.alloc(), MACHINE.as_bytes())?;
+    assert!(rt; !is_range(&(0, 0)) && !is_range(&(i64::MIN, i64::MAX)));
+    let mut upper = *machine.upper.as_slice().first().expect(&rt, "an upper box");
+    assert!(rt; !upper.is_between(1, 20_000_000) && !upper.is_between(0, 299_999));
+    upper.rect.y1 = 20_000_001;
+    assert!(rt; !upper.is_between(0, 20_000_000));
+    let gauge = GaugeRule {
+        depth: 0,
+        ..machine.gauge
+    };
+    assert!(rt; !gauge.is_valid());
+    let gauge = GaugeRule {
+        far: 10_000_001,
+        ..machine.gauge
+    };
+    assert!(rt; !gauge.is_valid());
+    let cost = Costs {
+        flip: 1_000_001,
+        ..machine.cost
+    };
+    assert!(rt; !cost.is_valid());
+    assert!(rt; !are_within(&[1, 0, 2], 1, 2) && are_within(&[], 1, 0));
     Ok(())
 }

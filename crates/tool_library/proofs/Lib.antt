@@ -1,3 +1,4 @@
 pub mod Sizes
+pub mod Decided
 pub mod Collected
 pub mod Repeats

@@ -50,9 +50,13 @@ box_of d = option_and_then box_by (integers_of 4 d)
 abbrev pub boxes_of : List Data → List Rect
 boxes_of items = filter_map box_of items
 
--- the section of a length, 1 to 10,000,000 micrometres, and a count, 1 to 1000
+-- the length of a section is from 1 to 10,000,000 micrometres, and its count from 1 to 1000
+abbrev pub is_section : ℤ → ℤ → Bool
+is_section length count = (int_le (pos 1) length && int_le length (pos 10000000)) && (int_le (pos 1) count && int_le count (pos 1000))
+
+-- the section of a length and a count
 abbrev pub section_by : List ℤ → Option (ℤ × ℕ)
-section_by (length ∷ count ∷ []) = if (int_le (pos 1) length && int_le length (pos 10000000)) && (int_le (pos 1) count && int_le count (pos 1000)) then Some (length, unsigned_abs count) else None
+section_by (length ∷ count ∷ []) = if is_section length count then Some (length, unsigned_abs count) else None
 section_by _ = None
 
 -- the section of an array of two integers

@@ -8,6 +8,7 @@ mod reader;
 mod rows;
 mod tables;
 mod tools;
+mod valid;
 
 pub use fault::ToolFault;
 pub use reader::read_tools;

@@ -1,9 +1,9 @@
 //! The bodies and sections of a tool's table.
-ghost use Rattle.std.specs.Prelude.{◌≡◌, ℕ, ◌≤◌, pos, neg_ℤ, ◌≤ℤ◌, length, map, is_some, option_map, All, IsTrue, IfSome};
+ghost use Rattle.std.specs.Prelude.{◌≡◌, ◌↔◌, ℕ, ◌≤◌, pos, neg_ℤ, ◌≤ℤ◌, length, map, is_some, option_map, All, IsTrue, IfSome};
 ghost use Rattle.std.specs.List.{list_all};
 ghost use Rattle.toml.specs.View.{view, table_view};
 ghost use Rattle.tool_library.specs.Tools.{IsBox, IsSection};
-ghost use Rattle.tool_library.specs.ToolsFile.{box_of, boxes_of, is_range, is_box, section_of, sections_of, sections_at};
+ghost use Rattle.tool_library.specs.ToolsFile.{box_of, boxes_of, is_range, is_box, is_section, section_of, sections_of, sections_at};
 
 use arrayvec::ArrayVec;
 use brake_base::Rect;
@@ -61,22 +61,37 @@ fn are_boxes(boxes: &[Rect], low: i64, high: i64) -> bool
 }
 
 /// Each box of a punch of this height is in order and range.
-#[tactic(auto, using(crate::proofs::Collected::boxes_fit))]
 pub fn is_punch_body(boxes: &[Rect], height: i64) -> bool
     ensures value { result ≡ list_all (is_box (pos 0) height) boxes.now }
-    ensures fit { IsTrue result → All (IsBox (pos 0) height) boxes.now }
+    ensures exact { IsTrue result ↔ All (IsBox (pos 0) height) boxes.now }
 {
     are_boxes(boxes, 0, height)
 }
 
 /// Each box of a die of this height is in order and range.
-#[tactic(auto, using(crate::proofs::Collected::boxes_fit))]
 pub fn is_die_body(boxes: &[Rect], height: i64) -> bool
     requires { pos 1 ≤ℤ height }
     ensures value { result ≡ list_all (is_box (neg_ℤ height) (pos 0)) boxes.now }
-    ensures fit { IsTrue result → All (IsBox (neg_ℤ height) (pos 0)) boxes.now }
+    ensures exact { IsTrue result ↔ All (IsBox (neg_ℤ height) (pos 0)) boxes.now }
 {
     are_boxes(boxes, -height, 0)
+}
+
+/// A section's length is from 1 to 10,000,000 micrometres, and its count from 1 to 1000.
+fn is_section(length: i64, count: i64) -> bool
+    ensures value { result ≡ is_section length count }
+    ensures count { IsTrue result → (pos 1 ≤ℤ count × count ≤ℤ pos 1000) }
+{
+    1 <= length && length <= 10_000_000 && 1 <= count && count <= 1000
+}
+
+/// Each section's length and count are in range.
+pub fn are_in_range(sections: &[(i64, u16)]) -> bool
+    ensures { IsTrue result ↔ All IsSection sections.now }
+{
+    sections
+        .iter()
+        .all(|section| is_section(section.0, i64::from(section.1)))
 }
 
 /// The length and the count of a section.
@@ -85,7 +100,7 @@ fn section_of(value: &Value) -> Option<(i64, u16)>
     ensures fit { IfSome result IsSection }
 {
     let [length, count] = integers_of::<2>(value)?;
-    if 1 <= length && length <= 10_000_000 && 1 <= count && count <= 1000 {
+    if is_section(length, count) {
         Some((length, count as u16))
     } else {
         None

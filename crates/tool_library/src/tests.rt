@@ -72,3 +72,42 @@ fn refusals(rt: HostRuntime) {
         assert!(rt; read_tools(rt.alloc(), text.as_bytes()).err() == Some(fault));
     }
 }
+
+#[test]
+fn a_punch_that_is_read_is_valid(rt: HostRuntime) -> Result<(), ToolFault> {
+    let mut tools = read_tools(rt.alloc(), TOOLS.as_bytes())?;
+    let mut punch = tools.punches.pop().expect(&rt, "a punch");
+    assert!(rt; punch.is_valid());
+    punch.nose = punch.height + 1;
+    assert!(rt; !punch.is_valid());
+    punch.nose = punch.height;
+    assert!(rt; punch.is_valid());
+    punch.height = i64::MIN;
+    assert!(rt; !punch.is_valid());
+    punch.height = 99_999;
+    punch.nose = 0;
+    assert!(rt; !punch.is_valid());
+    Ok(())
+}
+
+#[test]
+fn a_die_that_is_read_is_valid(rt: HostRuntime) -> Result<(), ToolFault> {
+    let mut tools = read_tools(rt.alloc(), TOOLS.as_bytes())?;
+    let mut die = tools.dies.pop().expect(&rt, "a die");
+    assert!(rt; die.is_valid());
+    die.v = 16_001;
+    assert!(rt; !die.is_valid());
+    die.v = 2;
+    assert!(rt; die.is_valid());
+    die.height = i64::MIN;
+    assert!(rt; !die.is_valid());
+    die.height = 60_000;
+    die.sections.clear();
+    assert!(rt; die.is_valid());
+    die.sections.push((100_000, 0));
+    assert!(rt; !die.is_valid());
+    die.sections.clear();
+    die.name.clear();
+    assert!(rt; !die.is_valid());
+    Ok(())
+}

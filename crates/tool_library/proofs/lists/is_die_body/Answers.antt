@@ -1,13 +1,14 @@
-use Rattle.std.proofs.Common.{◌≡◌, pos, ◌-ℤ◌, neg_ℤ, sym, ◌∙◌, w64, to_z, of_z, arith}
+use Rattle.std.proofs.Common.{◌≡◌, pos, ◌-ℤ◌, neg_ℤ, w64, to_z, of_z, arith}
 use Rattle.std.specs.List.{list_all}
+use Rattle.std.proofs.lemmas.Bool.Decides.{Decides-at}
 use Rattle.std.proofs.lemmas.Int.{ints}
 use Rattle.tool_library.specs.ToolsFile.{is_box}
-use Rattle.tool_library.proofs.Collected.{boxes_fit}
+use Rattle.tool_library.proofs.Decided.{boxes_decided}
 use Rattle.tool_library.proofs.lists.is_die_body.Goals as goal
 
-pub returns-clause-fit : goal.returns-clause-fit
-returns-clause-fit c =
+pub returns-clause-exact : goal.returns-clause-exact
+returns-clause-exact c =
     let height_fits = c.ranges.height in
     let low : to_z w64 (of_z w64 (pos 0 -ℤ to_z w64 (of_z w64 c.args.height))) ≡ neg_ℤ c.args.height = omega (arith, ints) in
     let same : c.are_boxes.result ≡ list_all (is_box (neg_ℤ c.args.height) (pos 0)) c.args.boxes.now = rw low at c.are_boxes.ensures in
-    λ passes. boxes_fit (neg_ℤ c.args.height) (pos 0) c.args.boxes.now (sym same ∙ passes)
+    Decides-at _ _ same (boxes_decided (neg_ℤ c.args.height) (pos 0) c.args.boxes.now)
