@@ -4,3 +4,4 @@ pub mod Columns
 pub mod Kept
 pub mod MatesSoFar
 pub mod Picked
+pub mod Spans

@@ -8,7 +8,7 @@ map_same : (xs : List ℕ) → map (λ x. x) xs ≡ xs
 map_same [] = refl
 map_same (x ∷ xs) = ap (λ ys. x ∷ ys) (map_same xs)
 
-filter_more : (p : ℕ → Bool) (a n j : ℕ) → a + n ≡ j → filter p (range_with_len a (n + 1)) ≡ filter p (range_with_len a n) ++ cond (p j) (j ∷ []) []
+pub filter_more : (p : ℕ → Bool) (a n j : ℕ) → a + n ≡ j → filter p (range_with_len a (n + 1)) ≡ filter p (range_with_len a n) ++ cond (p j) (j ∷ []) []
 filter_more p a n j at =
     ap (filter p) (sym (map_same (range_with_len a (n + 1))))
     ∙ filter_of_map_range_with_len_more p (λ x. x) a n j at ∙ ap (λ xs. filter p xs ++ cond (p j) (j ∷ []) []) (map_same (range_with_len a n))

@@ -1,9 +1,6 @@
 -- A part with the half deduction of its bends.
-use Rattle.std.specs.Prelude.{ℕ, ℤ, pos, ◌-ℤ◌, ◌≤ℤ◌, Bool, true, false, ◌==◌, ◌&&◌, nat_le, nat_lt, length, IsOk}
-use Rattle.part_file.specs.declared.part.Joint.{Joint}
-use Rattle.part_file.specs.declared.part.Dir.{Dir}
-use Rattle.part_file.specs.declared.part.Dir.TheVariants.{Up, Down}
-use Rattle.part_file.specs.Part.{PartData, IsPart, half_thickness, along, same_side}
+use Rattle.std.specs.Prelude.{ℕ, ℤ, pos, ◌-ℤ◌, ◌≤ℤ◌, IsOk}
+use Rattle.part_file.specs.Part.{PartData, IsPart, half_thickness, along}
 use Rattle.unfolder.specs.Cores.{joint_of, core, line_start, line_end}
 use Rattle.unfolder.specs.Blank.{blank_of_part}
 use Rattle.unfolder.specs.Fold.{dot, minus}
@@ -28,19 +25,6 @@ core_length shape f = (core shape.part.faces shape.q f).y1 -ℤ (core shape.part
 abbrev pub line_length : ShapeData → ℕ → ℤ
 line_length shape b =
     dot (minus (line_end shape.part.faces shape.q b) (line_start shape.part.faces shape.q b)) (along (joint_of shape.part.faces b).side)
-
-abbrev pub same_direction : Dir → Dir → Bool
-same_direction Up Up = true
-same_direction Down Down = true
-same_direction _ _ = false
-
--- the joints have the same parent, side and direction
-abbrev pub same_joint : Joint → Joint → Bool
-same_joint a b = (b.on == a.on) && (same_side b.side a.side && same_direction b.dir a.dir)
-
--- bend c has the parent, the side and the direction of bend b
-abbrev pub is_mate : ShapeData → ℕ → ℕ → Bool
-is_mate shape b c = (nat_le 1 c && nat_lt c (length shape.part.faces)) && same_joint (joint_of shape.part.faces b) (joint_of shape.part.faces c)
 
 -- a part that meets its rules, and unfolds with this half deduction
 pub record IsShape (shape : ShapeData) : Type 0 where

@@ -45,9 +45,7 @@ impl Hinge {
             corner: corner(joint.side, line, q, half_thickness(part)),
         }
     }
-}
 
-impl Hinge {
     /// Where the child lies on its parent, folded or flat.
     pub(crate) fn child(&self, folded: bool) -> &Place
         ensures { result.now ≡ (if folded then self.now.folded else self.now.flat) }

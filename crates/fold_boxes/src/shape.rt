@@ -1,22 +1,21 @@
 //! A part with its half deduction, and what the fold keeps of it.
-ghost use Rattle.std.specs.Prelude.{◌≡◌, ℕ, ◌+◌, ◌<◌, ◌≤◌, ◌≤ℤ◌, pos, length, IsOk};
+ghost use Rattle.std.specs.Prelude.{◌≡◌, ◌+◌, ◌<◌, ◌≤◌, ◌≤ℤ◌, pos, length, IsOk};
 ghost use Rattle.brake_base.specs.Boxes.{IsBoxWithin};
-ghost use Rattle.brake_base.specs.Masks.{has};
 ghost use Rattle.part_file.specs.Part.{IsPart, part_data, half_thickness};
-ghost use Rattle.unfolder.specs.Cores.{joint_of, core};
+ghost use Rattle.unfolder.specs.Cores.{core};
 ghost use Rattle.unfolder.specs.Near.{IsRectWithin};
 ghost use Rattle.unfolder.specs.Blank.{blank_of_part};
-ghost use Rattle.fold_boxes.specs.Shapes.{core_width, core_length, line_length, is_mate, same_joint, IsShape};
+ghost use Rattle.fold_boxes.specs.Shapes.{core_width, core_length, line_length, IsShape};
 ghost use Rattle.fold_boxes.specs.Folded.{core_box};
 ghost use Rattle.fold_boxes.specs.Hinges.{IsHingeOf, AreHinges};
 
 use crate::hinge::{Hinge, half_thickness};
 use arrayvec::ArrayVec;
-use brake_base::{Box3, Mask, V3};
-use part_file::{Joint, Part};
+use brake_base::{Box3, V3};
+use part_file::Part;
 use std::marker::Model;
 use unfolder::FlatRect;
-use unfolder::cores::{cores, face_count, joint_of, parent_lines};
+use unfolder::cores::{cores, face_count, parent_lines};
 
 /// A part that unfolds with half deduction `q`, in micrometres, seen as the part and its q.
 #[derive(Drop)]
@@ -110,7 +109,7 @@ impl Shape {
     }
 
     /// The core of a face.
-    fn core(&self, face: u8) -> &FlatRect
+    pub(crate) fn core(&self, face: u8) -> &FlatRect
         requires { face < length self.now.part.faces }
         ensures value { result.now ≡ core self.now.part.faces self.now.q face }
         ensures near { IsRectWithin 21000000 result.now }
@@ -190,28 +189,4 @@ pub fn line_length(shape: &Shape, bend: u8) -> i64
     ensures { result ≡ line_length shape.now bend }
 {
     core(shape, bend).0
-}
-
-/// The bends with this bend's parent, side and direction, itself included.
-pub fn mates(shape: &Shape, bend: u8) -> Mask
-    requires some { 0 < bend }
-    requires bend { bend < length shape.now.part.faces }
-    ensures { (other : ℕ) → has result other ≡ is_mate shape.now bend other }
-{
-    let part = shape.part();
-    let ours = joint_of(part, bend);
-    let mut mates = Mask::empty();
-    for other in 1..shape.faces() {
-        if is_mate(&ours, &joint_of(part, other)) {
-            mates = mates.with(other);
-        }
-    }
-    mates
-}
-
-/// Whether the joints have the same parent, side and direction.
-fn is_mate(ours: &Joint, theirs: &Joint) -> bool
-    ensures { result ≡ same_joint ours.now theirs.now }
-{
-    theirs.on == ours.on && theirs.side == ours.side && theirs.dir == ours.dir
 }

@@ -2,10 +2,10 @@ use Rattle.std.proofs.Common.{◌≡◌, ◌∙◌, ◌<◌, ◌||◌, ◌==◌,
 use Rattle.brake_base.specs.Masks.{has}
 use Rattle.part_file.specs.Part.{PartData, FaceData}
 use Rattle.unfolder.specs.Cores.{joint_of}
-use Rattle.fold_boxes.specs.Shapes.{is_mate, same_joint}
+use Rattle.fold_boxes.specs.Groups.{is_mate, same_joint}
 use Rattle.fold_boxes.proofs.MatesSoFar.{one_more, none_more, as_joints}
-use Rattle.fold_boxes.proofs.shape.mates.Goals.{then-is_mate, else-is_mate}
-use Rattle.fold_boxes.proofs.shape.mates.Goals as goal
+use Rattle.fold_boxes.proofs.groups.mates.Goals.{then-is_mate, else-is_mate}
+use Rattle.fold_boxes.proofs.groups.mates.Goals as goal
 
 pub loop-other-preserved : goal.loop-other-preserved
 loop-other-preserved c =

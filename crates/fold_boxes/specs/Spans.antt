@@ -1,0 +1,21 @@
+-- What the code of the span computes on its way.
+use Rattle.std.specs.Prelude.{ℕ, ℤ, List, [], ◌∷◌, map, fold, Option, Some, None}
+use Rattle.std.specs.Int.{int_min, int_max}
+use Rattle.unfolder.specs.Near.{IsWithin}
+use Rattle.fold_boxes.specs.Shapes.{ShapeData}
+use Rattle.fold_boxes.specs.Groups.{line_from, line_to}
+
+-- the least range that holds both
+abbrev pub joined : Option (ℤ × ℤ) → ℤ × ℤ → ℤ × ℤ
+joined None second = second
+joined (Some first) second = (int_min first.0 second.0, int_max first.1 second.1)
+
+-- the range that the lines of these bends cover, where there are any
+abbrev pub covered : ShapeData → List ℕ → Option (ℤ × ℤ)
+covered shape [] = None
+covered shape (b ∷ bs) = Some (fold int_min (line_from shape b) (map (line_from shape) bs), fold int_max (line_to shape b) (map (line_to shape) bs))
+
+-- both ends lie within 100,000,000 micrometres of 0
+pub record IsNearRange (range : ℤ × ℤ) : Type 0 where
+  pub from : IsWithin 100000000 range.0
+  pub to : IsWithin 100000000 range.1
