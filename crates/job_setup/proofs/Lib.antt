@@ -1,4 +1,5 @@
 pub mod Lists
-pub mod Valid
+pub mod Validity
 pub mod Steps
 pub mod Near
+pub mod StageAt

@@ -62,3 +62,7 @@ found_data v g test (Some a) xs is = sym (find-map test g xs ∙ ap (option_map 
 -- what holds of all data holds of those of the item at an index
 pub all_at : {A D : Type 0} (P : D → Type 0) (g : A → D) (xs : List A) (i : ℕ) (x : A) → All P (map g xs) → i < length xs → x ≡ get_or xs i x → P (g x)
 all_at P g xs i x all within here = subst P (get_or-map g xs i x (g x) within ∙ ap g (sym here)) (all i (g x) (rw length-map within))
+
+-- what holds of all data holds of the data of each item
+pub all_of_map : {A D : Type 0} (P : D → Type 0) (g : A → D) (xs : List A) → All P (map g xs) → All (λ x. P (g x)) xs
+all_of_map P g xs all k d within = subst P (get_or-map g xs k d (g d) within) (all k (g d) (rw length-map within))

@@ -67,11 +67,17 @@ job_in part tools machine = do
   q ← refusing Allow (found_in tools.allow part)
   job_with part q tools machine
 
--- the blank of a part by the deductions of a shop's tools, or the first refusal
-unfoldable pub blank_in : PartData → ToolsData → Result BlankData JobFault
+-- a part with its blank
+pub record FlatPart : Type 0 where
+  pub part : PartData
+  pub blank : BlankData
+
+-- the part with its blank by the deductions of a shop's tools, or the first refusal
+unfoldable pub blank_in : PartData → ToolsData → Result FlatPart JobFault
 blank_in part tools = do
   q ← refusing Allow (found_in tools.allow part)
-  refusing Unfold (blank_of_part part q)
+  blank ← refusing Unfold (blank_of_part part q)
+  Ok (record { part = part; blank = blank })
 
 -- why files give no job
 pub data FileFault : Type 0 where
@@ -88,8 +94,8 @@ job_of part_bytes tools_bytes machine_bytes = do
   machine ← refusing machine_refused (machine_of machine_bytes)
   refusing job_refused (job_in part tools machine)
 
--- the blank of two files, or the first refusal: of the part, of the tools, of the job
-unfoldable pub blank_of : List ℕ → List ℕ → Result BlankData FileFault
+-- the part of two files with its blank, or the first refusal: of the part, of the tools, of the job
+unfoldable pub blank_of : List ℕ → List ℕ → Result FlatPart FileFault
 blank_of part_bytes tools_bytes = do
   part ← refusing part_refused (part_of part_bytes)
   tools ← refusing tools_refused (tools_of tools_bytes)

@@ -5,5 +5,8 @@ pub mod Loads
 pub mod Stock
 pub mod Places
 pub mod ValidJob
+pub mod SetupRules
 pub mod JobOf
+pub mod StrokeGroup
+pub mod Reasons
 pub mod Near

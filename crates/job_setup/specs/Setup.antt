@@ -2,6 +2,7 @@
 use Rattle.std.specs.Prelude.{ℕ, ℤ, List, map, Bool}
 use Rattle.part_file.specs.Part.{PartData}
 use Rattle.tool_library.specs.Tools.{PunchData, DieData, punch_data, die_data}
+use Rattle.fold_boxes.specs.Shapes.{ShapeData}
 use Rattle.machine_file.specs.declared.machine.Fixed.{Fixed}
 use Rattle.machine_file.specs.declared.machine.GaugeRule.{GaugeRule}
 use Rattle.machine_file.specs.declared.machine.Costs.{Costs}
@@ -36,6 +37,10 @@ pub record JobData : Type 0 where
   pub part : PartData
   pub q : ℤ
   pub setup : SetupData
+
+-- the part of a job, with its half deduction
+abbrev pub shape_of : JobData → ShapeData
+shape_of job = record { part = job.part; q = job.q }
 
 abbrev pub stage_data : Stage → StageData
 stage_data s = record { punch = punch_data s.punch; die = die_data s.die; x0 = s.x0; x1 = s.x1; pieces = s.pieces.items; load = s.load; limit = s.limit }

@@ -1,5 +1,5 @@
 -- What makes a job valid.
-use Rattle.std.specs.Prelude.{◌≡◌, ℕ, ◌<◌, ◌≤◌, ℤ, pos, neg_ℤ, ◌+ℤ◌, ◌≤ℤ◌, List, [], length, All, Ok, IsOk}
+use Rattle.std.specs.Prelude.{◌≡◌, ℕ, ◌<◌, ◌≤◌, ℤ, pos, neg_ℤ, ◌+ℤ◌, ◌≤ℤ◌, List, [], length, All, Option, Some, None, Ok, IsOk}
 use Rattle.part_file.specs.Part.{PartData, IsPart, half_thickness}
 use Rattle.unfolder.specs.Blank.{blank_of_part}
 use Rattle.tool_library.specs.Tools.{IsPunch, IsDie}
@@ -48,3 +48,8 @@ pub record IsJob (j : JobData) : Type 0 where
   pub q_high : j.q ≤ℤ pos 100000
   pub unfolds : IsOk (blank_of_part j.part j.q)
   pub setup : IsSetup j.setup
+
+-- what values give: a job, which they are, exactly where they are a valid one
+abbrev pub IsJobFrom : Option JobData → JobData → Type 0
+IsJobFrom (Some job) values = (job ≡ values) × IsJob values
+IsJobFrom None values = IsJob values → ⊥

@@ -1,10 +1,11 @@
 //! A job, which is valid by its type.
 ghost use Rattle.std.specs.Prelude.{◌≡◌, ◌+◌, ◌≤◌, length};
 ghost use Rattle.part_file.specs.Part.{part_data};
-ghost use Rattle.job_setup.specs.Setup.{setup_data};
+ghost use Rattle.job_setup.specs.Setup.{setup_data, shape_of};
 ghost use Rattle.job_setup.specs.ValidJob.{IsJob};
 
 use crate::setup::Setup;
+use fold_boxes::Shape;
 use part_file::Part;
 use std::marker::Model;
 
@@ -13,30 +14,39 @@ use std::marker::Model;
 /// equally high, apart, on the bed, and at least one.
 #[derive(Drop)]
 pub struct Job {
-    pub(crate) part: Part,
-    pub(crate) q: i64,
-    pub(crate) setup: Setup,
+    shape: Shape,
+    setup: Setup,
 }
 
 impl Model for Job {
-    ghost use Rattle.part_file.specs.Part.{part_data};
     ghost use Rattle.job_setup.specs.Setup.{JobData, setup_data};
     ghost use Rattle.job_setup.specs.ValidJob.{IsJob};
 
     ghost Value = { JobData };
 
-    ghost view = { λ j. record { part = part_data j.part; q = j.q; setup = setup_data j.setup } };
+    ghost view = { λ j. record { part = j.shape.part; q = j.shape.q; setup = setup_data j.setup } };
 
-    ghost invariant = { λ j. IsJob (record { part = part_data j.part; q = j.q; setup = setup_data j.setup }) };
+    ghost invariant = { λ j. IsJob (record { part = j.shape.part; q = j.shape.q; setup = setup_data j.setup }) };
 }
 
 impl Job {
+    /// The job of a part, its half deduction and a setup that are known to be valid.
+    pub(crate) fn new(part: &Part, q: i64, setup: Setup) -> Job
+        requires { IsJob (record { part = part_data part.now; q = q; setup = setup_data setup }) }
+        ensures { result ≡ record { part = part_data part.now; q = q; setup = setup_data setup } }
+    {
+        Job {
+            shape: Shape::new(part, q),
+            setup,
+        }
+    }
+
     /// The part.
     pub fn part(&self) -> &Part
         ensures value { part_data result.now ≡ self.now.part }
         ensures valid { IsJob self.now }
     {
-        &self.part
+        self.shape.part()
     }
 
     /// Half of what the part's outside sizes lose at each bend, in micrometres.
@@ -44,7 +54,15 @@ impl Job {
         ensures value { result ≡ self.now.q }
         ensures valid { IsJob self.now }
     {
-        self.q
+        self.shape.q()
+    }
+
+    /// The part with its half deduction.
+    pub fn shape(&self) -> &Shape
+        ensures value { result.now ≡ shape_of self.now }
+        ensures valid { IsJob self.now }
+    {
+        &self.shape
     }
 
     /// The setup.
@@ -60,7 +78,7 @@ impl Job {
         ensures value { result + 1 ≡ length self.now.part.faces }
         ensures few { result ≤ 12 }
     {
-        self.part.faces.len() as u8 - 1
+        self.shape.faces() - 1
     }
 
     /// The number of stages.

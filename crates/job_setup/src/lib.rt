@@ -9,11 +9,15 @@ mod places;
 mod setup;
 mod stages;
 mod stock;
+mod strokes;
+mod valid;
 
 pub use fault::JobFault;
 pub use job::Job;
 pub use making::make_job;
 pub use setup::{Setup, Stage};
+pub use strokes::{group, meets_at};
+pub use valid::job_from;
 
 #[cfg(test)]
 mod tests;

@@ -77,15 +77,11 @@ fn setup_of(machine: &Machine, stages: ArrayVec<Stage, 6>) -> Setup
 }
 
 /// The job whose checks passed.
-fn checked(part: Part, q: i64, machine: &Machine, stages: ArrayVec<Stage, 6>) -> Job
-    requires { IsJob (record { part = part_data part; q = q; setup = setup_of (machine_data machine.now) (map stage_data stages.items) }) }
-    ensures { result ≡ record { part = part_data part; q = q; setup = setup_of (machine_data machine.now) (map stage_data stages.items) } }
+fn checked(part: &Part, q: i64, machine: &Machine, stages: ArrayVec<Stage, 6>) -> Job
+    requires { IsJob (record { part = part_data part.now; q = q; setup = setup_of (machine_data machine.now) (map stage_data stages.items) }) }
+    ensures { result ≡ record { part = part_data part.now; q = q; setup = setup_of (machine_data machine.now) (map stage_data stages.items) } }
 {
-    Job {
-        part,
-        q,
-        setup: setup_of(machine, stages),
-    }
+    Job::new(part, q, setup_of(machine, stages))
 }
 
 /// Refuses stages that don't fit the bed, the stock or the load table.
@@ -106,17 +102,17 @@ fn check_stages(
 }
 
 /// The job of a part that has this half deduction.
-fn job_with(part: Part, q: i64, tools: &Tools, machine: &Machine) -> Result<Job, JobFault>
-    requires part { IsPart (part_data part) }
-    requires q_low { half_thickness (part_data part) ≤ℤ q }
+fn job_with(part: &Part, q: i64, tools: &Tools, machine: &Machine) -> Result<Job, JobFault>
+    requires part { IsPart (part_data part.now) }
+    requires q_low { half_thickness (part_data part.now) ≤ℤ q }
     requires q_high { q ≤ℤ pos 100000 }
     requires tools { IsTools (tools_data tools.now) }
     requires machine { IsMachine (machine_data machine.now) }
-    ensures { result ≡ job_with (part_data part) q (tools_data tools.now) (machine_data machine.now) }
+    ensures { result ≡ job_with (part_data part.now) q (tools_data tools.now) (machine_data machine.now) }
 {
-    check_blank(&part, q)?;
-    let stages = stages_of(&part, tools, machine.stages.as_slice())?;
-    check_stages(&part, tools, machine, stages.as_slice())?;
+    check_blank(part, q)?;
+    let stages = stages_of(part, tools, machine.stages.as_slice())?;
+    check_stages(part, tools, machine, stages.as_slice())?;
     Ok(checked(part, q, machine, stages))
 }
 
@@ -130,5 +126,5 @@ pub fn make_job(part: Part, tools: &Tools, machine: &Machine) -> Result<Job, Job
     ensures { result ≡ job_in (part_data part) (tools_data tools.now) (machine_data machine.now) }
 {
     let q = half_deduction_of(&part, tools)?;
-    job_with(part, q, tools, machine)
+    job_with(&part, q, tools, machine)
 }

@@ -88,7 +88,7 @@ fn copied(pieces: &ArrayVec<i64, 32>) -> ArrayVec<i64, 32>
 }
 
 /// How long the pieces are together.
-fn total(pieces: &[i64]) -> i64
+pub(crate) fn total(pieces: &[i64]) -> i64
     requires pieces { All (IsWithin (pos 1) (pos 10000000)) pieces.now }
     requires few { length pieces.now ≤ 32 }
     ensures value { result ≡ total pieces.now }

@@ -1,6 +1,7 @@
 //! Jobs of three files, and their refusals.
 
-use crate::{JobFault, make_job};
+use crate::{JobFault, group, make_job, meets_at};
+use brake_base::Mask;
 use machine_file::read_machine;
 use part_file::read_part;
 use std::alloc::Global;
@@ -20,6 +21,32 @@ on = \"base\"
 side = \"N\"
 at = 0
 width = 100000
+length = 30000
+dir = \"up\"
+";
+
+/// Two flanges on one side of a face.
+const TWO_FLANGES: &str = "material = \"S235\"
+thickness = 2000
+radius = 2000
+[[face]]
+name = \"base\"
+width = 100000
+length = 60000
+[[face]]
+name = \"left\"
+on = \"base\"
+side = \"N\"
+at = 0
+width = 45000
+length = 30000
+dir = \"up\"
+[[face]]
+name = \"right\"
+on = \"base\"
+side = \"N\"
+at = 55000
+width = 45000
 length = 30000
 dir = \"up\"
 ";
@@ -121,5 +148,50 @@ fn refusals(rt: HostRuntime) -> Result<(), Fail> {
     assert!(rt; refusal(alloc, "", &short)? == Some(JobFault::StockShort { stage: 0 }));
     assert!(rt; refusal(alloc, OTHER_LOAD, STAGE)? == Some(JobFault::NoLoad { stage: 0 }));
     assert!(rt; refusal(alloc, &twice, STAGE)? == Some(JobFault::TwoLoads { stage: 0 }));
+    Ok(())
+}
+
+/// The group of bend 1 of the unfolded part, and whether stage 0 meets it; None where there is no
+/// job, no bend or no stage.
+fn first_stroke(alloc: Global, part: &str, machine: &str) -> Result<Option<(Mask, bool)>, Fail> {
+    let part = read_part(alloc, part.as_bytes())?;
+    let tools = read_tools(alloc, TOOLS.as_bytes())?;
+    let machine = read_machine(alloc, machine.as_bytes())?;
+    let Ok(job) = make_job(part, &tools, &machine) else {
+        return Ok(None);
+    };
+    if job.bends() == 0 || job.stages() == 0 {
+        return Ok(None);
+    }
+    Ok(Some((
+        group(&job, Mask::empty(), 1),
+        meets_at(&job, Mask::empty(), 1, 0),
+    )))
+}
+
+#[test]
+fn groups(rt: HostRuntime) -> Result<(), Fail> {
+    let alloc = rt.alloc();
+    let alone = format!(in alloc; "{MACHINE}{STAGE}")?;
+    let gangs = format!(in alloc; "gang = 1\n{MACHINE}{STAGE}")?;
+    let short = gangs.replacen(alloc, "[100000]", "[70000]", 1)?;
+    assert!(rt; first_stroke(alloc, TWO_FLANGES, &alone)? == Some((Mask(1), true)));
+    assert!(rt; first_stroke(alloc, TWO_FLANGES, &gangs)? == Some((Mask(3), true)));
+    assert!(rt; first_stroke(alloc, TWO_FLANGES, &short)? == Some((Mask(3), false)));
+    Ok(())
+}
+
+#[test]
+fn stages_that_meet(rt: HostRuntime) -> Result<(), Fail> {
+    let alloc = rt.alloc();
+    let whole = format!(in alloc; "{MACHINE}{STAGE}")?;
+    let long_enough = whole.replacen(alloc, "[100000]", "[90000]", 1)?;
+    let too_short = whole.replacen(alloc, "[100000]", "[60000]", 1)?;
+    let least_leg = PART.replacen(alloc, "30000", "12919", 1)?;
+    let shorter_leg = PART.replacen(alloc, "30000", "12918", 1)?;
+    assert!(rt; first_stroke(alloc, PART, &long_enough)? == Some((Mask(1), true)));
+    assert!(rt; first_stroke(alloc, PART, &too_short)? == Some((Mask(1), false)));
+    assert!(rt; first_stroke(alloc, &least_leg, &whole)? == Some((Mask(1), true)));
+    assert!(rt; first_stroke(alloc, &shorter_leg, &whole)? == Some((Mask(1), false)));
     Ok(())
 }

@@ -15,7 +15,7 @@ use Rattle.job_setup.specs.Stages.{stage_text_data, stage_of}
 use Rattle.job_setup.specs.Places.{places_fit}
 use Rattle.job_setup.specs.JobOf.{unfolds, stages_fit}
 use Rattle.job_setup.proofs.Steps.{stops_at_blank, stops_at_stages, stops_at_fit, gives_job}
-use Rattle.job_setup.proofs.Valid.{stages_are, job_is}
+use Rattle.job_setup.proofs.Validity.{stages_are, job_is}
 use Rattle.job_setup.proofs.making.job_with.Goals as goal
 
 pub stages_of-requires-clause-texts : goal.stages_of-requires-clause-texts
@@ -24,7 +24,7 @@ stages_of-requires-clause-texts c = subst (λ (ts : List StageText). All IsStage
 pub returns-in_err-check_blank : goal.returns-in_err-check_blank
 returns-in_err-check_blank c =
     let q_fits = c.ranges.q in
-    let part = part_data c.args.part in
+    let part = part_data c.args.part.now in
     let blank : unfolds part c.args.q ≡ Err c.in_err-check_blank.field-0.0 = simp to_z-of_z at c.in_err-check_blank.ensures.value in
     let answer = err_from_is_err_and c.from_residual.result c.from_residual.ensures.1 in
     answer.1 ∙ ap Err answer.2 ∙ sym (stops_at_blank part c.args.q (tools_data c.args.tools.now) (machine_data c.args.machine.now) c.in_err-check_blank.field-0.0 blank)
@@ -32,7 +32,7 @@ returns-in_err-check_blank c =
 pub returns-in_err-stages : goal.returns-in_err-stages
 returns-in_err-stages c =
     let q_fits = c.ranges.q in
-    let part = part_data c.args.part in
+    let part = part_data c.args.part.now in
     let tools = tools_data c.args.tools.now in
     let blank : unfolds part c.args.q ≡ Ok tt = simp to_z-of_z at c.in_ok-check_blank.ensures.value in
     let texts = ap (λ (ts : List StageText). each_from (stage_of part tools) 0 (map stage_text_data ts)) c.as_slice.ensures.value in
@@ -42,7 +42,7 @@ returns-in_err-stages c =
 pub returns-in_err-check_stages : goal.returns-in_err-check_stages
 returns-in_err-check_stages c =
     let q_fits = c.ranges.q in
-    let part = part_data c.args.part in
+    let part = part_data c.args.part.now in
     let tools = tools_data c.args.tools.now in
     let machine = machine_data c.args.machine.now in
     let blank : unfolds part c.args.q ≡ Ok tt = simp to_z-of_z at c.in_ok-check_blank.ensures.value in
@@ -54,7 +54,7 @@ returns-in_err-check_stages c =
 pub checked-requires : goal.checked-requires
 checked-requires c =
     let q_fits = c.ranges.q in
-    let part = part_data c.args.part in
+    let part = part_data c.args.part.now in
     let tools = tools_data c.args.tools.now in
     let machine = machine_data c.args.machine.now in
     let unfolds_fit : IsOk (blank_of_part part c.args.q) = simp to_z-of_z at c.in_ok-check_blank.ensures.fit in
@@ -67,7 +67,7 @@ checked-requires c =
 pub returns : goal.returns
 returns c =
     let q_fits = c.ranges.q in
-    let part = part_data c.args.part in
+    let part = part_data c.args.part.now in
     let tools = tools_data c.args.tools.now in
     let machine = machine_data c.args.machine.now in
     let blank : unfolds part c.args.q ≡ Ok tt = simp to_z-of_z at c.in_ok-check_blank.ensures.value in

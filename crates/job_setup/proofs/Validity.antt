@@ -1,22 +1,28 @@
 -- The stages that the definition gives, and the jobs whose checks passed, are valid.
-use Rattle.std.proofs.Common.{◌≡◌, ℕ, suc, ◌+◌, ◌<◌, ℤ, pos, ◌≤ℤ◌, Bool, true, false, List, [], ◌∷◌, length, Option, Some, None, Result, Ok, Err, ok_or, if◌then◌else◌, refl, sym, subst, arith}
+use Rattle.std.proofs.Common.{◌≡◌, ℕ, suc, ◌+◌, ◌<◌, ℤ, pos, ◌≤ℤ◌, Bool, true, false, List, [], ◌∷◌, length, Option, Some, None, Result, Ok, Err, ok_or, if◌then◌else◌, refl, sym, ◌∙◌, ap, subst, arith}
 use Rattle.std.specs.Prelude.{◌≤◌, All, find, bytes_eq, IsOk}
 use Rattle.std.specs.Int.{int_min}
 use Rattle.std.specs.Ordering.{int_eq}
+use Rattle.std.specs.Result.{is_ok}
+use Rattle.std.proofs.lemmas.Bool.{false≢true}
 use Rattle.std.proofs.lemmas.Int.{ints, clamps}
 use Rattle.std.proofs.lemmas.List.Elements.{All-nil, All-cons}
 use Rattle.toml_fields.specs.Results.{◌>>=◌, each_from}
 use Rattle.toml_fields.proofs.Bind.{bind_ok, ok_or_ok, ok_same}
 use Rattle.part_file.specs.Part.{PartData, IsPart, half_thickness}
-use Rattle.unfolder.specs.Blank.{blank_of_part}
+use Rattle.unfolder.specs.declared.blank.Blank.{Blank}
+use Rattle.unfolder.specs.declared.blank.UnfoldFault.{UnfoldFault}
+use Rattle.unfolder.specs.Blank.{BlankData, Gives, blank_of_part}
 use Rattle.tool_library.specs.Tools.{PunchData, DieData, LoadData, ToolsData, IsPunch, IsDie, IsLoad, IsTools}
 use Rattle.machine_file.specs.Machine.{StageTextData, MachineData, IsWithin, IsStageText, IsMachine}
 use Rattle.job_setup.specs.declared.fault.JobFault.{JobFault}
 use Rattle.job_setup.specs.declared.fault.JobFault.TheVariants.{UnknownTool}
-use Rattle.job_setup.specs.Setup.{StageData}
+use Rattle.fold_boxes.specs.Shapes.{IsShape}
+use Rattle.job_setup.specs.Setup.{StageData, SetupData, JobData}
 use Rattle.job_setup.specs.Loads.{is_load_for, load_of, stage_load}
 use Rattle.job_setup.specs.Stages.{punch_named, die_named, punch_shape, die_shape, least_limit, stage_with, stage_of}
-use Rattle.job_setup.specs.ValidJob.{IsStage, IsJob}
+use Rattle.job_setup.specs.ValidJob.{IsStage, IsSetup, IsJob}
+use Rattle.job_setup.specs.SetupRules.{HasFixtures, HasRules, HasStages}
 use Rattle.job_setup.specs.Places.{places_fit}
 use Rattle.job_setup.specs.JobOf.{setup_of}
 use Rattle.job_setup.proofs.Lists.{found_has}
@@ -136,3 +142,37 @@ job_is part q machine stages part_fit q_low q_high unfolds fit stages_fit few pl
     force = fit.force;
   };
 }
+
+-- a setup from its parts
+pub setup_of_parts : (s : SetupData) → HasFixtures s → HasRules s → HasStages s → IsSetup s
+setup_of_parts s fixtures rules stages = record {
+  bed = rules.bed;
+  frames = fixtures.frames;
+  few_frames = fixtures.few_frames;
+  upper = fixtures.upper;
+  few_upper = fixtures.few_upper;
+  lower = fixtures.lower;
+  few_lower = fixtures.few_lower;
+  uncovered = rules.uncovered;
+  gauge = rules.gauge;
+  cost = rules.cost;
+  stages = stages.stages;
+  few_stages = stages.few_stages;
+  places = stages.places;
+  force = rules.force;
+}
+
+pub stages_of_setup : (s : SetupData) → IsSetup s → HasStages s
+stages_of_setup s fit = record { stages = fit.stages; few_stages = fit.few_stages; places = fit.places }
+
+-- a shape and a setup make a job
+pub job_of_parts : (part : PartData) (q : ℤ) (setup : SetupData) → IsShape (record { part = part; q = q }) → IsSetup setup → IsJob (record { part = part; q = q; setup = setup })
+job_of_parts part q setup shape fit = record { part = shape.part; q_low = shape.q_low; q_high = shape.q_high; unfolds = shape.unfolds; setup = fit }
+
+pub shape_of_job : (job : JobData) → IsJob job → IsShape (record { part = job.part; q = job.q })
+shape_of_job job fit = record { part = fit.part; q_low = fit.q_low; q_high = fit.q_high; unfolds = fit.unfolds }
+
+-- a part unfolds where its blank is given
+pub unfolds_where : (r : Result Blank UnfoldFault) (defined : Result BlankData UnfoldFault) (ok : Bool) → Gives r defined → ok ≡ is_ok r → (ok ≡ true → IsOk defined) × (IsOk defined → ok ≡ true)
+unfolds_where (Ok blank) defined ok given is = (λ _. ap is_ok given, λ _. is)
+unfolds_where (Err fault) defined ok given is = (λ t. absurd (false≢true (sym is ∙ t)), λ fit. absurd (false≢true (sym (ap is_ok given) ∙ fit)))
