@@ -1,0 +1,9 @@
+pub mod Sides
+pub mod Rectangles
+pub mod Flanges
+pub mod Laid
+pub mod Unfolding
+pub mod Shapes
+pub mod Setups
+pub mod Jobs
+pub mod Drawn

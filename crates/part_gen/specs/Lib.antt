@@ -1,0 +1,4 @@
+pub mod Draws
+pub mod CommonSetup
+pub mod Generator
+pub mod Steps
