@@ -1,3 +1,3 @@
 pub mod Texts
-pub mod BlankRuns
+pub mod Fetches
 pub mod Ends

@@ -1,5 +1,7 @@
 pub mod Words
-pub mod BlankOf
+pub mod Refusals
+pub mod BlankSheet
 pub mod RunText
 pub mod Stops
+pub mod Fetching
 pub mod Run

@@ -1,17 +1,17 @@
 -- What a run answers.
-use Rattle.std.specs.Prelude.{◌≡◌, ◌⊎◌, ℕ, ◌<◌, ◌≤◌, List, [], ◌∷◌, length, Any, Option, Some, None, IfSome, option_map, Result, Ok, Err, nat_lt, if◌then◌else◌}
+use Rattle.std.specs.Prelude.{◌≡◌, ◌⊎◌, ℕ, ◌<◌, ◌≤◌, List, [], ◌∷◌, Any, Option, Some, None, IfSome, option_map, Result, Ok, Err}
 use Rattle.std.specs.List.{slice_index_or}
 use Rattle.std.specs.Io.KnownBytes.{Appends}
-use Rattle.brake_io.specs.Rose.{Rose}
-use Rattle.brake_io.specs.Meanings.{Names, Holds, IsLonger, AppendsPart}
+use Rattle.brake_io.specs.Meanings.{Names, AppendsPart}
+use Rattle.toml_fields.specs.Results.{◌>>=◌}
 use Rattle.brake_cli.specs.declared.words.Command.{Command}
 use Rattle.brake_cli.specs.declared.words.Command.TheVariants.{Blank}
-use Rattle.brake_cli.specs.declared.refusal.Refusal.{Refusal}
-use Rattle.brake_cli.specs.declared.refusal.Refusal.TheVariants.{Long}
 use Rattle.brake_cli.specs.declared.status.Status.{Status}
 use Rattle.brake_cli.specs.declared.status.Status.TheVariants.{Done, Usage, Refused, Fault, NoMemory}
 use Rattle.brake_cli.specs.Words.{command_of}
-use Rattle.brake_cli.specs.BlankOf.{blank_sheet_of}
+use Rattle.brake_cli.specs.Refusals.{RefusalData}
+use Rattle.brake_cli.specs.Fetching.{NamedFile, names_of, word_at, IsFetched, fetched_over}
+use Rattle.brake_cli.specs.BlankSheet.{blank_sheet_of}
 use Rattle.brake_cli.specs.RunText.{usage_text, refusal_line}
 
 -- how a run ends and the whole text that it puts
@@ -24,73 +24,67 @@ abbrev pub usage : Answer
 usage = record { status = Usage; text = usage_text }
 
 -- the answer that puts the sheets, or the line of the first refusal
-abbrev pub answer_of : Result (List ℕ) Refusal → Answer
+abbrev pub answer_of : Result (List ℕ) RefusalData → Answer
 answer_of (Ok sheets) = record { status = Done; text = sheets }
 answer_of (Err refusal) = record { status = Refused; text = refusal_line refusal }
 
--- the greatest length of an input file
+-- the greatest length of an input file, in bytes
 abbrev pub input_limit : ℕ
 input_limit = 1048576
 
--- where the content is told, the bytes are held under the name; they are no longer than an input file may be
-pub record IsInput (held : Option Names) (name bytes : List ℕ) : Type 0 where
-  pub holds : Holds held name bytes
-  pub within : length bytes ≤ input_limit
+-- an input file by the number of its file word and its name
+abbrev pub input_file : ℕ → List ℕ → NamedFile
+input_file number name = record { number = number; name = name; limit = input_limit }
 
--- The file under the name is longer than an input file may be: where the content is told, that shows; the shelf's
--- count of such files rose.
-pub record IsTooLong (held : Option Names) (longs longs' : ℕ) (name : List ℕ) : Type 0 where
-  pub longer : IsLonger held name input_limit
-  pub counted : Rose longs longs'
+-- the part's file and the tools file of `blank`, by the places of their words
+abbrev pub blank_files : List (List ℕ) → ℕ → ℕ → List NamedFile
+blank_files words part tools = input_file 1 (word_at words part) ∷ input_file 2 (word_at words tools) ∷ []
 
--- What the part's file and the tools file under these names come to. They are fetched in this order, and then read.
-pub data BlankRun (held : Option Names) (longs longs' : ℕ) (part tools : List ℕ) (outcome : Result (List ℕ) Refusal) : Type 0 where
-  part_too_long : IsTooLong held longs longs' part → outcome ≡ Err (Long 1) → BlankRun held longs longs' part tools outcome
-  tools_too_long : (part_bytes : List ℕ) → IsInput held part part_bytes → IsTooLong held longs longs' tools → outcome ≡ Err (Long 2) → BlankRun held longs longs' part tools outcome
-  both_fetched : (part_bytes tools_bytes : List ℕ) → IsInput held part part_bytes → IsInput held tools tools_bytes → longs' ≡ longs → outcome ≡ blank_sheet_of part_bytes tools_bytes → BlankRun held longs longs' part tools outcome
+-- the files that a command fetches, in order
+abbrev pub files_for : List (List ℕ) → Option Command → List NamedFile
+files_for words (Some (Blank part tools)) = blank_files words part tools
+files_for words _ = []
 
--- the word at a place
-abbrev pub word_at : List (List ℕ) → ℕ → List ℕ
-word_at words place = slice_index_or words place []
-
--- the names of the files that a command fetches, in order
+-- their names
 abbrev pub names_for : List (List ℕ) → Option Command → List (List ℕ)
-names_for words (Some (Blank part tools)) = word_at words part ∷ word_at words tools ∷ []
-names_for words _ = []
+names_for words command = names_of (files_for words command)
 
 abbrev pub fetched_names : List (List ℕ) → List (List ℕ)
 fetched_names words = names_for words (command_of words)
 
+-- the content at a place
+abbrev pub content_at : List (List ℕ) → ℕ → List ℕ
+content_at contents place = slice_index_or contents place []
+
+-- the blank sheet of the part's file and the tools file, in this order
+abbrev pub blank_sheet_from : List (List ℕ) → Result (List ℕ) RefusalData
+blank_sheet_from contents = blank_sheet_of (content_at contents 0) (content_at contents 1)
+
+-- the answer of a command to the contents of its files, in order
+abbrev pub answer_to : Option Command → List (List ℕ) → Answer
+answer_to (Some (Blank part tools)) contents = answer_of (blank_sheet_from contents)
+answer_to _ contents = usage
+
+-- the answer of a command once its files are fetched, or one was too long
+abbrev pub answer_after : Option Command → Result (List (List ℕ)) RefusalData → Answer
+answer_after command (Ok contents) = answer_to command contents
+answer_after command (Err refusal) = answer_of (Err refusal)
+
 -- The answer to a command over a shelf: its content, where it tells that, and its count of files that were too long,
 -- before and after.
 abbrev pub IsAnswerFor : Option Names → ℕ → ℕ → List (List ℕ) → Option Command → Answer → Type 0
-IsAnswerFor held longs longs' words (Some (Blank part tools)) answer = (outcome : Result (List ℕ) Refusal) × BlankRun held longs longs' (word_at words part) (word_at words tools) outcome × (answer ≡ answer_of outcome)
-IsAnswerFor held longs longs' words _ answer = (longs' ≡ longs) × (answer ≡ usage)
+IsAnswerFor held longs longs' words command answer = (fetched : Result (List (List ℕ)) RefusalData) × IsFetched held longs longs' (files_for words command) fetched × (answer ≡ answer_after command fetched)
 
 abbrev pub IsAnswer : Option Names → ℕ → ℕ → List (List ℕ) → Answer → Type 0
 IsAnswer held longs longs' words answer = IsAnswerFor held longs longs' words (command_of words) answer
 
--- what fetching the input file of a place comes to over these names, where its name is held
-abbrev pub input_of : Names → List ℕ → ℕ → Option (Result (List ℕ) Refusal)
-input_of names name place = option_map (λ bytes. if nat_lt input_limit (length bytes) then Err (Long place) else Ok bytes) (names name)
-
--- go on with the bytes, or keep the refusal; there is no outcome where a name isn't held
-infixl 10 ◌>>=◌
-abbrev pub ◌>>=◌ : Option (Result (List ℕ) Refusal) → (List ℕ → Option (Result (List ℕ) Refusal)) → Option (Result (List ℕ) Refusal)
-None >>= f = None
-(Some (Err refusal)) >>= f = Some (Err refusal)
-(Some (Ok bytes)) >>= f = f bytes
-
-abbrev pub blank_outcome : Names → List ℕ → List ℕ → Option (Result (List ℕ) Refusal)
-blank_outcome names part tools = do
-  part_bytes ← input_of names part 1
-  tools_bytes ← input_of names tools 2
-  Some (blank_sheet_of part_bytes tools_bytes)
+-- what a command makes of its files: the sheets, or the first refusal
+abbrev pub IsMade : Option Names → ℕ → ℕ → List NamedFile → (List (List ℕ) → Result (List ℕ) RefusalData) → Result (List ℕ) RefusalData → Type 0
+IsMade held longs longs' files sheets_from made = (fetched : Result (List (List ℕ)) RefusalData) × IsFetched held longs longs' files fetched × (made ≡ (fetched >>= sheets_from))
 
 -- the one answer over these names; there is none where a file that the command fetches isn't held
 abbrev pub told_answer_for : Names → List (List ℕ) → Option Command → Option Answer
-told_answer_for names words (Some (Blank part tools)) = option_map answer_of (blank_outcome names (word_at words part) (word_at words tools))
-told_answer_for names words _ = Some usage
+told_answer_for names words command = option_map (answer_after command) (fetched_over names (files_for words command))
 
 abbrev pub told_answer : Names → List (List ℕ) → Option Answer
 told_answer names words = told_answer_for names words (command_of words)

@@ -9,9 +9,13 @@ use Rattle.allowance.specs.declared.table.AllowFault.{AllowFault}
 use Rattle.allowance.specs.declared.table.AllowFault.TheVariants.{NoRow, TwoRows, BelowHalfThickness}
 use Rattle.unfolder.specs.declared.blank.UnfoldFault.{UnfoldFault}
 use Rattle.unfolder.specs.declared.blank.UnfoldFault.TheVariants.{CoreTooSmall, BendOffFace, FlatOverlap}
+use Rattle.machine_file.specs.declared.fault.MachineFault.{MachineFault}
+use Rattle.machine_file.specs.declared.fault.MachineFault.TheVariants as machine
+use Rattle.job_setup.specs.declared.fault.JobFault.{JobFault}
+use Rattle.job_setup.specs.declared.fault.JobFault.TheVariants as job
+use Rattle.job_setup.specs.JobOf.{FileFault, part_refused, tools_refused, machine_refused, job_refused}
 use Rattle.setup_sheet.specs.Sheets.{field}
-use Rattle.brake_cli.specs.declared.refusal.Refusal.{Refusal}
-use Rattle.brake_cli.specs.declared.refusal.Refusal.TheVariants.{Long, Part, Tools, Allow, Unfold}
+use Rattle.brake_cli.specs.Refusals.{RefusalData, file_too_long, files_refused}
 
 -- the forms of the words
 unfoldable pub usage_text : List ℕ
@@ -48,26 +52,53 @@ unfold_numbers (CoreTooSmall face) = 1 ∷ face ∷ []
 unfold_numbers (BendOffFace bend) = 2 ∷ bend ∷ []
 unfold_numbers (FlatOverlap a b) = 3 ∷ a ∷ b ∷ []
 
+abbrev pub machine_numbers : MachineFault → List ℕ
+machine_numbers machine.NotToml = 1 ∷ []
+machine_numbers (machine.BadField table key) = 2 ∷ table ∷ key ∷ []
+machine_numbers (machine.UnknownKey table) = 3 ∷ table ∷ []
+machine_numbers (machine.TooMany table) = 4 ∷ table ∷ []
+machine_numbers (machine.BadBox table) = 5 ∷ table ∷ []
+machine_numbers machine.NoMemory = 6 ∷ []
+
+-- a refusal by the deduction or by the blank has its own number behind that of the job
+abbrev pub job_numbers : JobFault → List ℕ
+job_numbers (job.Allow fault) = 1 ∷ allow_number fault ∷ []
+job_numbers (job.Unfold fault) = 2 ∷ unfold_numbers fault
+job_numbers (job.UnknownTool stage) = 3 ∷ stage ∷ []
+job_numbers (job.UnequalHeight stage) = 4 ∷ stage ∷ []
+job_numbers (job.StageOverlap a b) = 5 ∷ a ∷ b ∷ []
+job_numbers (job.OffBed stage) = 6 ∷ stage ∷ []
+job_numbers job.NoStage = 7 ∷ []
+job_numbers (job.StockShort stage) = 8 ∷ stage ∷ []
+job_numbers (job.NoLoad stage) = 9 ∷ stage ∷ []
+job_numbers (job.TwoLoads stage) = 10 ∷ stage ∷ []
+
 -- each number behind a space
 abbrev pub fields : List ℕ → List ℕ
 fields numbers = flat_map (λ n. field (pos n)) numbers
 
 -- what is refused
-abbrev pub refused_thing : Refusal → List ℕ
-refused_thing (Long place) = codes "refused long"
-refused_thing (Part fault) = codes "refused part"
-refused_thing (Tools fault) = codes "refused tools"
-refused_thing (Allow fault) = codes "refused job"
-refused_thing (Unfold fault) = codes "refused job"
+abbrev pub refused_file : FileFault → List ℕ
+refused_file (part_refused fault) = codes "refused part"
+refused_file (tools_refused fault) = codes "refused tools"
+refused_file (machine_refused fault) = codes "refused machine"
+refused_file (job_refused fault) = codes "refused job"
 
--- the numbers of a refusal; a job is refused by the deduction, 1, or by the blank, 2
-abbrev pub refusal_numbers : Refusal → List ℕ
-refusal_numbers (Long place) = place ∷ []
-refusal_numbers (Part fault) = part_numbers fault
-refusal_numbers (Tools fault) = tool_numbers fault
-refusal_numbers (Allow fault) = 1 ∷ allow_number fault ∷ []
-refusal_numbers (Unfold fault) = 2 ∷ unfold_numbers fault
+abbrev pub refused_thing : RefusalData → List ℕ
+refused_thing (file_too_long number) = codes "refused long"
+refused_thing (files_refused fault) = refused_file fault
+
+-- the numbers of a refusal
+abbrev pub fault_numbers : FileFault → List ℕ
+fault_numbers (part_refused fault) = part_numbers fault
+fault_numbers (tools_refused fault) = tool_numbers fault
+fault_numbers (machine_refused fault) = machine_numbers fault
+fault_numbers (job_refused fault) = job_numbers fault
+
+abbrev pub refusal_numbers : RefusalData → List ℕ
+refusal_numbers (file_too_long number) = number ∷ []
+refusal_numbers (files_refused fault) = fault_numbers fault
 
 -- the line of a refusal: what is refused, and its numbers
-unfoldable pub refusal_line : Refusal → List ℕ
+unfoldable pub refusal_line : RefusalData → List ℕ
 refusal_line refusal = refused_thing refusal ++ fields (refusal_numbers refusal) ++ codes "\n"

@@ -1,70 +1,24 @@
 //! The top call.
-ghost use Rattle.std.specs.Prelude.{◌≡◌, ◌⊎◌, ◌+◌, ◌≤◌, [], ◌∷◌, length, map, string_bytes, Some, IfSome, IsSomeAnd, IfOk, IfErr, IsErrOf};
+ghost use Rattle.std.specs.Prelude.{◌≡◌, ◌⊎◌, ◌+◌, ◌≤◌, [], length, map, string_bytes, Some, IfSome, IsSomeAnd, IsErrOf};
 ghost use Rattle.std.specs.Io.KnownBytes.{Appends};
-ghost use Rattle.brake_io.specs.Rose.{raised, Rose};
-ghost use Rattle.brake_io.specs.Meanings.{MayFailAt, AppendsPart};
+ghost use Rattle.brake_io.specs.Rose.{Rose};
+ghost use Rattle.brake_io.specs.Meanings.{AppendsPart};
 ghost use Rattle.brake_cli.specs.Words.{HasPlaces};
-ghost use Rattle.brake_cli.specs.RunText.{usage_text, refusal_line};
-ghost use Rattle.brake_cli.specs.Stops.{OnRefused, OnOutcome, IsStopAnd, IsOutcomeAnd};
-ghost use Rattle.brake_cli.specs.Run.{answer_of, IsInput, IsTooLong, BlankRun, names_for, fetched_names, IsAnswerFor, IsAnswer, told_answer_for, told_answer, IsCutShort, Gives, PutsPart, HasCause};
+ghost use Rattle.brake_cli.specs.RunText.{usage_text};
+ghost use Rattle.brake_cli.specs.Stops.{IsStopAnd, IsOutcomeAnd};
+ghost use Rattle.brake_cli.specs.Run.{answer_of, names_for, fetched_names, IsAnswerFor, IsAnswer, told_answer, IsCutShort, Gives, PutsPart, HasCause};
 
-use crate::blank::blank_sheet_of;
-use crate::refusal::{Refusal, Stop};
+use crate::blank::run_blank;
+use crate::refusal::Stop;
 use crate::refusal_line::refusal_line;
 use crate::status::Status;
 use crate::words::{Command, read_words};
-use brake_io::{FetchFault, PutFault, Shelf, Sink};
+use brake_io::{PutFault, Shelf, Sink};
 use std::alloc::Global;
-
-/// The greatest length of an input file, in bytes.
-const INPUT_LIMIT: u64 = 1_048_576;
 
 /// The forms of the words.
 const USAGE: &[u8] =
     b"usage: brake blank PART TOOLS\nusage: brake plan PART TOOLS MACHINE CERT [--budget N]\nusage: brake check CERT [PART TOOLS MACHINE]\nusage: brake trial N\nusage: brake why PART TOOLS MACHINE\nusage: brake setups PART TOOLS MACHINE SETUPS CERT\nusage: brake settle PART TOOLS MACHINE OUT LOW HIGH [BASE]\nusage: brake merge TABLE TABLE OUT\nusage: brake prove TABLE\n";
-
-/// Fetches the input file of a file word, whose place among the file words is counted from 1.
-fn fetch_input<H: Shelf>(
-    alloc: Global,
-    shelf: &mut H,
-    name: &str,
-    place: u8,
-) -> Result<Vec<u8>, Stop>
-    ensures held { H.held shelf.new ≡ H.held shelf.old }
-    ensures due { H.due shelf.new ≡ H.due shelf.old }
-    ensures calls { H.calls shelf.new ≡ raised (H.calls shelf.old) }
-    ensures faults { H.faults shelf.old ≤ H.faults shelf.new }
-    ensures input { IfOk result (λ bytes. IsInput (H.held shelf.old) name.now bytes.items) }
-    ensures longs { IfOk result (λ _. H.longs shelf.new ≡ H.longs shelf.old) }
-    ensures too_long { IfErr result (λ stop. OnRefused stop (λ refusal. (refusal ≡ Refusal.Long place) × IsTooLong (H.held shelf.old) (H.longs shelf.old) (H.longs shelf.new) name.now)) }
-    ensures fault { IsErrOf result Stop.Fault → Rose (H.faults shelf.old) (H.faults shelf.new) }
-    ensures cause { IsErrOf result Stop.Fault → MayFailAt (H.held shelf.old) name.now (H.due shelf.old) (H.calls shelf.old) (H.calls shelf.new) }
-{
-    match shelf.fetch(alloc, name, INPUT_LIMIT) {
-        Ok(bytes) => Ok(bytes),
-        Err(FetchFault::Failed) => Err(Stop::Fault),
-        Err(FetchFault::TooLong) => Err(Stop::Refused(Refusal::Long(place))),
-        Err(FetchFault::NoMemory) => Err(Stop::NoMemory),
-    }
-}
-
-/// Fetches the two files of `blank`, in order, and then makes the sheet.
-fn run_blank<H: Shelf>(
-    alloc: Global,
-    part: &str,
-    tools: &str,
-    shelf: &mut H,
-) -> Result<Vec<u8>, Stop>
-    ensures held { H.held shelf.new ≡ H.held shelf.old }
-    ensures calls { H.calls shelf.new ≤ H.calls shelf.old + 2 }
-    ensures outcome { OnOutcome result (BlankRun (H.held shelf.old) (H.longs shelf.old) (H.longs shelf.new) part.now tools.now) }
-    ensures fault { IsErrOf result Stop.Fault → Rose (H.faults shelf.old) (H.faults shelf.new) }
-    ensures cause { IsErrOf result Stop.Fault → HasCause (H.held shelf.old) (H.due shelf.old) (H.calls shelf.old) (H.calls shelf.new) (part.now ∷ tools.now ∷ []) }
-{
-    let part = fetch_input(alloc, shelf, part, 1)?;
-    let tools = fetch_input(alloc, shelf, tools, 2)?;
-    blank_sheet_of(alloc, &part, &tools)
-}
 
 /// Puts the whole text of an answer, and ends with its status.
 fn put<K: Sink>(out: &mut K, text: &[u8], status: Status) -> Status
@@ -137,7 +91,7 @@ fn run<H: Shelf, K: Sink>(
 {
     match command {
         Command::Blank { part, tools } => {
-            let outcome = run_blank(alloc, words[part].as_str(), words[tools].as_str(), shelf);
+            let outcome = run_blank(alloc, words, part, tools, shelf);
             finish(alloc, outcome, out)
         }
         _ => put_usage(out),

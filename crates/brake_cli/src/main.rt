@@ -3,6 +3,7 @@
 
 mod blank;
 mod brake;
+mod fetching;
 mod refusal;
 mod refusal_line;
 mod status;

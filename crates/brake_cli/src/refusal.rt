@@ -1,7 +1,9 @@
 //! Why a run stops early.
 
 use allowance::AllowFault;
+use job_setup::JobFault;
 use part_file::PartFault;
+use std::alloc::AllocFailed;
 use tool_library::ToolFault;
 use unfolder::UnfoldFault;
 
@@ -14,10 +16,8 @@ pub enum Refusal {
     Part(PartFault),
     /// The tools file is refused.
     Tools(ToolFault),
-    /// The table of deductions gives the part none.
-    Allow(AllowFault),
-    /// The part has no blank.
-    Unfold(UnfoldFault),
+    /// The files give no job.
+    Job(JobFault),
 }
 
 /// Why a run stops early.
@@ -61,22 +61,35 @@ impl From<ToolFault> for Stop {
 
 impl From<AllowFault> for Stop {
     ghost use Rattle.std.specs.Prelude.{◌≡◌};
-    ghost use Rattle.brake_cli.specs.Stops.{of_allow};
+    ghost use Rattle.job_setup.specs.declared.fault.JobFault.TheVariants.{Allow};
+    ghost use Rattle.brake_cli.specs.Stops.{of_job};
 
-    ghost from_gives = { λ fault stop. stop ≡ of_allow fault };
+    ghost from_gives = { λ fault stop. stop ≡ of_job (Allow fault) };
 
     fn from(fault: AllowFault) -> Self {
-        Stop::Refused(Refusal::Allow(fault))
+        Stop::Refused(Refusal::Job(JobFault::Allow(fault)))
     }
 }
 
 impl From<UnfoldFault> for Stop {
     ghost use Rattle.std.specs.Prelude.{◌≡◌};
-    ghost use Rattle.brake_cli.specs.Stops.{of_unfold};
+    ghost use Rattle.job_setup.specs.declared.fault.JobFault.TheVariants.{Unfold};
+    ghost use Rattle.brake_cli.specs.Stops.{of_job};
 
-    ghost from_gives = { λ fault stop. stop ≡ of_unfold fault };
+    ghost from_gives = { λ fault stop. stop ≡ of_job (Unfold fault) };
 
     fn from(fault: UnfoldFault) -> Self {
-        Stop::Refused(Refusal::Unfold(fault))
+        Stop::Refused(Refusal::Job(JobFault::Unfold(fault)))
+    }
+}
+
+impl<T: Drop> From<AllocFailed<T>> for Stop {
+    ghost use Rattle.std.specs.Prelude.{◌≡◌};
+    ghost use Rattle.brake_cli.specs.declared.refusal.Stop.TheVariants.{NoMemory};
+
+    ghost from_gives = { λ _ stop. stop ≡ NoMemory };
+
+    fn from(_: AllocFailed<T>) -> Self {
+        Stop::NoMemory
     }
 }

@@ -1,10 +1,15 @@
-//! The run of `blank` on an L section, over files in memory.
+//! The run of `blank` on an L section, over files in memory, and the lines of job refusals.
 
 use crate::brake::brake;
+use crate::refusal::Refusal;
+use crate::refusal_line::refusal_line;
 use crate::status::Status;
+use allowance::AllowFault;
 use brake_io::{MemShelf, MemSink};
+use job_setup::JobFault;
 use std::alloc::{AllocError, Global};
 use std::test::Fail;
+use unfolder::UnfoldFault;
 
 const PART: &str =
     "material = \"S235\"\nthickness = 2000\nradius = 2000\n[[face]]\nname = \"base\"\nwidth = 100000\nlength = 50000\n[[face]]\nname = \"leg\"\non = \"base\"\nside = \"N\"\nat = 0\nwidth = 100000\nlength = 30000\ndir = \"up\"\n";
@@ -99,6 +104,29 @@ fn a_sink_that_fails_in_the_sheet(rt: HostRuntime) -> Result<(), Fail> {
             Status::Fault
         );
         assert_eq!(rt; out.bytes(), &SHEET.as_bytes()[..taken]);
+    }
+    Ok(())
+}
+
+#[test]
+fn the_lines_of_job_refusals(rt: HostRuntime) -> Result<(), Fail> {
+    for (fault, line) in [
+        (JobFault::Allow(AllowFault::TwoRows), "refused job 1 2\n"),
+        (
+            JobFault::Unfold(UnfoldFault::FlatOverlap { a: 1, b: 12 }),
+            "refused job 2 3 1 12\n",
+        ),
+        (JobFault::UnknownTool { stage: 0 }, "refused job 3 0\n"),
+        (JobFault::UnequalHeight { stage: 5 }, "refused job 4 5\n"),
+        (JobFault::StageOverlap { a: 0, b: 3 }, "refused job 5 0 3\n"),
+        (JobFault::OffBed { stage: 1 }, "refused job 6 1\n"),
+        (JobFault::NoStage, "refused job 7\n"),
+        (JobFault::StockShort { stage: 2 }, "refused job 8 2\n"),
+        (JobFault::NoLoad { stage: 3 }, "refused job 9 3\n"),
+        (JobFault::TwoLoads { stage: 4 }, "refused job 10 4\n"),
+    ] {
+        let written = refusal_line(rt.alloc(), Refusal::Job(fault))?;
+        assert_eq!(rt; written.as_slice(), line.as_bytes());
     }
     Ok(())
 }
