@@ -22,7 +22,7 @@ impl Draws {
         ensures { result.x ≡ state n 0 }
     {
         Draws {
-            x: (n as u64 % MODULUS) as u32,
+            x: (u64::from(n) % MODULUS) as u32,
         }
     }
 
@@ -34,7 +34,7 @@ impl Draws {
         ensures below { result < choices }
         ensures state { self.new.x ≡ next self.old.x }
     {
-        self.x = ((FACTOR * self.x as u64 + STEP) % MODULUS) as u32;
+        self.x = ((FACTOR * u64::from(self.x) + STEP) % MODULUS) as u32;
         self.x / 65_536 % choices
     }
 }

@@ -44,7 +44,7 @@ fn drawn_length(draws: &mut Draws, least: u32, choices: u32) -> i64
     ensures high { result ≤ℤ pos 1100000 }
     ensures state { draws.new.x ≡ next draws.old.x }
 {
-    (least + 1000 * draws.draw(choices)) as i64
+    i64::from(least + 1000 * draws.draw(choices))
 }
 
 /// Draws a direction: up where the draw is 0, else down.

@@ -77,15 +77,14 @@ pub fn is_die_body(boxes: &[Rect], height: i64) -> bool
     are_boxes(boxes, -height, 0)
 }
 
-/// A section's length is from 1 to 10,000,000 micrometres, and its count from 1 to 1000.
+/// Whether a section's length is from 1 to 10,000,000 micrometres, and its count from 1 to 1000.
 fn is_section(length: i64, count: i64) -> bool
-    ensures value { result ≡ is_section length count }
-    ensures count { IsTrue result → (pos 1 ≤ℤ count × count ≤ℤ pos 1000) }
+    ensures { result ≡ is_section length count }
 {
     1 <= length && length <= 10_000_000 && 1 <= count && count <= 1000
 }
 
-/// Each section's length and count are in range.
+/// Whether each section's length and count are in range.
 pub fn are_in_range(sections: &[(i64, u16)]) -> bool
     ensures { IsTrue result ↔ All IsSection sections.now }
 {

@@ -7,7 +7,8 @@ use crate::lists::{are_in_range, is_die_body, is_punch_body};
 use crate::tools::{Die, Punch};
 use toml_fields::is_name;
 
-/// The greatest height, opening, flange and limit of a tool.
+/// The greatest height, opening and flange in micrometres, and the greatest limit in newtons per
+/// millimetre.
 const GREATEST: i64 = 1_000_000;
 
 /// Whether the number is at least the lower end and at most the upper one.
