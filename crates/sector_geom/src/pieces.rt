@@ -6,8 +6,8 @@ ghost use Rattle.sector_geom.specs.Pieces.{lowered_by, raised_by, widened_by, wi
 
 use brake_base::Rect;
 
-/// The rectangle grown by `by` at both ends of its range of y, but not past y = 0 where it lies on one side of it.
-/// A part's cores reach less far than its plates by so much, and its corners farther.
+/// The rectangle grown by `by` at both ends of its range of y, but not past y = 0 where it lies on
+/// one side of it. A box of the part is widened by the difference of half deduction and thickness.
 pub fn widened(r: Rect, by: i64) -> Rect
     requires in_range { IsInRange r }
     requires not_negative { pos 0 ≤ℤ by }
