@@ -2,6 +2,24 @@
 -- The deduction is 2 (r + t) - (pi / 2) (r + k t / 2) for the inner radius r and the thickness t in micrometres
 -- and the correction factor k, which is given in thousandths here. Pi is taken as 355 / 113.
 use Rattle.std.specs.Prelude.{ℤ, pos, ◌+ℤ◌, ◌-ℤ◌, ◌*ℤ◌, ◌≤ℤ◌, ◌<ℤ◌, int_div}
+use Rattle.toml_fields.specs.Ranges.{IsWithin}
+use Rattle.part_file.specs.declared.bounds.TheConstants.{GREATEST_THICKNESS}
+use Rattle.part_file.specs.Part.{IsRadius}
+use Rattle.allowance.specs.declared.bounds.TheConstants.{LEAST_FACTOR, GREATEST_FACTOR}
+
+-- a correction factor, in thousandths
+abbrev pub IsFactor : ℤ → Type 0
+IsFactor k = IsWithin LEAST_FACTOR GREATEST_FACTOR k
+
+-- a thickness, in micrometres, for which the formula is taken
+abbrev pub IsBendThickness : ℤ → Type 0
+IsBendThickness t = IsWithin (pos 1) GREATEST_THICKNESS t
+
+-- a bend's inner radius and thickness, in micrometres, and its correction factor
+pub record IsBend (r t k : ℤ) : Type 0 where
+  pub radius : IsRadius r
+  pub thickness : IsBendThickness t
+  pub factor : IsFactor k
 
 -- the quarter circle of the neutral line halved, (pi / 4) (r + k t / 2), as a numerator over 904000
 abbrev pub half_arc : ℤ → ℤ → ℤ → ℤ

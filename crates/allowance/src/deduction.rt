@@ -1,11 +1,13 @@
 //! Half of the deduction of a right angle, by DIN 6935.
 ghost use Rattle.std.specs.Prelude.{◌≡◌, pos, ◌≤ℤ◌, ◌<ℤ◌, ◌+ℤ◌, ◌-ℤ◌, ◌*ℤ◌};
-ghost use Rattle.allowance.specs.HalfDeduction.{half_arc, rounded, half_deduction_of, IsNearest};
+ghost use Rattle.allowance.specs.HalfDeduction.{half_arc, rounded, half_deduction_of, IsFactor, IsBendThickness, IsBend, IsNearest};
+
+use crate::bounds::GREATEST_HALF_DEDUCTION;
 
 /// The thickness, weighted by the correction factor.
 fn weighted(t: i64, k: i64) -> i64
-    requires t { (pos 1 ≤ℤ t) × (t ≤ℤ pos 50000) }
-    requires k { (pos 0 ≤ℤ k) × (k ≤ℤ pos 1000) }
+    requires thickness { IsBendThickness t }
+    requires factor { IsFactor k }
     ensures value { result ≡ k *ℤ t }
     ensures low { pos 0 ≤ℤ result }
     ensures high { result ≤ℤ pos 50000000 }
@@ -15,9 +17,7 @@ fn weighted(t: i64, k: i64) -> i64
 
 /// Half of the neutral line's quarter circle, in parts of 1/904000 micrometre.
 fn half_arc(r: i64, t: i64, k: i64) -> i64
-    requires r { (pos 1 ≤ℤ r) × (r ≤ℤ pos 50000) }
-    requires t { (pos 1 ≤ℤ t) × (t ≤ℤ pos 50000) }
-    requires k { (pos 0 ≤ℤ k) × (k ≤ℤ pos 1000) }
+    requires { IsBend r t k }
     ensures value { result ≡ half_arc r t k }
     ensures low { pos 0 ≤ℤ result }
     ensures high { result ≤ℤ pos 100000000000 }
@@ -40,12 +40,10 @@ fn rounded(n: i64) -> i64
 /// Half of the deduction of a right-angle bend, in micrometres, for the inner radius `r`, the
 /// thickness `t` and the correction factor `k` in thousandths: DIN 6935, with 355/113 for pi.
 pub fn half_deduction(r: i64, t: i64, k: i64) -> i64
-    requires r { (pos 1 ≤ℤ r) × (r ≤ℤ pos 50000) }
-    requires t { (pos 1 ≤ℤ t) × (t ≤ℤ pos 50000) }
-    requires k { (pos 0 ≤ℤ k) × (k ≤ℤ pos 1000) }
+    requires { IsBend r t k }
     ensures value { result ≡ half_deduction_of r t k }
     ensures nearest { IsNearest r t k result }
-    ensures high { result ≤ℤ pos 100000 }
+    ensures high { result ≤ℤ GREATEST_HALF_DEDUCTION }
 {
     r + t - rounded(half_arc(r, t, k))
 }

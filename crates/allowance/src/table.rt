@@ -1,8 +1,10 @@
 //! The shop's table of deductions.
-ghost use Rattle.std.specs.Prelude.{◌≡◌, pos, ◌≤ℤ◌, Ok, Err, map, filter, All, IfOk, IfErr};
+ghost use Rattle.std.specs.Prelude.{◌≡◌, ◌≤ℤ◌, map, All, IfOk};
+ghost use Rattle.toml_fields.specs.Results.{Gives};
 ghost use Rattle.part_file.specs.Part.{part_data, half_thickness};
-ghost use Rattle.allowance.specs.AllowTable.{row_data, table_data, IsAllowRow, IsAllowTable, matches, row_half_deduction, only, found_in};
+ghost use Rattle.allowance.specs.AllowTable.{row_data, table_data, IsAllowRow, IsAllowTable, matches, row_half_deduction, matching_row, half_deduction_in};
 
+use crate::bounds::GREATEST_HALF_DEDUCTION;
 use crate::deduction::half_deduction;
 use brake_base::Name;
 use part_file::Part;
@@ -53,7 +55,7 @@ fn matches(row: &AllowRow, part: &Part) -> bool
 fn row_half_deduction(row: &AllowRow) -> i64
     requires { IsAllowRow (row_data row.now) }
     ensures value { result ≡ row_half_deduction (row_data row.now) }
-    ensures high { result ≤ℤ pos 100000 }
+    ensures high { result ≤ℤ GREATEST_HALF_DEDUCTION }
 {
     match row.factor {
         Factor::K(k) => half_deduction(row.radius, row.thickness, k),
@@ -64,8 +66,8 @@ fn row_half_deduction(row: &AllowRow) -> i64
 /// The one row that matches the part.
 fn only_match<'a>(rows: &'a [AllowRow], part: &Part) -> Result<&'a AllowRow, AllowFault>
     requires { All (λ row. IsAllowRow (row_data row)) rows.now }
-    ensures ok { IfOk result (λ row. only (filter (matches (part_data part.now)) (map row_data rows.now)) ≡ Ok (row_data row.now)) }
-    ensures err { IfErr result (λ fault. only (filter (matches (part_data part.now)) (map row_data rows.now)) ≡ Err fault) }
+    ensures value { Gives (λ row. row_data row.now) result
+        (matching_row (part_data part.now) (map row_data rows.now)) }
     ensures ranges { IfOk result (λ row. IsAllowRow (row_data row.now)) }
 {
     let mut found: Option<&AllowRow> = None;
@@ -88,9 +90,9 @@ fn only_match<'a>(rows: &'a [AllowRow], part: &Part) -> Result<&'a AllowRow, All
 /// one does and gives less than half of the thickness.
 pub fn find(table: &AllowTable, part: &Part) -> Result<i64, AllowFault>
     requires { IsAllowTable (table_data table.now) }
-    ensures value { result ≡ found_in (table_data table.now) (part_data part.now) }
+    ensures value { result ≡ half_deduction_in (table_data table.now) (part_data part.now) }
     ensures low { IfOk result (λ q. half_thickness (part_data part.now) ≤ℤ q) }
-    ensures high { IfOk result (λ q. q ≤ℤ pos 100000) }
+    ensures high { IfOk result (λ q. q ≤ℤ GREATEST_HALF_DEDUCTION) }
 {
     let row = only_match(&table.rows, part)?;
     let q = row_half_deduction(row);

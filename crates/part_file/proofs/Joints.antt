@@ -1,11 +1,11 @@
 -- The tree of faces: what a joint leads to, and what lies beyond a bend.
-use Rattle.std.proofs.Common.{◌≡◌, ◌↔◌, ℕ, zero, suc, ◌<◌, ◌≤◌, Bool, ◌||◌, List, [], ◌∷◌, length, map, get_or, Option, Some, None, refl, sym, ap, subst, ◌∙◌, ◌==◌, IsTrue, eqb-true, eq-eqb, inl, inr, arith}
+use Rattle.std.proofs.Common.{◌≡◌, ◌↔◌, ℕ, ◌<◌, ◌≤◌, Bool, ◌||◌, List, [], ◌∷◌, length, map, get_or, Option, Some, None, refl, sym, ap, subst, ◌∙◌, ◌==◌, IsTrue, eqb-true, eq-eqb, inl, inr, arith}
 use Rattle.std.specs.List.{list_any}
 use Rattle.std.proofs.lemmas.Bool.{cases_lt}
 use Rattle.std.proofs.lemmas.List.{get_or-map, length-map}
 use Rattle.part_file.specs.declared.part.Joint.{Joint}
 use Rattle.part_file.specs.declared.part.Face.{Face}
-use Rattle.part_file.specs.Part.{FaceData, PartData, face_data, no_face, joint_at, IsPart, IsBeyond, child, further}
+use Rattle.part_file.specs.Part.{FaceData, PartData, face_data, no_face, joint_at, IsJointOf, IsJoined, IsPart, IsBeyond, child, further}
 
 -- the joint of a face is the one that its data have
 pub joint_in : (faces : List Face) (f : ℕ) (d : Face) → f < length faces → joint_at (map face_data faces) f ≡ (get_or faces f d).joint
@@ -23,27 +23,31 @@ list_any_map test f (x ∷ xs) = ap (λ (b : Bool). test (f x) || b) (list_any_m
 
 pub ruleset faces = (list_any_map, length-map)
 
+pub no_clash : {A : Type 0} (o : Option A) (x : A) → o ≡ None → o ≡ Some x → ⊥
+no_clash o x none some = cc
+
+same_some : {A : Type 0} (o : Option A) (x y : A) → o ≡ Some x → o ≡ Some y → x ≡ y
+same_some o x y first second = cc
+
+-- the joint of a face that is joined as it has to be meets the rules
+pub joint_of_joined : (faces : List FaceData) (b : ℕ) (joint : Joint) → joint_at faces b ≡ Some joint → IsJoined faces b → IsJointOf faces b joint
+joint_of_joined faces b joint has joined =
+    elim (cases_lt 0 b) [
+      | inl low ↦
+          let found = joined.joint low in
+          subst (λ (j : Joint). IsJointOf faces b j) (same_some (joint_at faces b) found.0 joint found.1.has has) found.1
+      | inr none ↦ absurd (no_clash (joint_at faces b) joint (joined.root (omega arith)) has)
+    ]
+
 -- the joint of a face is on an earlier one
 pub is_earlier : (p : PartData) → IsPart p → (f : ℕ) → f < length p.faces → (joint : Joint) → joint_at p.faces f ≡ Some joint → joint.on < f
-is_earlier p fit f within joint has = by_number f refl
-  where
-    by_number : (n : ℕ) → f ≡ n → joint.on < f
-    by_number zero is =
-        let none : joint_at p.faces 0 ≡ None = fit.root in
-        let some : joint_at p.faces 0 ≡ Some joint = rw is at has in
-        cc
-    by_number (suc n) is =
-        let found = fit.joined f (omega arith) within in
-        let has_found : joint_at p.faces f ≡ Some found.0 = found.1.has in
-        let same : found.0 ≡ joint = cc in
-        subst (λ (j : Joint). j.on < f) same found.1.earlier
+is_earlier p fit f within joint has = (joint_of_joined p.faces f joint has (fit.each_face f within).placed.joined).earlier
 
 -- each face but face 0 has a joint
 pub is_joined : (p : PartData) → IsPart p → (f : ℕ) → 0 < f → f < length p.faces → joint_at p.faces f ≡ None → ⊥
 is_joined p fit f low within none =
-    let found = fit.joined f low within in
-    let has : joint_at p.faces f ≡ Some found.0 = found.1.has in
-    cc
+    let found = (fit.each_face f within).placed.joined.joint low in
+    no_clash (joint_at p.faces f) found.0 none found.1.has
 
 -- a face lies beyond an earlier bend exactly where its parent does
 pub beyond_parent : (faces : List FaceData) (b f : ℕ) (joint : Joint) → joint_at faces f ≡ Some joint → b < f → IsBeyond faces b f → IsBeyond faces b joint.on

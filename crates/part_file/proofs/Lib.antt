@@ -1,5 +1,4 @@
 pub mod Fit
-pub mod FitFaces
 pub mod FitPart
 pub mod Joints
 pub mod PartRules

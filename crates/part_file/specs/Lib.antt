@@ -1,4 +1,4 @@
 pub mod Part
-pub mod PartRules
+pub mod Rules
 pub mod Rows
 pub mod PartFile

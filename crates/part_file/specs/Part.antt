@@ -3,6 +3,8 @@ use Rattle.std.specs.Prelude.{◌≡◌, ◌≢◌, ℕ, ◌<◌, ◌≤◌, ℤ
 use Rattle.std.specs.List.{list_any, slice_index_or}
 use Rattle.brake_base.specs.declared.space.V3.{V3}
 use Rattle.toml_fields.specs.Fields.{is_name}
+use Rattle.toml_fields.specs.Ranges.{IsWithin}
+use Rattle.part_file.specs.declared.bounds.TheConstants.{LEAST_THICKNESS, GREATEST_THICKNESS, LEAST_RADIUS, GREATEST_RADIUS, LEAST_SIZE, GREATEST_SIZE, MOST_FACES}
 use Rattle.part_file.specs.declared.part.Side.{Side}
 use Rattle.part_file.specs.declared.part.Side.TheVariants.{N, E, S, W}
 use Rattle.part_file.specs.declared.part.Joint.{Joint}
@@ -105,32 +107,65 @@ pub record IsPath (faces : List FaceData) (from : ℕ) (bends : List ℕ) (to : 
   pub walk : IsWalk faces from bends to
   pub once : AllPairs (λ b c. b ≢ c) bends
 
--- a size of a face: 1 to 10,000,000 micrometres
-pub record IsSize (n : ℤ) : Type 0 where
-  pub low : pos 1 ≤ℤ n
-  pub high : n ≤ℤ pos 10000000
+-- a thickness of the sheet: even and in range
+pub record IsThickness (n : ℤ) : Type 0 where
+  pub range : IsWithin LEAST_THICKNESS GREATEST_THICKNESS n
+  pub even : unsigned_abs n % 2 ≡ 0
 
--- the joint of face b: on an earlier face, within the side's length, and on S of face 0 alone
+-- an inner radius of the bends
+abbrev pub IsRadius : ℤ → Type 0
+IsRadius n = IsWithin LEAST_RADIUS GREATEST_RADIUS n
+
+-- the sheet: the name of its material, its thickness, and the inner radius of its bends
+pub record IsSheet (p : PartData) : Type 0 where
+  pub material : IsTrue (is_name p.material)
+  pub thickness : IsThickness p.thickness
+  pub radius : IsRadius p.radius
+
+-- a size of a face
+abbrev pub IsSize : ℤ → Type 0
+IsSize n = IsWithin LEAST_SIZE GREATEST_SIZE n
+
+-- the sizes of a face
+pub record HasSizes (face : FaceData) : Type 0 where
+  pub wide : IsSize face.width
+  pub long : IsSize face.length
+
+-- no earlier face has the name of face b
+pub record HasNewName (faces : List FaceData) (b : ℕ) : Type 0 where
+  pub differs : (f : ℕ) → f < b → (face_at faces f).name ≢ (face_at faces b).name
+
+-- a face of this width stands within the side of its parent, which isn't the S side of a face other than face 0
+pub record StandsWithin (parent : FaceData) (width : ℤ) (joint : Joint) : Type 0 where
+  pub at_low : pos 0 ≤ℤ joint.at
+  pub at_high : (joint.at +ℤ width) ≤ℤ side_length joint.side parent
+  pub south : joint.side ≡ S → joint.on ≡ 0
+
+-- the joint of face b: on an earlier face, and within its side
 pub record IsJointOf (faces : List FaceData) (b : ℕ) (joint : Joint) : Type 0 where
   pub has : joint_at faces b ≡ Some joint
   pub earlier : joint.on < b
-  pub at_low : pos 0 ≤ℤ joint.at
-  pub at_high : (joint.at +ℤ (face_at faces b).width) ≤ℤ side_length joint.side (face_at faces joint.on)
-  pub south : joint.side ≡ S → joint.on ≡ 0
+  pub within : StandsWithin (face_at faces joint.on) (face_at faces b).width joint
+
+-- face 0 has no joint, and each other face is joined to an earlier one
+pub record IsJoined (faces : List FaceData) (b : ℕ) : Type 0 where
+  pub root : b ≡ 0 → joint_at faces b ≡ None
+  pub joint : 0 < b → (joint : Joint) × IsJointOf faces b joint
+
+-- the sizes of face b are in range, and it is joined as it has to be
+pub record IsPlaced (faces : List FaceData) (b : ℕ) : Type 0 where
+  pub sizes : HasSizes (face_at faces b)
+  pub joined : IsJoined faces b
+
+-- the rules of face b
+pub record IsFaceOf (faces : List FaceData) (b : ℕ) : Type 0 where
+  pub name : IsTrue (is_name (face_at faces b).name)
+  pub new_name : HasNewName faces b
+  pub placed : IsPlaced faces b
 
 -- the rules of the part file
 pub record IsPart (p : PartData) : Type 0 where
-  pub material : IsTrue (is_name p.material)
-  pub thickness_low : pos 2 ≤ℤ p.thickness
-  pub thickness_high : p.thickness ≤ℤ pos 50000
-  pub even : unsigned_abs p.thickness % 2 ≡ 0
-  pub radius_low : pos 1 ≤ℤ p.radius
-  pub radius_high : p.radius ≤ℤ pos 50000
+  pub sheet : IsSheet p
   pub some_face : 0 < length p.faces
-  pub few_faces : length p.faces ≤ 13
-  pub named : (f : ℕ) → f < length p.faces → IsTrue (is_name (face_at p.faces f).name)
-  pub distinct : (f g : ℕ) → f < g → g < length p.faces → (face_at p.faces f).name ≢ (face_at p.faces g).name
-  pub wide : (f : ℕ) → f < length p.faces → IsSize (face_at p.faces f).width
-  pub long : (f : ℕ) → f < length p.faces → IsSize (face_at p.faces f).length
-  pub root : joint_at p.faces 0 ≡ None
-  pub joined : (b : ℕ) → 0 < b → b < length p.faces → (joint : Joint) × IsJointOf p.faces b joint
+  pub few_faces : length p.faces ≤ MOST_FACES
+  pub each_face : (b : ℕ) → b < length p.faces → IsFaceOf p.faces b

@@ -5,6 +5,7 @@ ghost use Rattle.toml_fields.specs.Results.{Gives, each_from};
 ghost use Rattle.part_file.specs.Rows.{face_row_data};
 ghost use Rattle.part_file.specs.PartFile.{side_named, dir_named, root_row, child_row, face_row, face_items};
 
+use crate::bounds::MOST_FACES;
 use crate::fault::PartFault;
 use crate::part::{Dir, Side};
 use arrayvec::ArrayVec;
@@ -62,7 +63,7 @@ fn dir_named(text: &str) -> Option<Dir>
 /// Face 0, of table 1.
 #[tactic(auto, using(toml_fields::proofs::Sizes::sizes), unfolding(crate::specs::PartFile::root_row))]
 fn root_row(table: &Table) -> Result<FaceRow, PartFault>
-    ensures { Gives PartFault.NoMemory face_row_data result (root_row (table_view table.now)) }
+    ensures { Gives face_row_data result (root_row (table_view table.now)) }
 {
     let name = name_at(table, "name").ok_or(bad_field(1, 5))?;
     let width = whole_at(table, "width").ok_or(bad_field(1, 9))?;
@@ -81,7 +82,7 @@ fn root_row(table: &Table) -> Result<FaceRow, PartFault>
 /// Another face, of the table of this number.
 #[tactic(auto, using(toml_fields::proofs::Sizes::sizes), unfolding(crate::specs::PartFile::child_row))]
 fn child_row(number: u8, table: &Table) -> Result<FaceRow, PartFault>
-    ensures { Gives PartFault.NoMemory face_row_data result (child_row number (table_view table.now)) }
+    ensures { Gives face_row_data result (child_row number (table_view table.now)) }
 {
     let name = name_at(table, "name").ok_or(bad_field(number, 5))?;
     let on = name_at(table, "on").ok_or(bad_field(number, 6))?;
@@ -111,8 +112,8 @@ fn child_row(number: u8, table: &Table) -> Result<FaceRow, PartFault>
 /// The face of a number, of its item of `face`.
 #[tactic(auto, unfolding(crate::specs::PartFile::face_row))]
 fn face_row(face: u8, item: &Value) -> Result<FaceRow, PartFault>
-    requires { face < 13 }
-    ensures { Gives PartFault.NoMemory face_row_data result (face_row face (view item.now)) }
+    requires { face < MOST_FACES }
+    ensures { Gives face_row_data result (face_row face (view item.now)) }
 {
     match item.as_table() {
         Some(table) if face == 0 => root_row(table),
@@ -121,10 +122,11 @@ fn face_row(face: u8, item: &Value) -> Result<FaceRow, PartFault>
     }
 }
 
-/// The faces of the items of `face`, of which there are at most 13.
-pub fn face_rows(items: &[Value]) -> Result<ArrayVec<FaceRow, 13>, PartFault>
-    requires { length items.now ≤ 13 }
-    ensures { Gives PartFault.NoMemory (λ rows. map face_row_data rows.items) result (each_from face_row 0 (map view items.now)) }
+/// The faces of the items of `face`, of which there are at most `MOST_FACES`.
+pub fn face_rows(items: &[Value]) -> Result<ArrayVec<FaceRow, MOST_FACES>, PartFault>
+    requires { length items.now ≤ MOST_FACES }
+    ensures { Gives (λ rows. map face_row_data rows.items) result
+        (each_from face_row 0 (map view items.now)) }
 {
     let mut rows = ArrayVec::new();
     for item in items {
@@ -136,7 +138,8 @@ pub fn face_rows(items: &[Value]) -> Result<ArrayVec<FaceRow, 13>, PartFault>
 
 /// The items of `face`: tables, at least one.
 pub fn face_items(table: &Table) -> Option<&[Value]>
-    ensures { option_map (λ items. map view items.now) result ≡ face_items (table_view table.now) }
+    ensures { option_map (λ items. map view items.now) result
+        ≡ face_items (table_view table.now) }
 {
     let items = tables_at(table, "face")?;
     if items.is_empty() { None } else { Some(items) }

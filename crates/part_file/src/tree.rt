@@ -49,7 +49,8 @@ fn parent(part: &Part, face: u8) -> u8
     requires low { 0 < face }
     requires high { face < length part.now.faces.items }
     ensures earlier { result < face }
-    ensures is { (joint : _) × (joint_at (part_data part.now).faces face ≡ Some joint) × (joint.on ≡ result) }
+    ensures is { (joint : _) × (joint_at (part_data part.now).faces face ≡ Some joint)
+        × (joint.on ≡ result) }
 {
     match part.faces[usize::from(face)].joint {
         Some(joint) => joint.on,

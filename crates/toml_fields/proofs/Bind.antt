@@ -1,9 +1,10 @@
 -- What a definition that gives a value says of its steps.
-use Rattle.std.proofs.Common.{◌≡◌, ◌≤ℤ◌, ◌&&◌, ℕ, ℤ, Bool, true, false, List, Option, Some, None, Result, Ok, Err, ok_or, if◌then◌else◌, option_and_then, refl, subst, arith}
+use Rattle.std.proofs.Common.{◌≡◌, ◌&&◌, ℕ, ℤ, Bool, true, false, List, Option, Some, None, Result, Ok, Err, ok_or, if◌then◌else◌, option_and_then, refl, subst, inr, arith}
 use Rattle.std.specs.Prelude.{int_le, IfOk}
 use Rattle.std.proofs.lemmas.Int.{ints}
-use Rattle.toml_fields.specs.Fields.{is_name, checked_name, within}
-use Rattle.toml_fields.specs.Results.{◌>>=◌, Gives, refuse_if, refuse_found}
+use Rattle.toml_fields.specs.Fields.{is_name, checked_name, checked_integer}
+use Rattle.toml_fields.specs.Ranges.{IsWithin}
+use Rattle.toml_fields.specs.Results.{◌>>=◌, Gives, GivesOr, refuse_if, refuse_found}
 
 pub ok_same : {A E : Type 0} (a b : A) → ◌≡◌ {A = Result A E} (Ok a) (Ok b) → a ≡ b
 ok_same a b given = cc
@@ -21,7 +22,7 @@ pub refused_not : {E : Type 0} (test : Bool) (e : E) (u : Unit {0}) → refuse_i
 refused_not true e u given = absurd (cc)
 refused_not false e u given = refl
 
-pub found_not : {E : Type 0} (o : Option ℕ) (fault : ℕ → E) (u : Unit {0}) → refuse_found o fault ≡ Ok u → o ≡ None
+pub found_not : {A E : Type 0} (o : Option A) (fault : A → E) (u : Unit {0}) → refuse_found o fault ≡ Ok u → o ≡ None
 found_not None fault u given = refl
 found_not (Some n) fault u given = absurd (cc)
 
@@ -35,16 +36,28 @@ checked_is_name (Some text) name given = by_test (is_name text) refl given
     by_test false is here = absurd (cc)
 
 -- an integer that is read is within the ends
-pub within_ends : (low high : ℤ) (o : Option ℤ) (n : ℤ) → option_and_then (within low high) o ≡ Some n → (low ≤ℤ n) × (n ≤ℤ high)
-within_ends low high None n given = absurd (cc)
-within_ends low high (Some m) n given = by_tests (int_le low m) (int_le m high) refl refl given
+pub checked_is_within : (low high : ℤ) (o : Option ℤ) (n : ℤ) → option_and_then (checked_integer low high) o ≡ Some n → IsWithin low high n
+checked_is_within low high None n given = absurd (cc)
+checked_is_within low high (Some m) n given = by_tests (int_le low m) (int_le m high) refl refl given
   where
-    by_tests : (a b : Bool) → int_le low m ≡ a → int_le m high ≡ b → (if a && b then Some m else None) ≡ Some n → (low ≤ℤ n) × (n ≤ℤ high)
-    by_tests true true above below is = let same : m ≡ n = cc in (subst (λ (k : ℤ). low ≤ℤ k) same (omega (arith, ints, above)), subst (λ (k : ℤ). k ≤ℤ high) same (omega (arith, ints, below)))
+    by_tests : (a b : Bool) → int_le low m ≡ a → int_le m high ≡ b → (if a && b then Some m else None) ≡ Some n → IsWithin low high n
+    by_tests true true above below is =
+        let same : m ≡ n = cc in
+        subst (λ (k : ℤ). IsWithin low high k) same (record { bottom = omega (arith, ints, above); top = omega (arith, ints, below) })
     by_tests true false above below is = absurd (cc)
     by_tests false b above below is = absurd (cc)
 
--- what holds of each value of the definition holds of what the reader returned
-pub gives_ok : {X Y E : Type 0} (m : E) (view : X → Y) (result : Result X E) (read : Result Y E) (P : Y → Type 0) → Gives m view result read → ((y : Y) → read ≡ Ok y → P y) → IfOk result (λ x. P (view x))
-gives_ok m view (Ok x) read P given all = all (view x) given
-gives_ok m view (Err e) read P given all = tt
+-- what holds of each value of the definition holds of what was returned
+pub gives_ok : {X Y E : Type 0} (view : X → Y) (result : Result X E) (defined : Result Y E) (P : Y → Type 0) → Gives view result defined → ((y : Y) → defined ≡ Ok y → P y) → IfOk result (λ x. P (view x))
+gives_ok view (Ok x) defined P given all = all (view x) given
+gives_ok view (Err e) defined P given all = tt
+
+-- the same, where memory may run out
+pub gives_or_ok : {X Y E : Type 0} (no_memory : E) (view : X → Y) (result : Result X E) (defined : Result Y E) (P : Y → Type 0) → GivesOr no_memory view result defined → ((y : Y) → defined ≡ Ok y → P y) → IfOk result (λ x. P (view x))
+gives_or_ok no_memory view (Ok x) defined P given all = all (view x) given
+gives_or_ok no_memory view (Err e) defined P given all = tt
+
+-- what gives exactly what is defined does so where memory may run out
+pub gives_or : {X Y E : Type 0} (no_memory : E) (view : X → Y) (result : Result X E) (defined : Result Y E) → Gives view result defined → GivesOr no_memory view result defined
+gives_or no_memory view (Ok x) defined given = given
+gives_or no_memory view (Err e) defined given = inr given

@@ -1,7 +1,7 @@
 -- Items that are read in turn, by a loop that keeps what it has read in front of what is left.
-use Rattle.std.proofs.Common.{◌≡◌, ℕ, suc, ◌+◌, ◌<◌, ◌≤◌, List, [], ◌∷◌, ◌++◌, map, length, get_or, drop, Result, Ok, Err, refl, sym, ap, ◌∙◌, append_assoc, add-one, drop-cons, inl, inr}
+use Rattle.std.proofs.Common.{◌≡◌, ℕ, suc, ◌+◌, ◌<◌, ◌≤◌, List, [], ◌∷◌, ◌++◌, map, length, get_or, drop, Result, Ok, Err, refl, sym, ap, ◌∙◌, append_assoc, add-one, drop-cons}
 use Rattle.std.proofs.lemmas.List.{append-nil, drop_all}
-use Rattle.toml_fields.specs.Results.{◌>>=◌, Fails, each_from}
+use Rattle.toml_fields.specs.Results.{◌>>=◌, each_from}
 
 -- what was read, and then what the rest gives
 abbrev pub with_front : {B E : Type 0} → List B → Result (List B) E → Result (List B) E
@@ -33,18 +33,12 @@ goes_on f read xs x i n front y total lt here reads so_far =
     sym one ∙ so_far
 
 -- an item is refused
-stops : {A D B E : Type 0} (f : A → D) (read : ℕ → D → Result B E) (xs : List A) (x : A) (i n : ℕ) (front : List B) (e : E) (total : Result (List B) E) → i < length xs → x ≡ get_or xs i x → read n (f x) ≡ Err e
+pub stops : {A D B E : Type 0} (f : A → D) (read : ℕ → D → Result B E) (xs : List A) (x : A) (i n : ℕ) (front : List B) (e : E) (total : Result (List B) E) → i < length xs → x ≡ get_or xs i x → read n (f x) ≡ Err e
     → with_front front (each_from read n (map f (drop i xs))) ≡ total → total ≡ Err e
 unfolding each_from
 stops f read xs x i n front e total lt here reads so_far =
     let one : with_front front (each_from read n (map f (drop i xs))) ≡ Err e = rw (seen f xs x i lt here, reads) refl in
     sym so_far ∙ one
-
--- an item is refused, or memory ran out
-pub ends : {A D B E : Type 0} (f : A → D) (read : ℕ → D → Result B E) (xs : List A) (x : A) (i n : ℕ) (front : List B) (m e : E) (total : Result (List B) E) → i < length xs → x ≡ get_or xs i x → Fails m e (read n (f x))
-    → with_front front (each_from read n (map f (drop i xs))) ≡ total → Fails m e total
-ends f read xs x i n front m e total lt here failed so_far =
-    elim failed [ inl memory ↦ inl memory | inr reads ↦ inr (stops f read xs x i n front e total lt here reads so_far) ]
 
 -- all items are read
 pub is_done : {A D B E : Type 0} (f : A → D) (read : ℕ → D → Result B E) (xs : List A) (i n : ℕ) (front : List B) (total : Result (List B) E) → length xs ≤ i

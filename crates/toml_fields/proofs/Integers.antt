@@ -3,13 +3,13 @@ use Rattle.std.proofs.Common.{◌≡◌, ◌==◌, true, eq-eqb, ℕ, suc, ◌+�
 use Rattle.std.proofs.lemmas.List.{append-nil, drop_all}
 use lib.Seq.{take_all, take-suc-set}
 use Rattle.toml.specs.Data.{Data, as_integer}
-use Rattle.toml_fields.specs.Lists.{joined, integers, items_of, integers_of}
+use Rattle.toml_fields.specs.Lists.{prepend, integers, items_of, integers_of}
 
 -- what was read, and then what the rest gives
 abbrev pub with_integers : List ℤ → Option (List ℤ) → Option (List ℤ)
 with_integers front rest = option_map (λ zs. front ++ zs) rest
 
-regroup : (front : List ℤ) (n : ℤ) (rest : Option (List ℤ)) → with_integers front (joined (Some n) rest) ≡ with_integers (front ++ n ∷ []) rest
+regroup : (front : List ℤ) (n : ℤ) (rest : Option (List ℤ)) → with_integers front (prepend (Some n) rest) ≡ with_integers (front ++ n ∷ []) rest
 regroup front n (Some ns) = ap (λ (zs : List ℤ). Some zs) (sym (append_assoc front (n ∷ []) ns))
 regroup front n None = refl
 

@@ -1,4 +1,5 @@
 pub mod Bind
+pub mod Decided
 pub mod Each
 pub mod Firsts
 pub mod Integers

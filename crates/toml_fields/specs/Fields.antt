@@ -1,7 +1,8 @@
 -- The fields of a table, by key, type and range.
-use Rattle.std.specs.Prelude.{int_le, ℕ, suc, ℤ, List, length, Option, Some, None, Bool, nat_le, nat_lt, ◌&&◌, if◌then◌else◌, is_some, option_and_then, count_by}
+use Rattle.std.specs.Prelude.{ℕ, suc, ℤ, List, length, Option, Some, None, Bool, nat_le, nat_lt, ◌&&◌, if◌then◌else◌, is_some, option_and_then, count_by}
 use Rattle.std.specs.List.{list_all}
 use Rattle.toml.specs.Data.{Members, no_members, member, get_member, as_str, as_integer, as_table}
+use Rattle.toml_fields.specs.Ranges.{is_within}
 
 -- how many keys a table has
 abbrev pub members_len : Members → ℕ
@@ -37,12 +38,12 @@ abbrev pub whole_at : List ℕ → Members → Option ℤ
 whole_at key members = option_and_then as_integer (get_member key members)
 
 -- the integer, where it is within the two ends
-abbrev pub within : ℤ → ℤ → ℤ → Option ℤ
-within low high n = if int_le low n && int_le n high then Some n else None
+abbrev pub checked_integer : ℤ → ℤ → ℤ → Option ℤ
+checked_integer low high n = if is_within low high n then Some n else None
 
 -- the integer at a key, within the two ends
 abbrev pub integer_at : ℤ → ℤ → List ℕ → Members → Option ℤ
-integer_at low high key members = option_and_then (within low high) (whole_at key members)
+integer_at low high key members = option_and_then (checked_integer low high) (whole_at key members)
 
 -- the integer at a key, within the two ends, and the given one where the key is missing
 abbrev pub integer_or : ℤ → ℤ → ℤ → List ℕ → Members → Option ℤ

@@ -1,4 +1,5 @@
 pub mod Document
 pub mod Fields
 pub mod Lists
+pub mod Ranges
 pub mod Results

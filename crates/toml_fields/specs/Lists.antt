@@ -38,14 +38,14 @@ abbrev pub tables_or_none : List ℕ → Members → Option (List Data)
 tables_or_none key members = option_and_then (each_passes is_table) (array_or_none key members)
 
 -- the integer before the integers
-abbrev pub joined : Option ℤ → Option (List ℤ) → Option (List ℤ)
-joined (Some n) (Some ns) = Some (n ∷ ns)
-joined _ _ = None
+abbrev pub prepend : Option ℤ → Option (List ℤ) → Option (List ℤ)
+prepend (Some n) (Some ns) = Some (n ∷ ns)
+prepend _ _ = None
 
 -- the integers, where each item is one
 abbrev pub integers : List Data → Option (List ℤ)
 integers [] = Some []
-integers (d ∷ ds) = joined (as_integer d) (integers ds)
+integers (d ∷ ds) = prepend (as_integer d) (integers ds)
 
 -- the integers of an array of exactly so many
 abbrev pub integers_of : ℕ → Data → Option (List ℤ)

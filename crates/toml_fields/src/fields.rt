@@ -1,16 +1,19 @@
 //! The fields of a table, by key, type and range.
-ghost use Rattle.std.specs.Prelude.{◌≡◌, ◌≤ℤ◌, ◌&&◌, nat_le, IfSome, IsTrue, count_by, map, option_map, option_copied};
+ghost use Rattle.std.specs.Prelude.{◌≡◌, ◌&&◌, nat_le, IfSome, IsTrue, count_by, map, option_map, option_copied};
 ghost use Rattle.std.specs.List.{list_all};
 ghost use Rattle.toml.specs.Data.{get_member};
 ghost use Rattle.toml.specs.View.{view, table_view};
 ghost use Rattle.toml_fields.specs.Fields.{has_key, has_unknown_key, text_at, name_at, is_name, checked_name, integer_at, integer_or, whole_at, table_at};
+ghost use Rattle.toml_fields.specs.Ranges.{IsWithin};
 
+use crate::ranges::is_within;
 use arrayvec::ArrayString;
 use toml::{Table, Value};
 
 /// The value at a key.
 pub fn value_at<'a>(table: &'a Table, key: &str) -> Option<&'a Value>
-    ensures { option_map (λ value. view value.now) result ≡ get_member key.now (table_view table.now) }
+    ensures { option_map (λ value. view value.now) result
+        ≡ get_member key.now (table_view table.now) }
 {
     table.get(key)
 }
@@ -73,7 +76,8 @@ fn checked_name(text: &str) -> Option<ArrayString<24>>
 
 /// The name at a key: 1 to 24 bytes from 0x21 to 0x7E.
 pub fn name_at(table: &Table, key: &str) -> Option<ArrayString<24>>
-    ensures value { option_map (λ name. name.bytes) result ≡ name_at key.now (table_view table.now) }
+    ensures value { option_map (λ name. name.bytes) result
+        ≡ name_at key.now (table_view table.now) }
     ensures is_name { IfSome result (λ name. IsTrue (is_name name.bytes)) }
 {
     match text_at(table, key) {
@@ -95,22 +99,19 @@ pub fn whole_at(table: &Table, key: &str) -> Option<i64>
 /// The integer at a key, within the two ends.
 pub fn integer_at(table: &Table, key: &str, low: i64, high: i64) -> Option<i64>
     ensures value { result ≡ integer_at low high key.now (table_view table.now) }
-    ensures low { IfSome result (λ n. low ≤ℤ n) }
-    ensures high { IfSome result (λ n. n ≤ℤ high) }
+    ensures within { IfSome result (IsWithin low high) }
 {
     match whole_at(table, key) {
-        Some(n) if low <= n && n <= high => Some(n),
+        Some(n) if is_within(n, low, high) => Some(n),
         _ => None,
     }
 }
 
 /// The integer at a key, within the two ends, and `missing` where the key is missing.
 pub fn integer_or(table: &Table, key: &str, missing: i64, low: i64, high: i64) -> Option<i64>
-    requires low { low ≤ℤ missing }
-    requires high { missing ≤ℤ high }
+    requires { IsWithin low high missing }
     ensures value { result ≡ integer_or missing low high key.now (table_view table.now) }
-    ensures low { IfSome result (λ n. low ≤ℤ n) }
-    ensures high { IfSome result (λ n. n ≤ℤ high) }
+    ensures within { IfSome result (IsWithin low high) }
 {
     if has_key(table, key) {
         integer_at(table, key, low, high)
@@ -121,7 +122,8 @@ pub fn integer_or(table: &Table, key: &str, missing: i64, low: i64, high: i64) -
 
 /// The table at a key.
 pub fn table_at<'a>(table: &'a Table, key: &str) -> Option<&'a Table>
-    ensures { option_map (λ inner. table_view inner.now) result ≡ table_at key.now (table_view table.now) }
+    ensures { option_map (λ inner. table_view inner.now) result
+        ≡ table_at key.now (table_view table.now) }
 {
     match value_at(table, key) {
         Some(value) => value.as_table(),

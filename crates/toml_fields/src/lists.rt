@@ -21,7 +21,8 @@ fn items_of(value: &Value) -> Option<&[Value]>
 
 /// The items of the array at a key.
 pub fn array_at<'a>(table: &'a Table, key: &str) -> Option<&'a [Value]>
-    ensures { option_map (λ items. map view items.now) result ≡ array_at key.now (table_view table.now) }
+    ensures { option_map (λ items. map view items.now) result
+        ≡ array_at key.now (table_view table.now) }
 {
     match value_at(table, key) {
         Some(value) => items_of(value),
@@ -31,7 +32,8 @@ pub fn array_at<'a>(table: &'a Table, key: &str) -> Option<&'a [Value]>
 
 /// The items of the array at a key, and none where the key is missing.
 pub fn array_or_none<'a>(table: &'a Table, key: &str) -> Option<&'a [Value]>
-    ensures { option_map (λ items. map view items.now) result ≡ array_or_none key.now (table_view table.now) }
+    ensures { option_map (λ items. map view items.now) result
+        ≡ array_or_none key.now (table_view table.now) }
 {
     if has_key(table, key) {
         array_at(table, key)
@@ -50,7 +52,8 @@ fn are_tables(items: &[Value]) -> bool
 /// The items of the array of tables at a key.
 #[tactic(auto, using(crate::proofs::Sizes::sizes))]
 pub fn tables_at<'a>(table: &'a Table, key: &str) -> Option<&'a [Value]>
-    ensures { option_map (λ items. map view items.now) result ≡ tables_at key.now (table_view table.now) }
+    ensures { option_map (λ items. map view items.now) result
+        ≡ tables_at key.now (table_view table.now) }
 {
     let items = array_at(table, key)?;
     if are_tables(items) { Some(items) } else { None }
@@ -59,7 +62,8 @@ pub fn tables_at<'a>(table: &'a Table, key: &str) -> Option<&'a [Value]>
 /// The items of the array of tables at a key, and none where the key is missing.
 #[tactic(auto, using(crate::proofs::Sizes::sizes))]
 pub fn tables_or_none<'a>(table: &'a Table, key: &str) -> Option<&'a [Value]>
-    ensures { option_map (λ items. map view items.now) result ≡ tables_or_none key.now (table_view table.now) }
+    ensures { option_map (λ items. map view items.now) result
+        ≡ tables_or_none key.now (table_view table.now) }
 {
     let items = array_or_none(table, key)?;
     if are_tables(items) { Some(items) } else { None }
@@ -115,7 +119,8 @@ fn are_rows(items: &[Value], count: usize) -> bool
 /// The items of the array at a key, each an array of exactly so many integers.
 #[tactic(auto, using(crate::proofs::Sizes::sizes))]
 pub fn rows_at<'a>(table: &'a Table, key: &str, count: usize) -> Option<&'a [Value]>
-    ensures { option_map (λ items. map view items.now) result ≡ rows_at count key.now (table_view table.now) }
+    ensures { option_map (λ items. map view items.now) result
+        ≡ rows_at count key.now (table_view table.now) }
 {
     let items = array_at(table, key)?;
     if are_rows(items, count) {
@@ -125,10 +130,12 @@ pub fn rows_at<'a>(table: &'a Table, key: &str, count: usize) -> Option<&'a [Val
     }
 }
 
-/// The items of the array at a key, each an array of exactly so many integers, and none where the key is missing.
+/// The items of the array at a key, each an array of exactly so many integers, and none where
+/// the key is missing.
 #[tactic(auto, using(crate::proofs::Sizes::sizes))]
 pub fn rows_or_none<'a>(table: &'a Table, key: &str, count: usize) -> Option<&'a [Value]>
-    ensures { option_map (λ items. map view items.now) result ≡ rows_or_none count key.now (table_view table.now) }
+    ensures { option_map (λ items. map view items.now) result
+        ≡ rows_or_none count key.now (table_view table.now) }
 {
     let items = array_or_none(table, key)?;
     if are_rows(items, count) {

@@ -1,10 +1,8 @@
-use Rattle.std.proofs.Common.{List, ◌≡◌, ◌++◌, ◌∷◌, [], Ok, map, arith}
+use Rattle.std.proofs.Common.{List, ◌≡◌, ◌++◌, ◌∷◌, [], Ok, Err, map, arith}
 use Rattle.std.proofs.lemmas.Result.{err_from_is_err_and}
 use Rattle.std.proofs.lemmas.List.{map_push}
 use Rattle.toml.specs.View.{view}
-use Rattle.toml_fields.specs.Results.{Fails}
-use Rattle.toml_fields.proofs.Each.{goes_on, ends, is_done}
-use Rattle.part_file.specs.declared.fault.PartFault.TheVariants.{NoMemory}
+use Rattle.toml_fields.proofs.Each.{goes_on, stops, is_done}
 use Rattle.part_file.specs.Rows.{FaceRowData, face_row_data}
 use Rattle.part_file.specs.PartFile.{face_row}
 use Rattle.part_file.proofs.rows.face_rows.Goals as goal
@@ -24,8 +22,8 @@ pub returns-in_err-row : goal.returns-in_err-row
 returns-in_err-row c =
     let p = err_from_is_err_and c.from_residual.result c.from_residual.ensures.1 in
     let same : c.len.result ≡ c.loop-item.item-index = omega arith in
-    let failed : Fails NoMemory c.in_err-row.field-0.0 (face_row c.loop-item.item-index (view c.item-item.result)) = rw (← same) (c.in_err-row.ensures) in
-    rw (p.1, p.2) (ends view face_row c.args.items.now c.item-item.result c.loop-item.item-index c.loop-item.item-index (map face_row_data c.loop-item.rows.items) NoMemory c.in_err-row.field-0.0 _ c.loop-item-test.true c.item-item.is failed c.loop-item.invariant.reads)
+    let failed : face_row c.loop-item.item-index (view c.item-item.result) ≡ Err c.in_err-row.field-0.0 = rw (← same) (c.in_err-row.ensures) in
+    rw (p.1, p.2) (stops view face_row c.args.items.now c.item-item.result c.loop-item.item-index c.loop-item.item-index (map face_row_data c.loop-item.rows.items) c.in_err-row.field-0.0 _ c.loop-item-test.true c.item-item.is failed c.loop-item.invariant.reads)
 
 pub returns : goal.returns
 returns c = is_done view face_row c.args.items.now c.loop-item.item-index c.loop-item.item-index (map face_row_data c.loop-item.rows.items) _ c.loop-item-test.false c.loop-item.invariant.reads

@@ -4,7 +4,7 @@ use Rattle.std.proofs.lemmas.List.FromFn.{map-range_with_len_more}
 use Rattle.part_file.specs.Part.{face_data}
 use Rattle.part_file.specs.Rows.{face_row_data}
 use Rattle.part_file.specs.PartFile.{face_of}
-use Rattle.part_file.proofs.rules.faces_of.Goals as goal
+use Rattle.part_file.proofs.faces.faces_of.Goals as goal
 
 pub loop-face-preserved : goal.loop-face-preserved
 loop-face-preserved c =

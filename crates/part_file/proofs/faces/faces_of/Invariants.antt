@@ -3,7 +3,7 @@ use Rattle.std.specs.List.{range_with_len}
 use Rattle.part_file.specs.Part.{face_data}
 use Rattle.part_file.specs.Rows.{face_row_data}
 use Rattle.part_file.specs.PartFile.{face_of}
-use Rattle.part_file.proofs.rules.faces_of.Given as goal
+use Rattle.part_file.proofs.faces.faces_of.Given as goal
 
 abbrev pub invariant-loop-face : goal.invariant-loop-face
 invariant-loop-face l = record {

@@ -1,10 +1,9 @@
 use Rattle.std.proofs.Common.{ℕ, length, map, rules, arith}
 use borrow.Author.Tests.{tests}
 use Rattle.std.proofs.lemmas.Iterator.{cases_from_all, YieldsList-from_range}
-use Rattle.part_file.specs.Part.{face_data}
-use Rattle.part_file.specs.PartRules.{IsFaceOf}
+use Rattle.part_file.specs.Part.{face_data, IsFaceOf}
 use Rattle.part_file.proofs.PartRules.{each_below}
-use Rattle.part_file.proofs.valid.are_faces.Goals as goal
+use Rattle.part_file.proofs.rules.are_faces.Goals as goal
 
 pub returns : goal.returns
 returns c =
