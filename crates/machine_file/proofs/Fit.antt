@@ -3,17 +3,20 @@ use Rattle.std.proofs.Common.{◌≡◌, ℕ, suc, ◌+◌, ◌≤◌, ℤ, pos,
 use Rattle.std.proofs.lemmas.Int.{ints}
 use Rattle.std.proofs.lemmas.List.Elements.{All-nil, All-cons}
 use Rattle.toml.specs.Data.{Data, Members}
-use Rattle.toml_fields.specs.Fields.{within, whole_at, integer_at, has_unknown_key}
+use Rattle.toml_fields.specs.Fields.{whole_at, integer_at, has_unknown_key}
 use Rattle.toml_fields.specs.Lists.{integers_of}
+use Rattle.toml_fields.specs.Ranges.{IsWithin, is_range}
 use Rattle.toml_fields.specs.Results.{each_from, refuse_if}
-use Rattle.toml_fields.proofs.Bind.{bind_ok, ok_same, ok_or_ok, within_ends}
+use Rattle.toml_fields.proofs.Bind.{bind_ok, ok_same, ok_or_ok, checked_is_within}
+use Rattle.toml_fields.proofs.Decided.{range_decided}
 use Rattle.machine_file.specs.declared.fault.MachineFault.TheVariants.{BadField, UnknownKey, BadBox}
 use Rattle.machine_file.specs.declared.machine.Fixed.{Fixed}
 use Rattle.machine_file.specs.declared.machine.GaugeRule.{GaugeRule}
 use Rattle.machine_file.specs.declared.machine.Costs.{Costs}
-use Rattle.machine_file.specs.Machine.{farthest, IsWithin, IsRange, IsFixed, IsGaugeRule, IsCosts}
-use Rattle.machine_file.specs.MachineFile.{is_span, range_of, fixed_of, is_fixed, frame_of, box_of, length_at, gauge_of, cost_at, costs_of}
-use Rattle.machine_file.proofs.Decided.{span_decided, fixed_decided}
+use Rattle.machine_file.specs.declared.bounds.TheConstants.{GREATEST_LENGTH, LEAST_FINGER, GREATEST_COST}
+use Rattle.machine_file.specs.Machine.{farthest, IsBedRange, IsFixed, IsGaugeRule, IsCosts}
+use Rattle.machine_file.specs.MachineFile.{bed_range_of, fixed_of, is_fixed, frame_of, fixed_between, length_at, gauge_of, cost_at, costs_of}
+use Rattle.machine_file.proofs.Decided.{fixed_decided}
 
 -- items that are read in turn, each to a value of which a fact holds
 pub each_all : {A B E : Type 0} (read : ℕ → A → Result B E) (P : B → Type 0) → ((n : ℕ) (x : A) (y : B) → read n x ≡ Ok y → P y) → (n : ℕ) (xs : List A) (ys : List B) → each_from read n xs ≡ Ok ys → All P ys
@@ -44,42 +47,39 @@ kept : {A : Type 0} (test : Bool) (a b : A) → (if test then Some a else None) 
 kept true a b given = (refl, cc)
 kept false a b given = absurd (cc)
 
-pub range_is : (ends : List ℤ) (range : ℤ × ℤ) → range_of ends ≡ Some range → IsRange range
+pub range_is : (ends : List ℤ) (range : ℤ × ℤ) → bed_range_of ends ≡ Some range → IsBedRange range
 range_is [] range given = absurd (cc)
 range_is (x0 ∷ []) range given = absurd (cc)
 range_is (x0 ∷ x1 ∷ []) range given =
-    let fact = kept (is_span (neg_ℤ farthest) farthest x0 x1) (x0, x1) range given in
-    subst (λ (r : ℤ × ℤ). IsRange r) fact.1 ((span_decided (neg_ℤ farthest) farthest x0 x1).0 fact.0)
+    let fact = kept (is_range (neg_ℤ farthest) farthest x0 x1) (x0, x1) range given in
+    subst (λ (r : ℤ × ℤ). IsBedRange r) fact.1 ((range_decided (neg_ℤ farthest) farthest x0 x1).0 fact.0)
 range_is (x0 ∷ x1 ∷ x2 ∷ more) range given = absurd (cc)
 
-pub frame_is : (i : ℕ) (item : Data) (range : ℤ × ℤ) → frame_of i item ≡ Ok range → IsRange range
+pub frame_is : (i : ℕ) (item : Data) (range : ℤ × ℤ) → frame_of i item ≡ Ok range → IsBedRange range
 frame_is i item range given =
-    let found = then_some (integers_of 2 item) range_of range (ok_or_ok (option_and_then range_of (integers_of 2 item)) (BadBox 0) range given) in
+    let found = then_some (integers_of 2 item) bed_range_of range (ok_or_ok (option_and_then bed_range_of (integers_of 2 item)) (BadBox 0) range given) in
     range_is found.0 range found.2
 
-pub box_is : (low high : ℤ) (i : ℕ) (item : Data) (box : Fixed) → box_of low high i item ≡ Ok box → IsFixed low high box
+pub box_is : (low high : ℤ) (i : ℕ) (item : Data) (box : Fixed) → fixed_between low high i item ≡ Ok box → IsFixed low high box
 box_is low high i item box given =
     let found = then_some (fixed_of item) (λ read. if is_fixed low high read then Some read else None) box (ok_or_ok (option_and_then (λ read. if is_fixed low high read then Some read else None) (fixed_of item)) (BadBox 0) box given) in
     let fact = kept (is_fixed low high found.0) found.0 box found.2 in
     subst (λ (b : Fixed). IsFixed low high b) fact.1 ((fixed_decided low high found.0).0 fact.0)
 
--- an integer that is read is within its ends
-pub within_is : (low high : ℤ) (o : Option ℤ) (n : ℤ) → option_and_then (within low high) o ≡ Some n → IsWithin low high n
-within_is low high o n given = let ends = within_ends low high o n given in record { bottom = ends.0; top = ends.1 }
-
-pub length_is : (low : ℤ) (key : List ℕ) (number : ℕ) (ms : Members) (n : ℤ) → length_at low key number ms ≡ Ok n → IsWithin low (pos 10000000) n
-length_is low key number ms n given = within_is low (pos 10000000) (whole_at key ms) n (ok_or_ok (integer_at low (pos 10000000) key ms) (BadField 1 number) n given)
+-- a length of the backgauge that is read is within its ends
+pub length_is : (low : ℤ) (key : List ℕ) (number : ℕ) (ms : Members) (n : ℤ) → length_at low key number ms ≡ Ok n → IsWithin low GREATEST_LENGTH n
+length_is low key number ms n given = checked_is_within low GREATEST_LENGTH (whole_at key ms) n (ok_or_ok (integer_at low GREATEST_LENGTH key ms) (BadField 1 number) n given)
 
 mapped : {A B : Type 0} (f : A → B) (o : Option A) (b : B) → option_map f o ≡ Some b → (a : A) × (o ≡ Some a) × (f a ≡ b)
 mapped f None b given = absurd (cc)
 mapped f (Some a) b given = (a, refl, cc)
 
-pub cost_is : (key : List ℕ) (number : ℕ) (ms : Members) (n : ℕ) → cost_at key number ms ≡ Ok n → n ≤ 1000000
+pub cost_is : (key : List ℕ) (number : ℕ) (ms : Members) (n : ℕ) → cost_at key number ms ≡ Ok n → n ≤ GREATEST_COST
 cost_is key number ms n given =
-    let found = mapped unsigned_abs (integer_at (pos 0) (pos 1000000) key ms) n (ok_or_ok (option_map unsigned_abs (integer_at (pos 0) (pos 1000000) key ms)) (BadField 2 number) n given) in
-    let ends = within_ends (pos 0) (pos 1000000) (whole_at key ms) found.0 found.1 in
+    let found = mapped unsigned_abs (integer_at (pos 0) (pos GREATEST_COST) key ms) n (ok_or_ok (option_map unsigned_abs (integer_at (pos 0) (pos GREATEST_COST) key ms)) (BadField 2 number) n given) in
+    let ends = checked_is_within (pos 0) (pos GREATEST_COST) (whole_at key ms) found.0 found.1 in
     let same : unsigned_abs found.0 ≡ n = found.2 in
-    omega (arith, ints, ends.0, ends.1)
+    omega (arith, ints, ends.bottom, ends.top)
 
 pub gauge_is : (ms : Members) (rule : GaugeRule) → gauge_of ms ≡ Ok rule → IsGaugeRule rule
 unfolding gauge_of
@@ -87,9 +87,9 @@ gauge_is ms rule given =
     let near = bind_ok (length_at (pos 0) (codes "near") 9 ms) _ rule given in
     let far = bind_ok (length_at (pos 0) (codes "far") 10 ms) _ rule near.2 in
     let inset = bind_ok (length_at (pos 0) (codes "inset") 11 ms) _ rule far.2 in
-    let finger = bind_ok (length_at (pos 1) (codes "finger") 12 ms) _ rule inset.2 in
+    let finger = bind_ok (length_at LEAST_FINGER (codes "finger") 12 ms) _ rule inset.2 in
     let gap = bind_ok (length_at (pos 0) (codes "gap") 13 ms) _ rule finger.2 in
-    let depth = bind_ok (length_at (pos 1) (codes "depth") 14 ms) _ rule gap.2 in
+    let depth = bind_ok (length_at LEAST_FINGER (codes "depth") 14 ms) _ rule gap.2 in
     let above = bind_ok (length_at (pos 0) (codes "above") 15 ms) _ rule depth.2 in
     let below = bind_ok (length_at (pos 0) (codes "below") 16 ms) _ rule above.2 in
     let known = bind_ok (refuse_if (has_unknown_key (codes "near" ∷ codes "far" ∷ codes "inset" ∷ codes "finger" ∷ codes "gap" ∷ codes "depth" ∷ codes "above" ∷ codes "below" ∷ []) ms) (UnknownKey 1)) _ rule below.2 in
@@ -98,9 +98,9 @@ gauge_is ms rule given =
       near = length_is (pos 0) (codes "near") 9 ms near.0 near.1;
       far = length_is (pos 0) (codes "far") 10 ms far.0 far.1;
       inset = length_is (pos 0) (codes "inset") 11 ms inset.0 inset.1;
-      finger = length_is (pos 1) (codes "finger") 12 ms finger.0 finger.1;
+      finger = length_is LEAST_FINGER (codes "finger") 12 ms finger.0 finger.1;
       gap = length_is (pos 0) (codes "gap") 13 ms gap.0 gap.1;
-      depth = length_is (pos 1) (codes "depth") 14 ms depth.0 depth.1;
+      depth = length_is LEAST_FINGER (codes "depth") 14 ms depth.0 depth.1;
       above = length_is (pos 0) (codes "above") 15 ms above.0 above.1;
       below = length_is (pos 0) (codes "below") 16 ms below.0 below.1;
     } in

@@ -1,6 +1,8 @@
 -- A machine as its numbers, lists and texts, and the rules that each machine that is read meets.
-use Rattle.std.specs.Prelude.{ℕ, ◌<◌, ◌≤◌, ℤ, pos, neg_ℤ, ◌≤ℤ◌, ◌<ℤ◌, List, length, map, Bool, All, IsTrue}
+use Rattle.std.specs.Prelude.{ℕ, ◌<◌, ◌≤◌, ℤ, pos, neg_ℤ, List, length, map, Bool, All, IsTrue}
 use Rattle.toml_fields.specs.Fields.{is_name}
+use Rattle.toml_fields.specs.Ranges.{IsWithin, IsRange}
+use Rattle.machine_file.specs.declared.bounds.TheConstants.{FARTHEST, MOST_FRAMES, MOST_BOXES, MOST_STAGES, MOST_PIECES, LEAST_PIECE, GREATEST_PIECE, GREATEST_UNCOVERED, GREATEST_LENGTH, LEAST_FINGER, GREATEST_COST, GREATEST_FORCE}
 use Rattle.machine_file.specs.declared.machine.Fixed.{Fixed}
 use Rattle.machine_file.specs.declared.machine.GaugeRule.{GaugeRule}
 use Rattle.machine_file.specs.declared.machine.Costs.{Costs}
@@ -22,7 +24,8 @@ pub record FixturesData : Type 0 where
   pub upper : List Fixed
   pub lower : List Fixed
 
--- a machine: lengths are in micrometres, costs in tenths of a second, the force in newtons
+-- a machine: lengths are in micrometres, costs in tenths of a second, the force in newtons; `uncovered` is how much of a bend
+-- line may stay uncovered at each end
 pub record MachineData : Type 0 where
   pub bed : ℤ × ℤ
   pub frames : List (ℤ × ℤ)
@@ -35,8 +38,8 @@ pub record MachineData : Type 0 where
   pub gang : Bool
   pub force : ℤ
 
-abbrev pub stage_data : StageText → StageTextData
-stage_data s = record { punch = s.punch.bytes; die = s.die.bytes; at = s.at; pieces = s.pieces.items }
+abbrev pub stage_text_data : StageText → StageTextData
+stage_text_data s = record { punch = s.punch.bytes; die = s.die.bytes; at = s.at; pieces = s.pieces.items }
 
 abbrev pub fixtures_data : Fixtures → FixturesData
 fixtures_data f = record { bed = f.bed; frames = f.frames.items; upper = f.upper.items; lower = f.lower.items }
@@ -50,74 +53,82 @@ machine_data m = record {
   uncovered = m.uncovered;
   gauge = m.gauge;
   cost = m.cost;
-  stages = map stage_data m.stages.items;
+  stages = map stage_text_data m.stages.items;
   gang = m.gang;
   force = m.force;
 }
 
--- the greatest coordinate: 20 m
+-- the greatest distance of a coordinate from 0
 abbrev pub farthest : ℤ
-farthest = pos 20000000
-
--- a number within two ends
-pub record IsWithin (low high n : ℤ) : Type 0 where
-  pub bottom : low ≤ℤ n
-  pub top : n ≤ℤ high
-
--- a range that isn't empty, within two ends
-pub record IsSpan (low high from to : ℤ) : Type 0 where
-  pub order : from <ℤ to
-  pub bottom : low ≤ℤ from
-  pub top : to ≤ℤ high
+farthest = FARTHEST
 
 -- a range along the bed
-abbrev pub IsRange : ℤ × ℤ → Type 0
-IsRange range = IsSpan (neg_ℤ farthest) farthest range.0 range.1
+abbrev pub IsBedRange : ℤ × ℤ → Type 0
+IsBedRange range = IsRange (neg_ℤ farthest) farthest range.0 range.1
+
+-- a fixed box's ranges along and across the bed
+pub record HasFootprint (box : Fixed) : Type 0 where
+  pub along : IsRange (neg_ℤ farthest) farthest box.x0 box.x1
+  pub across : IsRange (neg_ℤ farthest) farthest box.rect.y0 box.rect.y1
 
 -- a fixed box with an interior, between two heights
 pub record IsFixed (low high : ℤ) (box : Fixed) : Type 0 where
-  pub along : IsSpan (neg_ℤ farthest) farthest box.x0 box.x1
-  pub across : IsSpan (neg_ℤ farthest) farthest box.rect.y0 box.rect.y1
-  pub upwards : IsSpan low high box.rect.z0 box.rect.z1
+  pub footprint : HasFootprint box
+  pub upwards : IsRange low high box.rect.z0 box.rect.z1
 
+-- a length of the backgauge
+abbrev pub IsLength : ℤ → Type 0
+IsLength n = IsWithin (pos 0) GREATEST_LENGTH n
+
+-- the width or the depth of a finger
+abbrev pub IsFinger : ℤ → Type 0
+IsFinger n = IsWithin LEAST_FINGER GREATEST_LENGTH n
+
+-- the rules of the backgauge
 pub record IsGaugeRule (rule : GaugeRule) : Type 0 where
-  pub near : IsWithin (pos 0) (pos 10000000) rule.near
-  pub far : IsWithin (pos 0) (pos 10000000) rule.far
-  pub inset : IsWithin (pos 0) (pos 10000000) rule.inset
-  pub finger : IsWithin (pos 1) (pos 10000000) rule.finger
-  pub gap : IsWithin (pos 0) (pos 10000000) rule.gap
-  pub depth : IsWithin (pos 1) (pos 10000000) rule.depth
-  pub above : IsWithin (pos 0) (pos 10000000) rule.above
-  pub below : IsWithin (pos 0) (pos 10000000) rule.below
+  pub near : IsLength rule.near
+  pub far : IsLength rule.far
+  pub inset : IsLength rule.inset
+  pub finger : IsFinger rule.finger
+  pub gap : IsLength rule.gap
+  pub depth : IsFinger rule.depth
+  pub above : IsLength rule.above
+  pub below : IsLength rule.below
 
+-- the rules of the costs
 pub record IsCosts (cost : Costs) : Type 0 where
-  pub stroke : cost.stroke ≤ 1000000
-  pub quarter : cost.quarter ≤ 1000000
-  pub half : cost.half ≤ 1000000
-  pub flip : cost.flip ≤ 1000000
-  pub roll : cost.roll ≤ 1000000
-  pub stage : cost.stage ≤ 1000000
+  pub stroke : cost.stroke ≤ GREATEST_COST
+  pub quarter : cost.quarter ≤ GREATEST_COST
+  pub half : cost.half ≤ GREATEST_COST
+  pub flip : cost.flip ≤ GREATEST_COST
+  pub roll : cost.roll ≤ GREATEST_COST
+  pub stage : cost.stage ≤ GREATEST_COST
 
+-- the length of a piece
+abbrev pub IsPiece : ℤ → Type 0
+IsPiece n = IsWithin LEAST_PIECE GREATEST_PIECE n
+
+-- the rules of a stage
 pub record IsStageText (stage : StageTextData) : Type 0 where
   pub punch : IsTrue (is_name stage.punch)
   pub die : IsTrue (is_name stage.die)
   pub at : IsWithin (neg_ℤ farthest) farthest stage.at
   pub some_piece : 0 < length stage.pieces
-  pub few_pieces : length stage.pieces ≤ 32
-  pub pieces : All (IsWithin (pos 1) (pos 10000000)) stage.pieces
+  pub few_pieces : length stage.pieces ≤ MOST_PIECES
+  pub pieces : All IsPiece stage.pieces
 
 -- the rules of the machine file
 pub record IsMachine (m : MachineData) : Type 0 where
-  pub bed : IsRange m.bed
-  pub frames : All IsRange m.frames
-  pub few_frames : length m.frames ≤ 4
+  pub bed : IsBedRange m.bed
+  pub frames : All IsBedRange m.frames
+  pub few_frames : length m.frames ≤ MOST_FRAMES
   pub upper : All (IsFixed (pos 0) farthest) m.upper
-  pub few_upper : length m.upper ≤ 16
+  pub few_upper : length m.upper ≤ MOST_BOXES
   pub lower : All (IsFixed (neg_ℤ farthest) (pos 0)) m.lower
-  pub few_lower : length m.lower ≤ 16
-  pub uncovered : IsWithin (pos 0) (pos 1000000) m.uncovered
+  pub few_lower : length m.lower ≤ MOST_BOXES
+  pub uncovered : IsWithin (pos 0) GREATEST_UNCOVERED m.uncovered
   pub gauge : IsGaugeRule m.gauge
   pub cost : IsCosts m.cost
   pub stages : All IsStageText m.stages
-  pub few_stages : length m.stages ≤ 6
-  pub force : IsWithin (pos 0) (pos 100000000) m.force
+  pub few_stages : length m.stages ≤ MOST_STAGES
+  pub force : IsWithin (pos 0) GREATEST_FORCE m.force

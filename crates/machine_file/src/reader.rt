@@ -1,14 +1,15 @@
 //! Reads a machine file.
 ghost use Rattle.std.specs.Prelude.{◌≡◌, ◌≤◌, IfOk, IsFalse, length, map};
 ghost use Rattle.toml.specs.View.{view, table_view};
-ghost use Rattle.toml_fields.specs.Results.{Gives};
+ghost use Rattle.toml_fields.specs.Results.{Gives, GivesOr};
 ghost use Rattle.machine_file.specs.Machine.{machine_data, IsMachine};
-ghost use Rattle.machine_file.specs.MachineFile.{ends_in, rows_in, uncovered_in, table_in, stages_in, gang_in, force_in, too_many, machine_of, machine_of_table};
+ghost use Rattle.machine_file.specs.MachineFile.{ends_in, rows_in, uncovered_in, table_in, stages_in, gang_in, force_in, too_many, machine_of, machine_of_members};
 
+use crate::bounds::{GREATEST_FORCE, GREATEST_UNCOVERED, MOST_BOXES, MOST_FRAMES, MOST_STAGES};
 use crate::boxes::{bad_field, fixtures_of};
 use crate::fault::MachineFault;
 use crate::machine::Machine;
-use crate::stages::stages_of;
+use crate::stages::stage_texts_of;
 use crate::tables::{costs_of, gauge_of};
 use std::alloc::Global;
 use toml::{Table, Value};
@@ -33,7 +34,7 @@ const KEYS: [&str; 10] = [
 
 /// The two ends of the bed.
 fn ends_in(table: &Table) -> Result<[i64; 2], MachineFault>
-    ensures { Gives MachineFault.NoMemory (λ ends. ends) result (ends_in (table_view table.now)) }
+    ensures { Gives (λ ends. ends) result (ends_in (table_view table.now)) }
 {
     match value_at(table, "bed") {
         Some(value) => integers_of::<2>(value).ok_or(bad_field(0, 1)),
@@ -48,62 +49,69 @@ fn rows_in<'a>(
     count: usize,
     number: u8,
 ) -> Result<&'a [Value], MachineFault>
-    ensures { Gives MachineFault.NoMemory (λ items. map view items.now) result (rows_in count key.now number (table_view table.now)) }
+    ensures { Gives (λ items. map view items.now) result
+        (rows_in count key.now number (table_view table.now)) }
 {
     rows_or_none(table, key, count).ok_or(bad_field(0, number))
 }
 
-/// How much of a bend line may lie outside its stage, in micrometres.
+/// How much of a bend line may stay uncovered at each end, in micrometres.
 fn uncovered_in(table: &Table) -> Result<i64, MachineFault>
-    ensures { Gives MachineFault.NoMemory (λ n. n) result (uncovered_in (table_view table.now)) }
+    ensures { Gives (λ n. n) result (uncovered_in (table_view table.now)) }
 {
-    integer_at(table, "uncovered", 0, 1_000_000).ok_or(bad_field(0, 5))
+    integer_at(table, "uncovered", 0, GREATEST_UNCOVERED).ok_or(bad_field(0, 5))
 }
 
 /// The table at a key, or the refusal of the key's number.
 fn table_in<'a>(table: &'a Table, key: &str, number: u8) -> Result<&'a Table, MachineFault>
-    ensures { Gives MachineFault.NoMemory (λ inner. table_view inner.now) result (table_in key.now number (table_view table.now)) }
+    ensures { Gives (λ inner. table_view inner.now) result
+        (table_in key.now number (table_view table.now)) }
 {
     table_at(table, key).ok_or(bad_field(0, number))
 }
 
 /// The stages' tables.
 fn stages_in(table: &Table) -> Result<&[Value], MachineFault>
-    ensures { Gives MachineFault.NoMemory (λ items. map view items.now) result (stages_in (table_view table.now)) }
+    ensures { Gives (λ items. map view items.now) result (stages_in (table_view table.now)) }
 {
     tables_or_none(table, "stage").ok_or(bad_field(0, 8))
 }
 
 /// 1 where several flanges may be bent in one stroke, else 0.
 fn gang_in(table: &Table) -> Result<i64, MachineFault>
-    ensures { Gives MachineFault.NoMemory (λ n. n) result (gang_in (table_view table.now)) }
+    ensures { Gives (λ n. n) result (gang_in (table_view table.now)) }
 {
     integer_or(table, "gang", 0, 0, 1).ok_or(bad_field(0, 27))
 }
 
 /// The greatest force in newtons, 0 for no limit.
 fn force_in(table: &Table) -> Result<i64, MachineFault>
-    ensures { Gives MachineFault.NoMemory (λ n. n) result (force_in (table_view table.now)) }
+    ensures { Gives (λ n. n) result (force_in (table_view table.now)) }
 {
-    integer_or(table, "force", 0, 0, 100_000_000).ok_or(bad_field(0, 28))
+    integer_or(table, "force", 0, 0, GREATEST_FORCE).ok_or(bad_field(0, 28))
 }
 
-/// Whether there are more than 4 frames, 16 upper boxes, 16 lower boxes or 6 stages.
+/// Whether there are too many frames, boxes above the bed, boxes below it, or stages.
 #[tactic(auto, using(toml_fields::proofs::Sizes::sizes))]
-fn too_many(frames: &[Value], upper: &[Value], lower: &[Value], stages: &[Value]) -> bool
-    ensures frames { IsFalse result → length frames.now ≤ 4 }
-    ensures upper { IsFalse result → length upper.now ≤ 16 }
-    ensures lower { IsFalse result → length lower.now ≤ 16 }
-    ensures stages { IsFalse result → length stages.now ≤ 6 }
-    ensures value { result ≡ too_many (map view frames.now) (map view upper.now) (map view lower.now) (map view stages.now) }
+fn are_too_many(frames: &[Value], upper: &[Value], lower: &[Value], stages: &[Value]) -> bool
+    ensures frames { IsFalse result → length frames.now ≤ MOST_FRAMES }
+    ensures upper { IsFalse result → length upper.now ≤ MOST_BOXES }
+    ensures lower { IsFalse result → length lower.now ≤ MOST_BOXES }
+    ensures stages { IsFalse result → length stages.now ≤ MOST_STAGES }
+    ensures value { result
+        ≡ too_many (map view frames.now) (map view upper.now) (map view lower.now)
+        (map view stages.now) }
 {
-    frames.len() > 4 || upper.len() > 16 || lower.len() > 16 || stages.len() > 6
+    frames.len() > MOST_FRAMES
+        || upper.len() > MOST_BOXES
+        || lower.len() > MOST_BOXES
+        || stages.len() > MOST_STAGES
 }
 
 /// The machine of the top table.
-#[tactic(auto, using(toml_fields::proofs::Sizes::sizes), unfolding(crate::specs::MachineFile::machine_of_table))]
-fn machine_of_table(table: &Table) -> Result<Machine, MachineFault>
-    ensures { Gives MachineFault.NoMemory machine_data result (machine_of_table (table_view table.now)) }
+#[tactic(auto, using(toml_fields::proofs::Sizes::sizes), unfolding(crate::specs::MachineFile::machine_of_members))]
+fn machine_of_members(table: &Table) -> Result<Machine, MachineFault>
+    ensures { Gives machine_data result (machine_of_members (table_view table.now)) }
 {
     let ends = ends_in(table)?;
     let frames = rows_in(table, "frames", 2, 2)?;
@@ -118,13 +126,13 @@ fn machine_of_table(table: &Table) -> Result<Machine, MachineFault>
     if has_unknown_key(table, &KEYS) {
         return Err(MachineFault::UnknownKey { table: 0 });
     }
-    if too_many(frames, upper, lower, stages) {
+    if are_too_many(frames, upper, lower, stages) {
         return Err(MachineFault::TooMany { table: 0 });
     }
     let fixtures = fixtures_of(ends, frames, upper, lower)?;
     let gauge = gauge_of(gauge)?;
     let cost = costs_of(cost)?;
-    let stages = stages_of(stages)?;
+    let stages = stage_texts_of(stages)?;
     Ok(Machine {
         bed: fixtures.bed,
         frames: fixtures.frames,
@@ -140,13 +148,14 @@ fn machine_of_table(table: &Table) -> Result<Machine, MachineFault>
 }
 
 /// The machine of a file, or its first refusal: the document, then table by table the keys in
-/// order, an unknown key, a list too long, a box out of order or range.
+/// order, an unknown key, a list too long, a box out of order or range. Want of memory may be
+/// answered where the document is read.
 pub fn read_machine(alloc: Global, text: &[u8]) -> Result<Machine, MachineFault>
-    ensures value { Gives MachineFault.NoMemory machine_data result (machine_of text.now) }
+    ensures value { GivesOr MachineFault.NoMemory machine_data result (machine_of text.now) }
     ensures fit { IfOk result (λ machine. IsMachine (machine_data machine)) }
 {
     match read_document(alloc, text) {
-        Ok(table) => machine_of_table(&table),
+        Ok(table) => machine_of_members(&table),
         Err(DocumentFault::NotToml) => Err(MachineFault::NotToml),
         Err(DocumentFault::NoMemory) => Err(MachineFault::NoMemory),
     }

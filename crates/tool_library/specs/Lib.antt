@@ -1,4 +1,3 @@
 pub mod Tools
-pub mod ToolRules
 pub mod Names
 pub mod ToolsFile

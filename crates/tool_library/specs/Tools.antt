@@ -1,16 +1,20 @@
 -- The tools of a shop as texts, numbers and lists, and what tools that were read keep to.
 -- Lengths are in micrometres, loads and limits in newtons per millimetre.
-use Rattle.std.specs.Prelude.{◌≡◌, ℕ, ◌≤◌, ◌%◌, ℤ, pos, neg_ℤ, ◌≤ℤ◌, ◌<ℤ◌, unsigned_abs, List, length, map, All, IsTrue}
+use Rattle.std.specs.Prelude.{◌≡◌, ℕ, ◌≤◌, ◌%◌, ℤ, pos, neg_ℤ, unsigned_abs, List, length, map, All, IsTrue}
 use Rattle.brake_base.specs.declared.plane.Rect.{Rect}
 use Rattle.toml_fields.specs.Fields.{is_name}
+use Rattle.toml_fields.specs.Ranges.{IsWithin, IsRange}
+use Rattle.part_file.specs.declared.bounds.TheConstants.{LEAST_THICKNESS, GREATEST_THICKNESS}
 use Rattle.allowance.specs.AllowTable.{RowData, table_data, IsAllowTable}
 use Rattle.tool_library.specs.Names.{AreDistinct}
+use Rattle.tool_library.specs.declared.bounds.TheConstants.{MOST_PUNCHES, MOST_DIES, MOST_LOAD_ROWS, MOST_BOXES, MOST_SECTIONS, LEAST_HEIGHT, GREATEST_HEIGHT, FARTHEST_ACROSS, LEAST_LENGTH, GREATEST_LENGTH, LEAST_COUNT, GREATEST_COUNT, LEAST_OPENING, GREATEST_OPENING, GREATEST_FLANGE, GREATEST_LIMIT, LEAST_LOAD, GREATEST_LOAD}
 use Rattle.tool_library.specs.declared.tools.Punch.{Punch}
 use Rattle.tool_library.specs.declared.tools.Die.{Die}
 use Rattle.tool_library.specs.declared.tools.LoadRow.{LoadRow}
 use Rattle.tool_library.specs.declared.tools.Tools.{Tools}
 
--- an upper tool: the boxes of its profile, and the lengths of its sections with their counts
+-- an upper tool: the size of the wedge at its tip, the boxes of its profile with z up from the tip, and the lengths of
+-- its sections with their counts
 pub record PunchData : Type 0 where
   pub name : List ℕ
   pub height : ℤ
@@ -19,7 +23,8 @@ pub record PunchData : Type 0 where
   pub sections : List (ℤ × ℕ)
   pub limit : ℤ
 
--- a lower tool, with the width of its opening and the shortest flange that it can bend
+-- a lower tool: the width of its opening, the shortest flange that it can bend, and the boxes of its profile with z
+-- upwards, negative below its top
 pub record DieData : Type 0 where
   pub name : List ℕ
   pub height : ℤ
@@ -29,7 +34,7 @@ pub record DieData : Type 0 where
   pub sections : List (ℤ × ℕ)
   pub limit : ℤ
 
--- the force that a stroke needs per length
+-- the force that a stroke needs per length, by material, thickness and opening
 pub record LoadData : Type 0 where
   pub material : List ℕ
   pub thickness : ℤ
@@ -56,74 +61,87 @@ load_data r = record { material = r.material.bytes; thickness = r.thickness; v =
 abbrev pub tools_data : Tools → ToolsData
 tools_data t = record { punches = map punch_data t.punches.items; dies = map die_data t.dies.items; allow = table_data t.allow; loads = map load_data t.loads.items }
 
--- the first end is below the second, and both are within the bounds
-pub record IsRange (low high from to : ℤ) : Type 0 where
-  pub order : from <ℤ to
-  pub bottom : low ≤ℤ from
-  pub top : to ≤ℤ high
+-- the names of tools
+abbrev pub names_of_punches : List PunchData → List (List ℕ)
+names_of_punches punches = map (λ p. p.name) punches
 
--- the box has an interior, lies within a metre of the tool's middle in y, and between two heights in z
-pub record IsBox (low high : ℤ) (box : Rect) : Type 0 where
-  pub across : IsRange (neg_ℤ (pos 1000000)) (pos 1000000) box.y0 box.y1
+abbrev pub names_of_dies : List DieData → List (List ℕ)
+names_of_dies dies = map (λ d. d.name) dies
+
+-- the box has an interior, lies near the tool's middle in y, and between two heights in z
+pub record IsBodyBox (low high : ℤ) (box : Rect) : Type 0 where
+  pub across : IsRange (neg_ℤ FARTHEST_ACROSS) FARTHEST_ACROSS box.y0 box.y1
   pub upwards : IsRange low high box.z0 box.z1
 
 -- a length that the shop has, and how often
 pub record IsSection (section : ℤ × ℕ) : Type 0 where
-  pub length_low : pos 1 ≤ℤ section.0
-  pub length_high : section.0 ≤ℤ pos 10000000
-  pub count_low : 1 ≤ section.1
-  pub count_high : section.1 ≤ 1000
+  pub length : IsWithin LEAST_LENGTH GREATEST_LENGTH section.0
+  pub count : IsWithin LEAST_COUNT GREATEST_COUNT (pos section.1)
+
+-- the width of an opening is even
+pub record IsOpening (v : ℤ) : Type 0 where
+  pub range : IsWithin LEAST_OPENING GREATEST_OPENING v
+  pub even : unsigned_abs v % 2 ≡ 0
+
+-- the height of a tool
+abbrev pub IsHeight : ℤ → Type 0
+IsHeight n = IsWithin LEAST_HEIGHT GREATEST_HEIGHT n
+
+-- the limit of a tool's load
+abbrev pub IsLimit : ℤ → Type 0
+IsLimit n = IsWithin (pos 0) GREATEST_LIMIT n
+
+-- the shortest flange that a die can bend
+abbrev pub IsFlange : ℤ → Type 0
+IsFlange n = IsWithin (pos 0) GREATEST_FLANGE n
+
+-- the sizes of a punch: its wedge's is at most its height
+pub record HasPunchSizes (p : PunchData) : Type 0 where
+  pub height : IsHeight p.height
+  pub nose : IsWithin (pos 0) p.height p.nose
+  pub limit : IsLimit p.limit
+
+-- the sizes of a die
+pub record HasDieSizes (d : DieData) : Type 0 where
+  pub height : IsHeight d.height
+  pub v : IsOpening d.v
+  pub least_flange : IsFlange d.least_flange
+  pub limit : IsLimit d.limit
+
+-- the lists of a tool whose body lies between two heights
+pub record HasLists (low high : ℤ) (body : List Rect) (sections : List (ℤ × ℕ)) : Type 0 where
+  pub few_boxes : length body ≤ MOST_BOXES
+  pub each_box : All (IsBodyBox low high) body
+  pub few_sections : length sections ≤ MOST_SECTIONS
+  pub each_section : All IsSection sections
 
 -- the rules of a punch
 pub record IsPunch (p : PunchData) : Type 0 where
   pub name : IsTrue (is_name p.name)
-  pub height_low : pos 1 ≤ℤ p.height
-  pub height_high : p.height ≤ℤ pos 1000000
-  pub nose_low : pos 0 ≤ℤ p.nose
-  pub nose_high : p.nose ≤ℤ p.height
-  pub few_boxes : length p.body ≤ 8
-  pub boxes : All (IsBox (pos 0) p.height) p.body
-  pub few_sections : length p.sections ≤ 16
-  pub sections : All IsSection p.sections
-  pub limit_low : pos 0 ≤ℤ p.limit
-  pub limit_high : p.limit ≤ℤ pos 1000000
+  pub sizes : HasPunchSizes p
+  pub lists : HasLists (pos 0) p.height p.body p.sections
 
 -- the rules of a die
 pub record IsDie (d : DieData) : Type 0 where
   pub name : IsTrue (is_name d.name)
-  pub height_low : pos 1 ≤ℤ d.height
-  pub height_high : d.height ≤ℤ pos 1000000
-  pub v_low : pos 2 ≤ℤ d.v
-  pub v_high : d.v ≤ℤ pos 1000000
-  pub v_even : unsigned_abs d.v % 2 ≡ 0
-  pub least_flange_low : pos 0 ≤ℤ d.least_flange
-  pub least_flange_high : d.least_flange ≤ℤ pos 1000000
-  pub few_boxes : length d.body ≤ 8
-  pub boxes : All (IsBox (neg_ℤ d.height) (pos 0)) d.body
-  pub few_sections : length d.sections ≤ 16
-  pub sections : All IsSection d.sections
-  pub limit_low : pos 0 ≤ℤ d.limit
-  pub limit_high : d.limit ≤ℤ pos 1000000
+  pub sizes : HasDieSizes d
+  pub lists : HasLists (neg_ℤ d.height) (pos 0) d.body d.sections
 
 -- the rules of a load row
 pub record IsLoad (r : LoadData) : Type 0 where
   pub material : IsTrue (is_name r.material)
-  pub thickness_low : pos 2 ≤ℤ r.thickness
-  pub thickness_high : r.thickness ≤ℤ pos 50000
-  pub v_low : pos 2 ≤ℤ r.v
-  pub v_high : r.v ≤ℤ pos 1000000
-  pub v_even : unsigned_abs r.v % 2 ≡ 0
-  pub load_low : pos 1 ≤ℤ r.load
-  pub load_high : r.load ≤ℤ pos 1000000
+  pub thickness : IsWithin LEAST_THICKNESS GREATEST_THICKNESS r.thickness
+  pub v : IsOpening r.v
+  pub load : IsWithin LEAST_LOAD GREATEST_LOAD r.load
 
 -- what tools that were read keep to
 pub record IsTools (t : ToolsData) : Type 0 where
-  pub few_punches : length t.punches ≤ 32
+  pub few_punches : length t.punches ≤ MOST_PUNCHES
   pub punches : All IsPunch t.punches
-  pub punch_names : AreDistinct (map (λ p. p.name) t.punches)
-  pub few_dies : length t.dies ≤ 32
+  pub punch_names : AreDistinct (names_of_punches t.punches)
+  pub few_dies : length t.dies ≤ MOST_DIES
   pub dies : All IsDie t.dies
-  pub die_names : AreDistinct (map (λ d. d.name) t.dies)
+  pub die_names : AreDistinct (names_of_dies t.dies)
   pub allow : IsAllowTable t.allow
-  pub few_loads : length t.loads ≤ 256
+  pub few_loads : length t.loads ≤ MOST_LOAD_ROWS
   pub loads : All IsLoad t.loads

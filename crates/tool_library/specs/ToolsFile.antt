@@ -1,25 +1,29 @@
 -- The tools that a file gives, or its first refusal. Table 0 is the top table; from table 1 on come the
 -- allow rows, the punches, the dies and the load rows. Keys are numbered for the refusals.
-use Rattle.std.specs.Prelude.{ℕ, ◌+◌, ◌==◌, ◌%◌, ℤ, pos, neg_ℤ, int_le, int_lt, unsigned_abs, List, [], ◌∷◌, codes, length, map, filter_map, Bool, true, false, not, ◌&&◌, ◌||◌, nat_lt, if◌then◌else◌, is_some, Option, Some, None, Result, Ok, Err, ok_or, option_map, option_and_then}
+use Rattle.std.specs.Prelude.{ℕ, ◌+◌, ◌==◌, ◌%◌, ℤ, pos, neg_ℤ, unsigned_abs, List, [], ◌∷◌, codes, length, filter_map, Bool, true, false, not, ◌&&◌, ◌||◌, nat_lt, if◌then◌else◌, is_some, Option, Some, None, Result, Ok, Err, ok_or, option_map, option_and_then}
 use Rattle.std.specs.List.{list_all}
 use Rattle.toml.specs.Data.{Data, Members, as_table}
 use Rattle.toml_fields.specs.Document.{document_of}
-use Rattle.toml_fields.specs.Fields.{has_key, has_unknown_key, name_at, integer_at, integer_or}
+use Rattle.toml_fields.specs.Fields.{has_key, has_unknown_key, name_at, whole_at, integer_at, integer_or}
 use Rattle.toml_fields.specs.Lists.{array_at, each_passes, integers_of, rows_at, tables_or_none}
+use Rattle.toml_fields.specs.Ranges.{is_within, is_range}
 use Rattle.toml_fields.specs.Results.{◌>>=◌, each_from, refuse_if, refuse_first}
 use Rattle.brake_base.specs.declared.plane.Rect.{Rect}
+use Rattle.part_file.specs.declared.bounds.TheConstants.{LEAST_THICKNESS, GREATEST_THICKNESS, LEAST_RADIUS, GREATEST_RADIUS}
+use Rattle.allowance.specs.declared.bounds.TheConstants.{LEAST_FACTOR, GREATEST_FACTOR, LEAST_MEASURED, GREATEST_HALF_DEDUCTION, MOST_ROWS}
 use Rattle.allowance.specs.AllowTable.{RowData}
 use Rattle.allowance.specs.declared.table.Factor.{Factor}
 use Rattle.allowance.specs.declared.table.Factor.TheVariants.{K, Measured}
 use Rattle.tool_library.specs.declared.fault.ToolFault.{ToolFault}
 use Rattle.tool_library.specs.declared.fault.ToolFault.TheVariants.{NotToml, BadField, UnknownKey, TooMany, SameName, BadBox}
+use Rattle.tool_library.specs.declared.bounds.TheConstants.{MOST_PUNCHES, MOST_DIES, MOST_LOAD_ROWS, MOST_BOXES, MOST_SECTIONS, LEAST_HEIGHT, GREATEST_HEIGHT, FARTHEST_ACROSS, LEAST_LENGTH, GREATEST_LENGTH, LEAST_COUNT, GREATEST_COUNT, LEAST_OPENING, GREATEST_OPENING, GREATEST_FLANGE, GREATEST_LIMIT, LEAST_LOAD, GREATEST_LOAD}
 use Rattle.tool_library.specs.Names.{is_repeat}
-use Rattle.tool_library.specs.Tools.{PunchData, DieData, LoadData, ToolsData}
+use Rattle.tool_library.specs.Tools.{PunchData, DieData, LoadData, ToolsData, names_of_punches, names_of_dies}
 
 -- the correction factor k in thousandths, or the measured half deduction q, by which of the two keys are there: exactly one may be
 abbrev pub factor_by : Bool → Bool → ℕ → Members → Result Factor ToolFault
-factor_by true false number table = ok_or (option_map K (integer_at (pos 0) (pos 1000) (codes "k") table)) (BadField number 7)
-factor_by false true number table = ok_or (option_map Measured (integer_at (pos 1) (pos 100000) (codes "q") table)) (BadField number 8)
+factor_by true false number table = ok_or (option_map K (integer_at LEAST_FACTOR GREATEST_FACTOR (codes "k") table)) (BadField number 7)
+factor_by false true number table = ok_or (option_map Measured (integer_at LEAST_MEASURED GREATEST_HALF_DEDUCTION (codes "q") table)) (BadField number 8)
 factor_by true true number table = Err (BadField number 7)
 factor_by false false number table = Err (BadField number 7)
 
@@ -31,28 +35,28 @@ factor_of number members = factor_by (has_key (codes "k") members) (has_key (cod
 unfoldable pub allow_row_of : ℕ → Members → Result RowData ToolFault
 allow_row_of number members = do
   material ← ok_or (name_at (codes "material") members) (BadField number 4)
-  thickness ← ok_or (integer_at (pos 2) (pos 50000) (codes "thickness") members) (BadField number 5)
-  radius ← ok_or (integer_at (pos 1) (pos 50000) (codes "radius") members) (BadField number 6)
+  thickness ← ok_or (integer_at LEAST_THICKNESS GREATEST_THICKNESS (codes "thickness") members) (BadField number 5)
+  radius ← ok_or (integer_at LEAST_RADIUS GREATEST_RADIUS (codes "radius") members) (BadField number 6)
   factor ← factor_of number members
   known ← refuse_if (has_unknown_key (codes "material" ∷ codes "thickness" ∷ codes "radius" ∷ codes "k" ∷ codes "q" ∷ []) members) (UnknownKey number)
   Ok (record { material = material; thickness = thickness; radius = radius; factor = factor })
 
 -- the box of four integers y0, y1, z0, z1
-abbrev pub box_by : List ℤ → Option Rect
-box_by (y0 ∷ y1 ∷ z0 ∷ z1 ∷ []) = Some (record { y0 = y0; y1 = y1; z0 = z0; z1 = z1 })
-box_by _ = None
+abbrev pub rect_by : List ℤ → Option Rect
+rect_by (y0 ∷ y1 ∷ z0 ∷ z1 ∷ []) = Some (record { y0 = y0; y1 = y1; z0 = z0; z1 = z1 })
+rect_by _ = None
 
 -- the box of an array of four integers
-abbrev pub box_of : Data → Option Rect
-box_of d = option_and_then box_by (integers_of 4 d)
+abbrev pub rect_of : Data → Option Rect
+rect_of d = option_and_then rect_by (integers_of 4 d)
 
 -- the boxes of a body
-abbrev pub boxes_of : List Data → List Rect
-boxes_of items = filter_map box_of items
+abbrev pub rects_of : List Data → List Rect
+rects_of items = filter_map rect_of items
 
--- the length of a section is from 1 to 10,000,000 micrometres, and its count from 1 to 1000
+-- a section's length and its count are in range
 abbrev pub is_section : ℤ → ℤ → Bool
-is_section length count = (int_le (pos 1) length && int_le length (pos 10000000)) && (int_le (pos 1) count && int_le count (pos 1000))
+is_section length count = is_within LEAST_LENGTH GREATEST_LENGTH length && is_within LEAST_COUNT GREATEST_COUNT count
 
 -- the section of a length and a count
 abbrev pub section_by : List ℤ → Option (ℤ × ℕ)
@@ -71,58 +75,58 @@ sections_at key members = option_and_then (each_passes (λ d. is_some (section_o
 abbrev pub sections_of : List Data → List (ℤ × ℕ)
 sections_of items = filter_map section_of items
 
--- a body has at most 8 boxes, and a tool at most 16 sections
+-- a body has too many boxes, or a tool too many sections
 abbrev pub too_many : List Data → List Data → Bool
-too_many body sections = nat_lt 8 (length body) || nat_lt 16 (length sections)
+too_many body sections = nat_lt MOST_BOXES (length body) || nat_lt MOST_SECTIONS (length sections)
 
--- the first end is below the second, and both are within the bounds
-abbrev pub is_range : ℤ → ℤ → ℤ → ℤ → Bool
-is_range low high from to = (int_lt from to && int_le low from) && int_le to high
+-- the box has an interior, lies near the tool's middle in y, and between two heights in z
+abbrev pub is_body_box : ℤ → ℤ → Rect → Bool
+is_body_box low high box = is_range (neg_ℤ FARTHEST_ACROSS) FARTHEST_ACROSS box.y0 box.y1 && is_range low high box.z0 box.z1
 
--- the box has an interior, lies within a metre of the tool's middle in y, and between two heights in z
-abbrev pub is_box : ℤ → ℤ → Rect → Bool
-is_box low high box = is_range (neg_ℤ (pos 1000000)) (pos 1000000) box.y0 box.y1 && is_range low high box.z0 box.z1
+-- the width of an opening is even and in range
+abbrev pub is_opening : ℤ → Bool
+is_opening v = is_within LEAST_OPENING GREATEST_OPENING v && (unsigned_abs v % 2 == 0)
+
+-- the width of an opening at a key
+abbrev pub opening_at : List ℕ → Members → Option ℤ
+opening_at key members = option_and_then (λ v. if is_opening v then Some v else None) (whole_at key members)
 
 -- a punch, with its body between 0 and its height
 unfoldable pub punch_of : ℕ → Members → Result PunchData ToolFault
 punch_of number members = do
   name ← ok_or (name_at (codes "name") members) (BadField number 9)
-  height ← ok_or (integer_at (pos 1) (pos 1000000) (codes "height") members) (BadField number 10)
+  height ← ok_or (integer_at LEAST_HEIGHT GREATEST_HEIGHT (codes "height") members) (BadField number 10)
   nose ← ok_or (integer_at (pos 0) height (codes "nose") members) (BadField number 11)
   body ← ok_or (rows_at 4 (codes "body") members) (BadField number 12)
   sections ← ok_or (sections_at (codes "sections") members) (BadField number 13)
-  limit ← ok_or (integer_or (pos 0) (pos 0) (pos 1000000) (codes "limit") members) (BadField number 25)
+  limit ← ok_or (integer_or (pos 0) (pos 0) GREATEST_LIMIT (codes "limit") members) (BadField number 25)
   known ← refuse_if (has_unknown_key (codes "name" ∷ codes "height" ∷ codes "nose" ∷ codes "body" ∷ codes "sections" ∷ codes "limit" ∷ []) members) (UnknownKey number)
   few ← refuse_if (too_many body sections) (TooMany number)
-  boxes ← refuse_if (not (list_all (is_box (pos 0) height) (boxes_of body))) (BadBox number)
-  Ok (record { name = name; height = height; nose = nose; body = boxes_of body; sections = sections_of sections; limit = limit })
-
--- the even integer at a key, within the two ends
-abbrev pub even_at : ℤ → ℤ → List ℕ → Members → Option ℤ
-even_at low high key members = option_and_then (λ n. if unsigned_abs n % 2 == 0 then Some n else None) (integer_at low high key members)
+  boxes ← refuse_if (not (list_all (is_body_box (pos 0) height) (rects_of body))) (BadBox number)
+  Ok (record { name = name; height = height; nose = nose; body = rects_of body; sections = sections_of sections; limit = limit })
 
 -- a die, with its body between minus its height and 0
 unfoldable pub die_of : ℕ → Members → Result DieData ToolFault
 die_of number members = do
   name ← ok_or (name_at (codes "name") members) (BadField number 14)
-  height ← ok_or (integer_at (pos 1) (pos 1000000) (codes "height") members) (BadField number 15)
-  v ← ok_or (even_at (pos 2) (pos 1000000) (codes "v") members) (BadField number 16)
-  least_flange ← ok_or (integer_at (pos 0) (pos 1000000) (codes "least_flange") members) (BadField number 17)
+  height ← ok_or (integer_at LEAST_HEIGHT GREATEST_HEIGHT (codes "height") members) (BadField number 15)
+  v ← ok_or (opening_at (codes "v") members) (BadField number 16)
+  least_flange ← ok_or (integer_at (pos 0) GREATEST_FLANGE (codes "least_flange") members) (BadField number 17)
   body ← ok_or (rows_at 4 (codes "body") members) (BadField number 18)
   sections ← ok_or (sections_at (codes "sections") members) (BadField number 19)
-  limit ← ok_or (integer_or (pos 0) (pos 0) (pos 1000000) (codes "limit") members) (BadField number 26)
+  limit ← ok_or (integer_or (pos 0) (pos 0) GREATEST_LIMIT (codes "limit") members) (BadField number 26)
   known ← refuse_if (has_unknown_key (codes "name" ∷ codes "height" ∷ codes "v" ∷ codes "least_flange" ∷ codes "body" ∷ codes "sections" ∷ codes "limit" ∷ []) members) (UnknownKey number)
   few ← refuse_if (too_many body sections) (TooMany number)
-  boxes ← refuse_if (not (list_all (is_box (neg_ℤ height) (pos 0)) (boxes_of body))) (BadBox number)
-  Ok (record { name = name; height = height; v = v; least_flange = least_flange; body = boxes_of body; sections = sections_of sections; limit = limit })
+  boxes ← refuse_if (not (list_all (is_body_box (neg_ℤ height) (pos 0)) (rects_of body))) (BadBox number)
+  Ok (record { name = name; height = height; v = v; least_flange = least_flange; body = rects_of body; sections = sections_of sections; limit = limit })
 
 -- a load row
 unfoldable pub load_row_of : ℕ → Members → Result LoadData ToolFault
 load_row_of number members = do
   material ← ok_or (name_at (codes "material") members) (BadField number 21)
-  thickness ← ok_or (integer_at (pos 2) (pos 50000) (codes "thickness") members) (BadField number 22)
-  v ← ok_or (even_at (pos 2) (pos 1000000) (codes "v") members) (BadField number 23)
-  load ← ok_or (integer_at (pos 1) (pos 1000000) (codes "load") members) (BadField number 24)
+  thickness ← ok_or (integer_at LEAST_THICKNESS GREATEST_THICKNESS (codes "thickness") members) (BadField number 22)
+  v ← ok_or (opening_at (codes "v") members) (BadField number 23)
+  load ← ok_or (integer_at LEAST_LOAD GREATEST_LOAD (codes "load") members) (BadField number 24)
   known ← refuse_if (has_unknown_key (codes "material" ∷ codes "thickness" ∷ codes "v" ∷ codes "load" ∷ []) members) (UnknownKey number)
   Ok (record { material = material; thickness = thickness; v = v; load = load })
 
@@ -141,13 +145,13 @@ tools_of_tables allow punch die load = do
   punches ← each_from (of_table 2 punch_of) (1 + length allow) punch
   dies ← each_from (of_table 3 die_of) (1 + length allow + length punch) die
   loads ← each_from (of_table 20 load_row_of) (1 + length allow + length punch + length die) load
-  punches_distinct ← refuse_repeat (1 + length allow) (map (λ p. p.name) punches)
-  dies_distinct ← refuse_repeat (1 + length allow + length punch) (map (λ d. d.name) dies)
+  punches_distinct ← refuse_repeat (1 + length allow) (names_of_punches punches)
+  dies_distinct ← refuse_repeat (1 + length allow + length punch) (names_of_dies dies)
   Ok (record { punches = punches; dies = dies; allow = rows; loads = loads })
 
--- at most 256 allow rows, 32 punches, 32 dies and 256 load rows
+-- some kind has more tables than it may
 abbrev pub too_many_tables : List Data → List Data → List Data → List Data → Bool
-too_many_tables allow punch die load = (nat_lt 256 (length allow) || nat_lt 32 (length punch)) || (nat_lt 32 (length die) || nat_lt 256 (length load))
+too_many_tables allow punch die load = (nat_lt MOST_ROWS (length allow) || nat_lt MOST_PUNCHES (length punch)) || (nat_lt MOST_DIES (length die) || nat_lt MOST_LOAD_ROWS (length load))
 
 -- the tools of table 0
 unfoldable pub tools_of_members : Members → Result ToolsData ToolFault

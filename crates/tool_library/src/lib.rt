@@ -1,14 +1,15 @@
 //! The tools of a shop, and the file that lists them.
 #![tactic(auto)]
 
+pub mod bounds;
 mod fault;
 mod lists;
 mod names;
+mod opening;
 mod reader;
+mod row;
 mod rows;
-mod tables;
 mod tools;
-mod valid;
 
 pub use fault::ToolFault;
 pub use reader::read_tools;

@@ -1,9 +1,9 @@
 //! Names that are told apart.
 ghost use Rattle.std.specs.Prelude.{◌≡◌, ℕ, ◌+◌, ◌<◌, ◌≤◌, List, length, map, bytes_eq, IfSome, OnOk};
 ghost use Rattle.std.specs.List.{list_any};
-ghost use Rattle.toml_fields.specs.Results.{Gives, first_below};
+ghost use Rattle.toml_fields.specs.Results.{first_below};
 ghost use Rattle.tool_library.specs.Names.{is_repeat, AreDistinct};
-ghost use Rattle.tool_library.specs.Tools.{punch_data, die_data};
+ghost use Rattle.tool_library.specs.Tools.{punch_data, die_data, names_of_punches, names_of_dies};
 ghost use Rattle.tool_library.specs.ToolsFile.{refuse_repeat};
 
 use crate::fault::ToolFault;
@@ -11,7 +11,7 @@ use crate::tools::{Die, Punch};
 use brake_base::Name;
 
 /// A tool that has a name.
-pub trait Named {
+trait Named {
     ghost name_of: { Self → List ℕ };
 
     fn name(&self) -> &Name
@@ -62,7 +62,7 @@ fn first_repeat<T: Named>(tools: &[T]) -> Option<usize>
 #[tactic(auto, using(crate::proofs::Repeats::AreDistinct_from_none, crate::proofs::Sizes::reading))]
 fn refuse_repeat<T: Named>(first: u16, tools: &[T]) -> Result<(), ToolFault>
     requires { first + length tools.now ≤ 1000 }
-    ensures value { Gives ToolFault.NoMemory (λ done. done) result (refuse_repeat first (map T.name_of tools.now)) }
+    ensures value { result ≡ refuse_repeat first (map T.name_of tools.now) }
     ensures distinct { OnOk result (AreDistinct (map T.name_of tools.now)) }
 {
     match first_repeat(tools) {
@@ -76,8 +76,8 @@ fn refuse_repeat<T: Named>(first: u16, tools: &[T]) -> Result<(), ToolFault>
 /// A refusal of the first punch that has the name of an earlier one.
 pub fn refuse_repeated_punch(first: u16, punches: &[Punch]) -> Result<(), ToolFault>
     requires { first + length punches.now ≤ 1000 }
-    ensures value { Gives ToolFault.NoMemory (λ done. done) result (refuse_repeat first (map (λ p. p.name) (map punch_data punches.now))) }
-    ensures distinct { OnOk result (AreDistinct (map (λ p. p.name) (map punch_data punches.now))) }
+    ensures value { result ≡ refuse_repeat first (names_of_punches (map punch_data punches.now)) }
+    ensures distinct { OnOk result (AreDistinct (names_of_punches (map punch_data punches.now))) }
 {
     refuse_repeat(first, punches)
 }
@@ -85,8 +85,8 @@ pub fn refuse_repeated_punch(first: u16, punches: &[Punch]) -> Result<(), ToolFa
 /// A refusal of the first die that has the name of an earlier one.
 pub fn refuse_repeated_die(first: u16, dies: &[Die]) -> Result<(), ToolFault>
     requires { first + length dies.now ≤ 1000 }
-    ensures value { Gives ToolFault.NoMemory (λ done. done) result (refuse_repeat first (map (λ d. d.name) (map die_data dies.now))) }
-    ensures distinct { OnOk result (AreDistinct (map (λ d. d.name) (map die_data dies.now))) }
+    ensures value { result ≡ refuse_repeat first (names_of_dies (map die_data dies.now)) }
+    ensures distinct { OnOk result (AreDistinct (names_of_dies (map die_data dies.now))) }
 {
     refuse_repeat(first, dies)
 }

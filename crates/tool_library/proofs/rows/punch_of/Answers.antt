@@ -4,14 +4,6 @@ use Rattle.tool_library.proofs.rows.punch_of.Goals as goal
 pub returns-clause-fit : goal.returns-clause-fit
 returns-clause-fit c = record {
   name = search rules;
-  height_low = search rules;
-  height_high = search rules;
-  nose_low = search rules;
-  nose_high = search rules;
-  few_boxes = search rules;
-  boxes = search rules;
-  few_sections = search rules;
-  sections = search rules;
-  limit_low = search rules;
-  limit_high = search rules;
+  sizes = record { height = search rules; nose = search rules; limit = search rules };
+  lists = record { few_boxes = search rules; each_box = search rules; few_sections = search rules; each_section = search rules };
 }
