@@ -12,7 +12,7 @@ pub record AreEarlier (faces : List FaceData) : Type 0 where
   pub on : (b : ℕ) → 0 < b → b < length faces → (joint_of faces b).on < b
 
 pub joint_of_part : (p : PartData) → IsPart p → AreEarlier p.faces
-joint_of_part p part = record { on = λ b some inside. let known = part.joined b some inside in let is = ap (λ o. unwrap_or o no_joint) known.1.has in subst (λ (j : Joint). j.on < b) (sym is) known.1.earlier }
+joint_of_part p part = record { on = λ b some inside. let known = (part.each_face b inside).placed.joined.joint some in let is = ap (λ o. unwrap_or o no_joint) known.1.has in subst (λ (j : Joint). j.on < b) (sym is) known.1.earlier }
 
 -- more steps than the way has make no difference
 enough_steps : (faces : List FaceData) (step : ℕ → Map) → AreEarlier faces → (n m f : ℕ) → f < length faces → f ≤ n → f ≤ m → steps_to_root faces step n f ≡ steps_to_root faces step m f

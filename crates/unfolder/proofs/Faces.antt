@@ -25,21 +25,21 @@ same_some i j e = cc
 -- the joint of a bend meets the rules
 pub rules_of : (p : PartData) (b : ℕ) (joint : Joint) → IsPart p → 0 < b → b < length p.faces → joint_at p.faces b ≡ Some joint → IsJointOf p.faces b joint
 rules_of p b joint part some inside has =
-    let known = part.joined b some inside in
+    let known = (part.each_face b inside).placed.joined.joint some in
     subst (λ (j : Joint). IsJointOf p.faces b j) (same_some known.0 joint (sym known.1.has ∙ has)) known.1
 
 short_side : (side : Side) (face : FaceData) → IsSize face.width → IsSize face.length → side_length side face ≤ℤ pos 10000000
-short_side N face wide long = wide.high
-short_side E face wide long = long.high
-short_side S face wide long = wide.high
-short_side W face wide long = long.high
+short_side N face wide long = wide.top
+short_side E face wide long = long.top
+short_side S face wide long = wide.top
+short_side W face wide long = long.top
 
 -- where a child begins and ends along the side
 pub begin_within : (p : PartData) (b : ℕ) (joint : Joint) → IsPart p → b < length p.faces → IsJointOf p.faces b joint → IsWithin 10000000 joint.at × IsWithin 10000000 (joint.at +ℤ (face_at p.faces b).width)
 begin_within p b joint part inside rules =
     let on : joint.on < length p.faces = omega (arith, rules.earlier) in
-    let side = short_side joint.side (face_at p.faces joint.on) (part.wide joint.on on) (part.long joint.on on) in
-    let width = part.wide b inside in
-    let low = rules.at_low in
-    let high = rules.at_high in
-    (record { low = omega (arith, ints, width.low); high = omega (arith, ints, width.low) }, record { low = omega (arith, ints, width.low); high = omega (arith, ints) })
+    let side = short_side joint.side (face_at p.faces joint.on) (part.each_face joint.on on).placed.sizes.wide (part.each_face joint.on on).placed.sizes.long in
+    let width = (part.each_face b inside).placed.sizes.wide in
+    let low = rules.within.at_low in
+    let high = rules.within.at_high in
+    (record { low = omega (arith, ints, width.bottom); high = omega (arith, ints, width.bottom) }, record { low = omega (arith, ints, width.bottom); high = omega (arith, ints) })

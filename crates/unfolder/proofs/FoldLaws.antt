@@ -30,7 +30,7 @@ pub record IsFlatMap (m : Map) : Type 0 where
   pub turn : m.turn ≡ quarter_turns turns
   pub level : m.shift.z ≡ pos 0
 
-side_level : (side : Side) (face : FaceData) (distance depth : ℤ) → (side_point side face distance depth).z ≡ pos 0
+pub side_level : (side : Side) (face : FaceData) (distance depth : ℤ) → (side_point side face distance depth).z ≡ pos 0
 side_level N face distance depth = omega (arith, ints)
 side_level E face distance depth = omega (arith, ints)
 side_level S face distance depth = omega (arith, ints)
@@ -128,7 +128,7 @@ stays_up : (m : Map) → IsFlatMap m → apply m.turn z_axis ≡ z_axis
 stays_up m flat = subst (λ (t : Matrix). apply t z_axis ≡ z_axis) (sym flat.turn) (turns_up flat.turns flat.few)
 
 -- ---- points of the child in the frame of the parent's side
-side_point_is : (side : Side) (face : FaceData) (distance depth : ℤ) → side_point side face distance depth ≡ in_frame (start side face) distance (along side) (neg_ℤ depth) (outward side) (pos 0)
+pub side_point_is : (side : Side) (face : FaceData) (distance depth : ℤ) → side_point side face distance depth ≡ in_frame (start side face) distance (along side) (neg_ℤ depth) (outward side) (pos 0)
 side_point_is side face distance depth = same_point _ _ (omega (arith, sums)) (omega (arith, sums)) (omega (arith, sums))
 
 -- the coordinates of a point of the child that lies flat, one axis at a time
@@ -145,7 +145,7 @@ flat_axis p d o u at q x y z =
     let Z = var 8 in
     ring (p ∷ d ∷ o ∷ u ∷ at ∷ q ∷ x ∷ y ∷ z ∷ []) (((X ⊗ D ⊕ Y ⊗ O) ⊕ Z ⊗ U) ⊕ ((P ⊕ A ⊗ D) ⊕ opposite (whole (pos 2) ⊗ Q) ⊗ O)) (((P ⊕ (A ⊕ X) ⊗ D) ⊕ (Y ⊖ whole (pos 2) ⊗ Q) ⊗ O) ⊕ Z ⊗ U) tt
 
-flat_point : (faces : List FaceData) (q : ℤ) (b : ℕ) (v : V3) → mapped (flat_step faces q b) v ≡ in_frame (start (joint_of faces b).side (face_at faces (joint_of faces b).on)) ((joint_of faces b).at +ℤ v.x) (along (joint_of faces b).side) (v.y -ℤ pos 2 *ℤ q) (outward (joint_of faces b).side) v.z
+pub flat_point : (faces : List FaceData) (q : ℤ) (b : ℕ) (v : V3) → mapped (flat_step faces q b) v ≡ in_frame (start (joint_of faces b).side (face_at faces (joint_of faces b).on)) ((joint_of faces b).at +ℤ v.x) (along (joint_of faces b).side) (v.y -ℤ pos 2 *ℤ q) (outward (joint_of faces b).side) v.z
 unfolding mapped apply
 flat_point faces q b v =
     let joint = joint_of faces b in
@@ -169,7 +169,7 @@ design_axis p d o u at tau s x y z =
     let Z = var 9 in
     ring (p ∷ d ∷ o ∷ u ∷ at ∷ tau ∷ s ∷ x ∷ y ∷ z ∷ []) (((X ⊗ D ⊕ Y ⊗ (F ⊗ U)) ⊕ Z ⊗ (opposite F ⊗ O)) ⊕ (((P ⊕ A ⊗ D) ⊕ opposite T ⊗ O) ⊕ opposite F ⊗ (T ⊗ U))) (((P ⊕ (A ⊕ X) ⊗ D) ⊕ (opposite T ⊖ F ⊗ Z) ⊗ O) ⊕ (F ⊗ Y ⊖ F ⊗ T) ⊗ U) tt
 
-design_point : (faces : List FaceData) (tau : ℤ) (b : ℕ) (v : V3) → mapped (design_step faces tau b) v ≡ in_frame (start (joint_of faces b).side (face_at faces (joint_of faces b).on)) ((joint_of faces b).at +ℤ v.x) (along (joint_of faces b).side) (neg_ℤ tau -ℤ fold_sign (joint_of faces b).dir *ℤ v.z) (outward (joint_of faces b).side) (fold_sign (joint_of faces b).dir *ℤ v.y -ℤ fold_sign (joint_of faces b).dir *ℤ tau)
+pub design_point : (faces : List FaceData) (tau : ℤ) (b : ℕ) (v : V3) → mapped (design_step faces tau b) v ≡ in_frame (start (joint_of faces b).side (face_at faces (joint_of faces b).on)) ((joint_of faces b).at +ℤ v.x) (along (joint_of faces b).side) (neg_ℤ tau -ℤ fold_sign (joint_of faces b).dir *ℤ v.z) (outward (joint_of faces b).side) (fold_sign (joint_of faces b).dir *ℤ v.y -ℤ fold_sign (joint_of faces b).dir *ℤ tau)
 unfolding mapped apply
 design_point faces tau b v =
     let joint = joint_of faces b in
@@ -255,6 +255,13 @@ at_least_one n h = grind (arith, ints)
 
 pub core_is_wide : (faces : List FaceData) (q : ℤ) (b : ℕ) → is_too_small (core faces q b) ≡ false → pos 1 ≤ℤ ((core faces q b).x1 -ℤ (core faces q b).x0)
 core_is_wide faces q b fits = at_least_one _ (not_below _ _ fits)
+
+not_below_either : (a b : Bool) → (a || b) ≡ false → b ≡ false
+not_below_either false b h = h
+not_below_either true b h = absurd (let c = h in cc)
+
+pub core_is_long : (faces : List FaceData) (q : ℤ) (b : ℕ) → is_too_small (core faces q b) ≡ false → pos 1 ≤ℤ ((core faces q b).y1 -ℤ (core faces q b).y0)
+core_is_long faces q b fits = at_least_one _ (not_below_either _ _ fits)
 
 -- where the printed line of bend b starts, and its two directions
 pub record IsLaidLine (faces : List FaceData) (q : ℤ) (b : ℕ) (m : Map) (line : BendLine) : Type 0 where

@@ -12,3 +12,5 @@ pub mod HingeLaws
 pub mod FoldLaws
 pub mod PlaceLaws
 pub mod Unfolded
+pub mod Edges
+pub mod Abutting

@@ -8,3 +8,4 @@ pub mod Tables
 pub mod Around
 pub mod Fold
 pub mod Frames
+pub mod Edges

@@ -4,6 +4,7 @@ ghost use Rattle.std.specs.List.{range_with_len};
 ghost use Rattle.part_file.specs.Part.{IsPart, part_data, half_thickness};
 ghost use Rattle.unfolder.specs.Near.{IsRectWithin, IsLineWithin};
 ghost use Rattle.unfolder.specs.Blank.{Gives, blank_data, blank_of_part, bend_numbers};
+ghost use Rattle.unfolder.specs.Edges.{AbutsAtLines};
 ghost use Rattle.unfolder.specs.Extent.{IsNearBlank, IsNearRect, IsNearLine};
 ghost use Rattle.unfolder.specs.Fold.{FoldsBack};
 ghost use Rattle.unfolder.specs.Frames.{IsFrameWithin};
@@ -32,6 +33,9 @@ pub fn unfold(part: &Part, q: i64) -> Result<Blank, UnfoldFault>
 
     // Folded at every bend, the blank is the designed part.
     ensures folds_back { IfOk result (λ blank. FoldsBack (part_data part.now) q (blank_data blank)) }
+
+    // At each bend line the cores of its two faces abut.
+    ensures abuts { IfOk result (λ blank. AbutsAtLines (part_data part.now) (blank_data blank)) }
 {
     let cores = cores(part, q);
     let lines = parent_lines(part, q);

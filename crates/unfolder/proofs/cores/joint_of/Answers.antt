@@ -8,7 +8,7 @@ pub unreachable-requires : goal.unreachable-requires
 unreachable-requires c =
     let items = c.args.part.now.faces.items in
     let inside : c.args.bend < length (map face_data items) = omega (arith, length-map items face_data) in
-    let known = c.requires.part.joined c.args.bend c.requires.some inside in
+    let known = (c.requires.part.each_face c.args.bend inside).placed.joined.joint c.requires.some in
     let read = ap (λ (face : FaceData). face.joint) c.face_of-child.ensures.value in
     let clash : Some known.0 ≡ None = sym known.1.has ∙ sym read ∙ c.in-None.is in
     cc

@@ -13,7 +13,8 @@ use Rattle.unfolder.specs.Blank.{cores_of, flat_face, flat_faces, bend_lines, be
 use Rattle.unfolder.specs.Frames.{AreFrames}
 use Rattle.unfolder.proofs.Layouts.{stops_at_cores, stops_at_lines, stops_at_overlaps, gives_blank, gives_fault, off_edges_are, flat_faces_are, bend_lines_are}
 use Rattle.unfolder.proofs.PlaceLaws.{folds_back}
-use Rattle.unfolder.proofs.Unfolded.{cores_fit}
+use Rattle.unfolder.proofs.Unfolded.{cores_fit, lines_kept}
+use Rattle.unfolder.proofs.Abutting.{abuts_at_lines}
 use Rattle.unfolder.proofs.layout.unfold.Goals as goal
 
 pub flat_faces-faces-requires-clause-cores : goal.flat_faces-faces-requires-clause-cores
@@ -102,3 +103,23 @@ returns-clause-folds_back c =
     let frame_count : length c.as_slice-7.result.now ≡ length faces = ap length c.as_slice-7.ensures.value ∙ c.frames-frames.ensures.count ∙ sym (length-map items face_data) in
     let bends_are : c.bend_lines.result.items ≡ bend_lines faces c.args.q = c.bend_lines.ensures.value ∙ bend_lines_are part c.requires.part c.args.q _ _ (c.as_slice-8.ensures.value ∙ lines_are) frames_are frame_count in
     folds_back part c.requires.part c.args.q _ (cores_fit faces c.args.q first) bends_are
+
+pub returns-clause-abuts : goal.returns-clause-abuts
+returns-clause-abuts c =
+    let q_fits = c.ranges.q in
+    let items = c.args.part.now.faces.items in
+    let faces = map face_data items in
+    let part = part_data c.args.part.now in
+    let cores_are : c.as_slice.result.now ≡ cores_of faces c.args.q = c.as_slice.ensures.value ∙ (simp to_z-of_z at c.cores-cores.ensures.value) in
+    let first : Ok tt ≡ refused CoreTooSmall (position is_too_small (cores_of faces c.args.q)) = c.in_ok-check_cores.ensures ∙ ap (λ (rs : List FlatRect). refused CoreTooSmall (position is_too_small rs)) cores_are in
+    let lines_are : c.parent_lines-lines.result.items ≡ map (parent_line faces c.args.q) (bend_numbers faces) = simp to_z-of_z at c.parent_lines-lines.ensures.value in
+    let second : Ok tt ≡ refused BendOffFace (find (is_off_face faces c.args.q) (bend_numbers faces)) = c.in_ok-check_lines.ensures ∙ ap (refused BendOffFace) (off_edges_are part c.requires.part c.args.q _ _ (c.as_slice-2.ensures.value ∙ (simp to_z-of_z at c.cores-cores.ensures.value)) (c.as_slice-3.ensures.value ∙ lines_are)) in
+    let all_frames : AreFrames faces c.args.q c.frames-frames.result.items = simp to_z-of_z at c.frames-frames.ensures.each in
+    let frames_are : AreFrames faces c.args.q c.as_slice-7.result.now = subst (AreFrames faces c.args.q) (sym c.as_slice-7.ensures.value) all_frames in
+    let frame_count : length c.as_slice-7.result.now ≡ length faces = ap length c.as_slice-7.ensures.value ∙ c.frames-frames.ensures.count ∙ sym (length-map items face_data) in
+    let bends_are : c.bend_lines.result.items ≡ bend_lines faces c.args.q = c.bend_lines.ensures.value ∙ bend_lines_are part c.requires.part c.args.q _ _ (c.as_slice-8.ensures.value ∙ lines_are) frames_are frame_count in
+    let frames_are-2 : AreFrames faces c.args.q c.as_slice-5.result.now = subst (AreFrames faces c.args.q) (sym c.as_slice-5.ensures.value) all_frames in
+    let frame_count-2 : length c.as_slice-5.result.now ≡ length faces = ap length c.as_slice-5.ensures.value ∙ c.frames-frames.ensures.count ∙ sym (length-map items face_data) in
+    let core_count : length c.as_slice-4.result.now ≡ length faces = ap length c.as_slice-4.ensures.value ∙ c.cores-cores.ensures.count ∙ sym (length-map items face_data) in
+    let faces_are : c.flat_faces-faces.result.items ≡ flat_faces faces c.args.q = c.flat_faces-faces.ensures.value ∙ flat_faces_are part c.args.q _ _ _ (c.as_slice-4.ensures.value ∙ (simp to_z-of_z at c.cores-cores.ensures.value)) frames_are-2 frame_count-2 core_count in
+    abuts_at_lines part c.requires.part c.args.q _ (cores_fit faces c.args.q first) (lines_kept faces c.args.q second) faces_are bends_are
