@@ -25,7 +25,7 @@ use Rattle.fold_boxes.specs.Hinges.{IsHingeOf}
 use Rattle.fold_boxes.specs.Places.{IsPlaceOf, ArePlaces}
 
 -- a part that unfolds has cores
-cores_of_shape : (shape : ShapeData) → IsShape shape → AreCores shape.part.faces shape.q
+pub cores_of_shape : (shape : ShapeData) → IsShape shape → AreCores shape.part.faces shape.q
 cores_of_shape shape rules = go (blank_of_part shape.part shape.q) refl rules.unfolds
   where
     go : (r : Result BlankData UnfoldFault) → blank_of_part shape.part shape.q ≡ r → IsOk r → AreCores shape.part.faces shape.q
@@ -95,8 +95,8 @@ pub box_at : (shape : ShapeData) (mask : Mask) (f : ℕ) (place : Place) (b c r 
 box_at shape mask f place b c r is same image_is = image_is ∙ (λ i. image (is.map i) (same i))
 
 pub box_near_at : (shape : ShapeData) (mask : Mask) (f : ℕ) (place : Place) (b r : Box3) → f < 13 → IsPlaceOf shape mask f place → IsBoxWithin 22000000 b
-    → ((m n : ℕ) → IsWithin m place.at → IsBoxWithin n b → IsBoxWithin (m + n) r) → IsBoxWithin 1000000000 r
-box_near_at shape mask f place b r few is near within = box_within_more (f * 21000000 + 22000000) 1000000000 r (omega arith) (within (f * 21000000) 22000000 is.near near)
+    → ((m n : ℕ) → IsWithin m place.at → IsBoxWithin n b → IsBoxWithin (m + n) r) → IsBoxWithin 300000000 r
+box_near_at shape mask f place b r few is near within = box_within_more (f * 21000000 + 22000000) 300000000 r (omega arith) (within (f * 21000000) 22000000 is.near near)
 
 -- the place at an index of the list
 pub place_at : (shape : ShapeData) (mask : Mask) (xs : List Place) (i f : ℕ) (place : Place) → ArePlaces shape mask xs → place ≡ get_or xs i place → i ≡ f → f < length xs → IsPlaceOf shape mask f place

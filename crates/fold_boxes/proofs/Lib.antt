@@ -5,3 +5,13 @@ pub mod Kept
 pub mod MatesSoFar
 pub mod Picked
 pub mod Spans
+pub mod Turning
+pub mod Numbered
+pub mod Beyond
+pub mod PoseLists
+pub mod Leads
+pub mod SharedSides
+pub mod PoseEffect
+pub mod Locality
+pub mod Halving
+pub mod Corners

@@ -24,7 +24,7 @@ pub west : turn_of 1 ≡ side_matrix W
 unfolding turn_of multiply apply
 west = refl
 
-zero_turn : turn_of 0 ≡ identity
+pub zero_turn : turn_of 0 ≡ identity
 unfolding turn_of multiply apply
 zero_turn = refl
 

@@ -1,5 +1,5 @@
 -- The part with a set of its bends folded: the place of each face, and the boxes that it fills.
-use Rattle.std.specs.Prelude.{ℕ, ◌+◌, ◌*ℤ◌, neg_ℤ, List, ◌++◌, map, filter}
+use Rattle.std.specs.Prelude.{ℕ, ◌+◌, ◌≤◌, ◌*ℤ◌, neg_ℤ, List, ◌++◌, map, filter}
 use Rattle.brake_base.specs.declared.space.Box3.{Box3}
 use Rattle.brake_base.specs.declared.mask.Mask.{Mask}
 use Rattle.brake_base.specs.Vectors.{plus, times}
@@ -50,6 +50,10 @@ boxes_of shape mask =
     map (face_box shape mask) (face_numbers shape.part.faces)
     ++ map (corner_box shape mask) (filter (has mask) (bend_numbers shape.part.faces))
 
--- within 1,000,000,000 micrometres of the origin
+-- within 300,000,000 micrometres of the origin
 abbrev pub IsNearBox : PartBox → Type 0
-IsNearBox part_box = IsBoxWithin 1000000000 part_box.body
+IsNearBox part_box = IsBoxWithin 300000000 part_box.body
+
+-- the number of a box: of a face up to 12, or of a corner up to 24
+abbrev pub IsBoxId : PartBox → Type 0
+IsBoxId part_box = part_box.id ≤ 24

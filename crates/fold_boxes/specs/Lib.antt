@@ -4,3 +4,6 @@ pub mod Spans
 pub mod Folded
 pub mod Hinges
 pub mod Places
+pub mod Pose
+pub mod Posing
+pub mod Corners

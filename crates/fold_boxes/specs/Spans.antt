@@ -1,5 +1,5 @@
 -- What the code of the span computes on its way.
-use Rattle.std.specs.Prelude.{ℕ, ℤ, List, [], ◌∷◌, map, fold, Option, Some, None}
+use Rattle.std.specs.Prelude.{ℕ, ℤ, ◌≤ℤ◌, List, [], ◌∷◌, map, fold, Option, Some, None}
 use Rattle.std.specs.Int.{int_min, int_max}
 use Rattle.unfolder.specs.Near.{IsWithin}
 use Rattle.fold_boxes.specs.Shapes.{ShapeData}
@@ -15,7 +15,8 @@ abbrev pub covered : ShapeData → List ℕ → Option (ℤ × ℤ)
 covered shape [] = None
 covered shape (b ∷ bs) = Some (fold int_min (line_from shape b) (map (line_from shape) bs), fold int_max (line_to shape b) (map (line_to shape) bs))
 
--- both ends lie within 100,000,000 micrometres of 0
+-- a range in order, both of whose ends lie within 100,000,000 micrometres of 0
 pub record IsNearRange (range : ℤ × ℤ) : Type 0 where
   pub from : IsWithin 100000000 range.0
   pub to : IsWithin 100000000 range.1
+  pub in_order : range.0 ≤ℤ range.1

@@ -1,8 +1,9 @@
 //! The bends that may be bent in one stroke.
-ghost use Rattle.std.specs.Prelude.{◌≡◌, ℕ, ◌<◌, length, IfSome};
-ghost use Rattle.brake_base.specs.Masks.{has};
+ghost use Rattle.std.specs.Prelude.{◌≡◌, ◌↔◌, ℕ, ◌<◌, length, IfSome, IsTrue};
+ghost use Rattle.brake_base.specs.Masks.{has, IsLeast};
 ghost use Rattle.fold_boxes.specs.Groups.{is_mate, same_joint, line_from, line_to, span};
 ghost use Rattle.fold_boxes.specs.Spans.{joined, IsNearRange};
+ghost use Rattle.fold_boxes.specs.Pose.{IsGroup};
 
 use crate::shape::Shape;
 use brake_base::Mask;
@@ -33,13 +34,36 @@ fn is_mate(ours: &Joint, theirs: &Joint) -> bool
     theirs.on == ours.on && theirs.side == ours.side && theirs.dir == ours.dir
 }
 
+/// Whether the bends of the group may be bent in one stroke where those of the mask are folded: there
+/// are some, none of them is folded, and all have the parent, the side and the direction of the least.
+pub fn is_group(shape: &Shape, mask: Mask, group: Mask) -> bool
+    ensures { IsTrue result ↔ IsGroup shape.now mask group }
+{
+    match group.least() {
+        Some(lead) => is_group_of(shape, mask, group, lead),
+        None => false,
+    }
+}
+
+/// The same of a group whose least bend is known.
+fn is_group_of(shape: &Shape, mask: Mask, group: Mask, lead: u8) -> bool
+    requires { IsLeast group lead }
+    ensures { IsTrue result ↔ IsGroup shape.now mask group }
+{
+    if lead < shape.faces() {
+        group.is_subset(mates(shape, lead).without(mask))
+    } else {
+        false
+    }
+}
+
 /// The range that the lines of a group's bends cover along the side that they share, from the start
 /// of that side, in micrometres: from the least to the greatest of their ends. Both numbers are 0
 /// where the group is empty.
 pub fn span(shape: &Shape, group: Mask) -> (i64, i64)
     ensures value { result ≡ span shape.now (has group) }
 
-    // Both numbers lie within 100,000,000 micrometres of 0.
+    // The first is at most the second, and both lie within 100,000,000 micrometres of 0.
     ensures near { IsNearRange result }
 {
     let mut range = None;

@@ -97,7 +97,7 @@ fn folded_place(part: &Part, bend: u8) -> Place
 }
 
 /// The quarter turns about z that take x to the direction of a side.
-fn side_turn(side: Side) -> Turn
+pub(crate) fn side_turn(side: Side) -> Turn
     ensures { turn_of result ≡ side_matrix side }
 {
     match side {

@@ -2,14 +2,23 @@
 #![tactic(auto)]
 
 mod groups;
+mod halves;
 mod hinge;
 mod part_boxes;
 mod places;
-mod pose;
+mod pose_map;
+mod posed_part;
+mod posing;
 mod shape;
 
-pub use groups::{mates, span};
+pub use groups::{is_group, mates, span};
+pub use halves::faces_beyond;
 pub use part_boxes::{PartBox, boxes};
-pub use places::place;
-pub use pose::{Pose, PoseBox};
+pub use places::{child_place, place};
+pub use pose_map::attitude;
+pub use posed_part::{Pose, PoseBox};
+pub use posing::{pose, pose_from};
 pub use shape::{Shape, core, line_length};
+
+#[cfg(test)]
+mod tests;

@@ -2,7 +2,8 @@
 ghost use Rattle.std.specs.Prelude.{◌≡◌, ◌<◌, ◌≤◌, ◌++◌, map, filter, All, length};
 ghost use Rattle.brake_base.specs.Masks.{has};
 ghost use Rattle.unfolder.specs.Blank.{face_numbers, bend_numbers};
-ghost use Rattle.fold_boxes.specs.Folded.{boxes_of, face_box, corner_box, IsNearBox};
+ghost use Rattle.fold_boxes.specs.Folded.{boxes_of, face_box, corner_box, IsNearBox, IsBoxId};
+ghost use Rattle.fold_boxes.specs.Corners.{CornersTouch};
 ghost use Rattle.fold_boxes.specs.Places.{ArePlaces};
 
 use crate::places::placed;
@@ -21,12 +22,27 @@ pub struct PartBox {
 pub fn boxes(shape: &Shape, mask: Mask) -> ArrayVec<PartBox, 25>
     ensures value { result.items ≡ boxes_of shape.now mask }
 
-    // All coordinates lie within 1,000,000,000 micrometres of 0.
+    // All coordinates lie within 300,000,000 micrometres of 0.
     ensures near { All IsNearBox result.items }
+
+    // The corner of each folded bend touches both cores that the bend joins.
+    ensures corners { CornersTouch shape.now mask }
 {
     let places = placed(shape, mask);
-    let mut boxes = face_boxes(shape, mask, places.as_slice());
-    put_corner_boxes(shape, mask, places.as_slice(), &mut boxes);
+    boxes_at(shape, mask, places.as_slice())
+}
+
+/// The boxes of the part, from the places of its faces.
+pub(crate) fn boxes_at(shape: &Shape, mask: Mask, places: &[Place]) -> ArrayVec<PartBox, 25>
+    requires count { length places.now ≡ length shape.now.part.faces }
+    requires places { ArePlaces shape.now mask places.now }
+    ensures value { result.items ≡ boxes_of shape.now mask }
+    ensures near { All IsNearBox result.items }
+    ensures ids { All IsBoxId result.items }
+    ensures room { length result.items ≤ 25 }
+{
+    let mut boxes = face_boxes(shape, mask, places);
+    put_corner_boxes(shape, mask, places, &mut boxes);
     boxes
 }
 
@@ -36,7 +52,9 @@ fn face_boxes(shape: &Shape, mask: Mask, places: &[Place]) -> ArrayVec<PartBox, 
     requires places { ArePlaces shape.now mask places.now }
     ensures value { result.items ≡ map (face_box shape.now mask) (face_numbers shape.now.part.faces) }
     ensures near { All IsNearBox result.items }
+    ensures ids { All IsBoxId result.items }
     ensures count { length result.items ≡ length shape.now.part.faces }
+    ensures few { length result.items ≤ 13 }
 {
     let mut boxes = ArrayVec::new();
     for face in 0..shape.faces() {
@@ -50,9 +68,12 @@ fn put_corner_boxes(shape: &Shape, mask: Mask, places: &[Place], boxes: &mut Arr
     requires count { length places.now ≡ length shape.now.part.faces }
     requires places { ArePlaces shape.now mask places.now }
     requires near { All IsNearBox boxes.old.items }
+    requires ids { All IsBoxId boxes.old.items }
     requires room { length boxes.old.items ≤ 13 }
     ensures value { boxes.new.items ≡ boxes.old.items ++ map (corner_box shape.now mask) (filter (has mask) (bend_numbers shape.now.part.faces)) }
     ensures near { All IsNearBox boxes.new.items }
+    ensures ids { All IsBoxId boxes.new.items }
+    ensures room { length boxes.new.items ≤ 25 }
 {
     for bend in 1..shape.faces() {
         if mask.contains(bend) {
@@ -69,6 +90,7 @@ fn face_box(shape: &Shape, mask: Mask, places: &[Place], face: u8) -> PartBox
     requires few { length shape.now.part.faces ≤ 13 }
     ensures value { result ≡ face_box shape.now mask face }
     ensures near { IsNearBox result }
+    ensures id { IsBoxId result }
 {
     let place = &places[usize::from(face)];
     PartBox {
@@ -86,6 +108,7 @@ fn corner_box(shape: &Shape, mask: Mask, places: &[Place], bend: u8) -> PartBox
     requires few { length shape.now.part.faces ≤ 13 }
     ensures value { result ≡ corner_box shape.now mask bend }
     ensures near { IsNearBox result }
+    ensures id { IsBoxId result }
 {
     let hinge = shape.hinge(bend);
     let place = &places[usize::from(hinge.parent)];

@@ -2,7 +2,7 @@
 ghost use Rattle.std.specs.Prelude.{◌≡◌, ◌+◌, ◌<◌, ◌≤◌, ◌≤ℤ◌, pos, length, IsOk};
 ghost use Rattle.brake_base.specs.Boxes.{IsBoxWithin};
 ghost use Rattle.part_file.specs.Part.{IsPart, part_data, half_thickness};
-ghost use Rattle.unfolder.specs.Cores.{core};
+ghost use Rattle.unfolder.specs.Cores.{core, joint_of};
 ghost use Rattle.unfolder.specs.Near.{IsRectWithin};
 ghost use Rattle.unfolder.specs.Blank.{blank_of_part};
 ghost use Rattle.fold_boxes.specs.Shapes.{core_width, core_length, line_length, IsShape};
@@ -104,8 +104,19 @@ impl Shape {
         requires bend { bend < length self.now.part.faces }
         ensures value { IsHingeOf self.now bend result.now }
         ensures earlier { result.now.parent < bend }
+        ensures rules { IsShape self.now }
     {
         &self.hinges.as_slice()[usize::from(bend - 1)]
+    }
+
+    /// The parent of a bend.
+    pub fn parent(&self, bend: u8) -> u8
+        requires some { 0 < bend }
+        requires bend { bend < length self.now.part.faces }
+        ensures value { result ≡ (joint_of self.now.part.faces bend).on }
+        ensures earlier { result < bend }
+    {
+        self.hinge(bend).parent
     }
 
     /// The core of a face.

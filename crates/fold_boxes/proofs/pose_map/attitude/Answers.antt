@@ -1,0 +1,30 @@
+use Rattle.std.proofs.Common.{◌≡◌, ◌∙◌, ◌<◌, ap, List, length, arith}
+use Rattle.brake_base.specs.Turns.{Map, turn_of, multiply, transpose}
+use Rattle.part_file.specs.Part.{PartData, FaceData}
+use Rattle.unfolder.specs.Cores.{joint_of}
+use Rattle.fold_boxes.specs.Folded.{place_of}
+use Rattle.fold_boxes.specs.Pose.{parent_place, frame_turn, attitude_turn}
+use Rattle.fold_boxes.proofs.Folding.{read_place}
+use Rattle.fold_boxes.proofs.Numbered.{turn_number_is}
+use Rattle.fold_boxes.proofs.pose_map.attitude.Goals as goal
+
+pub returns-clause-turn : goal.returns-clause-turn
+unfolding attitude_turn
+returns-clause-turn c =
+    let shape = c.args.shape.now in
+    let mask = c.args.mask in
+    let bend = c.args.bend in
+    let back = c.args.back in
+    let kept = c.hinge.result.now in
+    let place = c.index-as_slice-from.result in
+    let inside : kept.parent < length c.placed-places.result.items = omega (arith, c.requires.bend, c.hinge.ensures.earlier, c.placed-places.ensures.count) in
+    let read = read_place shape mask c.placed-places.result.items c.as_slice.result.now c.from.result kept.parent place c.placed-places.ensures.each c.as_slice.ensures.value c.from.ensures inside in
+    let is = c.index-as_slice-from.is in
+    let parent : turn_of place.turn ≡ (parent_place shape mask bend).turn =
+    ap (λ p. turn_of p.turn) is ∙ ap (λ (m : Map). m.turn) read.map ∙ ap (λ on. (place_of shape mask on).turn) c.hinge.ensures.value.parent in
+    let faces_are = ap (λ (p : PartData). p.faces) c.part.ensures.value in
+    let joint : c.joint_of.result ≡ joint_of shape.part.faces bend = c.joint_of.ensures.value ∙ ap (λ (fs : List FaceData). joint_of fs bend) faces_are in
+    c.pose_turn.ensures.value ∙ (λ i. multiply (frame_turn (joint i).side (joint i).dir back) (transpose (parent i)))
+
+pub returns-clause-value : goal.returns-clause-value
+returns-clause-value c = turn_number_is c.pose_turn.result (attitude_turn c.args.shape.now c.args.mask c.args.bend c.args.back) c.pose_turn.ensures.below (returns-clause-turn c)
