@@ -3,3 +3,9 @@ pub mod Validity
 pub mod Steps
 pub mod Near
 pub mod StageAt
+pub mod GroupMasks
+pub mod ShortStock
+pub mod BoxByBox
+pub mod Solid
+pub mod Lines
+pub mod ReasonLocality

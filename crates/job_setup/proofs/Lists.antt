@@ -1,12 +1,11 @@
 -- What a look at the code's lists gives of their data.
-use Rattle.std.proofs.Common.{◌≡◌, ℕ, ℤ, pos, suc, ◌+◌, ◌<◌, ◌≤◌, Bool, true, false, cond, Some, List, [], ◌∷◌, map, length, get_or, drop, Result, Ok, Err, refl, sym, ap, subst, ◌∙◌, add-one, drop-cons, arith}
+use Rattle.std.proofs.Common.{◌≡◌, ℕ, ℤ, pos, suc, ◌+◌, ◌<◌, ◌≤◌, Bool, true, false, cond, Some, List, [], ◌∷◌, map, length, get_or, drop, Result, Err, refl, sym, ap, subst, ◌∙◌, add-one, drop-cons, arith}
 use Rattle.std.specs.Prelude.{Option, None, All, find, option_map, sum_by, take}
 use Rattle.std.proofs.lemmas.List.{take_all}
 use Rattle.std.proofs.lemmas.List.Sums.{sum_by_more}
 use Rattle.std.proofs.lemmas.List.{length-map, take-map, get_or-map}
-use Rattle.std.proofs.lemmas.List.Folds.{list_all-map}
 use Rattle.std.proofs.lemmas.Int.{to_z-of_z}
-use Rattle.toml_fields.specs.Results.{◌>>=◌, each_from}
+use Rattle.toml_fields.specs.Results.{each_from}
 use Rattle.toml_fields.proofs.Sizes.{count_by_map}
 use Rattle.toml_fields.proofs.Each.{with_front}
 use Rattle.part_file.proofs.RowData.{position_map}

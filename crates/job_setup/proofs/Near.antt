@@ -1,13 +1,17 @@
 -- All coordinates of a valid job's setup lie within 1,000,000,000 micrometres of 0.
-use Rattle.std.proofs.Common.{◌≡◌, ℕ, suc, ◌*◌, ◌<◌, ◌≤◌, ℤ, pos, neg_ℤ, ◌+ℤ◌, ◌≤ℤ◌, List, [], ◌∷◌, length, arith}
+use Rattle.std.proofs.Common.{suc, ◌*◌, ℤ, pos, neg_ℤ, ◌+ℤ◌, ◌≤ℤ◌, List, [], ◌∷◌, length, arith}
 use Rattle.std.specs.Prelude.{All, fold}
 use Rattle.std.proofs.lemmas.Int.{ints}
+use Rattle.brake_base.specs.declared.plane.Rect.{Rect}
+use Rattle.tool_library.specs.Tools.{IsBodyBox}
 use Rattle.machine_file.specs.declared.machine.Fixed.{Fixed}
-use Rattle.machine_file.specs.Machine.{farthest, IsWithin, IsSpan, IsFixed}
+use Rattle.machine_file.specs.declared.machine.GaugeRule.{GaugeRule}
+use Rattle.toml_fields.specs.Ranges.{IsWithin, IsRange}
+use Rattle.machine_file.specs.Machine.{IsFixed, IsGaugeRule}
 use Rattle.unfolder.specs.Extent.{IsNear}
 use Rattle.job_setup.specs.Setup.{StageData, JobData}
 use Rattle.job_setup.specs.ValidJob.{IsStage, IsJob}
-use Rattle.job_setup.specs.Near.{IsNearBox, IsNearStage, IsNearSetup}
+use Rattle.job_setup.specs.Near.{IsNearBox, IsNearStage, IsNearProfile, HasNearTools, IsNearGauge, IsNearSetup}
 
 -- how long some pieces can be together, after a length
 total_from : (pieces : List ℤ) (a : ℤ) → All (IsWithin (pos 1) (pos 10000000)) pieces → (a ≤ℤ fold ◌+ℤ◌ a pieces) × (fold ◌+ℤ◌ a pieces ≤ℤ (a +ℤ pos (10000000 * length pieces)))
@@ -17,14 +21,14 @@ total_from (piece ∷ pieces) a all =
     let later = total_from pieces (a +ℤ piece) (λ k d within. all (suc k) d (omega arith)) in
     (omega (arith, ints, later.0, one.bottom), omega (arith, ints, later.1, one.top))
 
-span_near : (low high from to : ℤ) → IsSpan low high from to → neg_ℤ (pos 20000000) ≤ℤ low → high ≤ℤ pos 20000000 → IsNear from × IsNear to
+span_near : (low high from to : ℤ) → IsRange low high from to → neg_ℤ (pos 20000000) ≤ℤ low → high ≤ℤ pos 20000000 → IsNear from × IsNear to
 span_near low high from to span bottom top =
     ((omega (arith, ints, span.bottom, bottom), omega (arith, ints, span.order, span.top, top)), (omega (arith, ints, span.order, span.bottom, bottom), omega (arith, ints, span.top, top)))
 
 box_near : (low high : ℤ) (box : Fixed) → IsFixed low high box → neg_ℤ (pos 20000000) ≤ℤ low → high ≤ℤ pos 20000000 → IsNearBox box
 box_near low high box fit bottom top =
-    let x = span_near _ _ _ _ fit.along (omega (arith, ints)) (omega (arith, ints)) in
-    let y = span_near _ _ _ _ fit.across (omega (arith, ints)) (omega (arith, ints)) in
+    let x = span_near _ _ _ _ fit.footprint.along (omega (arith, ints)) (omega (arith, ints)) in
+    let y = span_near _ _ _ _ fit.footprint.across (omega (arith, ints)) (omega (arith, ints)) in
     let z = span_near _ _ _ _ fit.upwards bottom top in
     record { x0 = x.0; x1 = x.1; y0 = y.0; y1 = y.1; z0 = z.0; z1 = z.1 }
 
@@ -35,6 +39,39 @@ stage_near stage fit =
       x0 = (omega (arith, ints, fit.at.bottom), omega (arith, ints, fit.at.top));
       x1 = (omega (arith, ints, fit.long, long.0, fit.at.bottom), omega (arith, ints, fit.long, long.1, fit.at.top, fit.few_pieces));
     }
+
+profile_near : (low high : ℤ) (profile : Rect) → IsBodyBox low high profile → neg_ℤ (pos 20000000) ≤ℤ low → high ≤ℤ pos 20000000 → IsNearProfile profile
+profile_near low high profile fit bottom top =
+    let y = span_near _ _ _ _ fit.across (omega (arith, ints)) (omega (arith, ints)) in
+    let z = span_near _ _ _ _ fit.upwards bottom top in
+    record { y0 = y.0; y1 = y.1; z0 = z.0; z1 = z.1 }
+
+tools_near : (stage : StageData) → IsStage stage → HasNearTools stage
+tools_near stage fit =
+    let punch = fit.punch.sizes.height in
+    let die = fit.die.sizes.height in
+    record {
+      punch = λ k d within. profile_near (pos 0) stage.punch.height _ (fit.punch.lists.each_box k d within) (omega (arith, ints)) (omega (arith, ints, punch.top));
+      die = λ k d within. profile_near (neg_ℤ stage.die.height) (pos 0) _ (fit.die.lists.each_box k d within) (omega (arith, ints, die.top)) (omega (arith, ints));
+    }
+
+length_near : (n : ℤ) → IsWithin (pos 0) (pos 10000000) n → IsNear n
+length_near n fit = (omega (arith, ints, fit.bottom), omega (arith, ints, fit.top))
+
+finger_near : (n : ℤ) → IsWithin (pos 1) (pos 10000000) n → IsNear n
+finger_near n fit = (omega (arith, ints, fit.bottom), omega (arith, ints, fit.top))
+
+gauge_near : (gauge : GaugeRule) → IsGaugeRule gauge → IsNearGauge gauge
+gauge_near gauge fit = record {
+  near = length_near _ fit.near;
+  far = length_near _ fit.far;
+  inset = length_near _ fit.inset;
+  finger = finger_near _ fit.finger;
+  gap = length_near _ fit.gap;
+  depth = finger_near _ fit.depth;
+  above = length_near _ fit.above;
+  below = length_near _ fit.below;
+}
 
 pub setup_near : (j : JobData) → IsJob j → IsNearSetup j
 setup_near j fit =
@@ -48,4 +85,6 @@ setup_near j fit =
       upper = λ k d within. box_near _ _ _ (setup.upper k d within) (omega (arith, ints)) (omega (arith, ints));
       lower = λ k d within. box_near _ _ _ (setup.lower k d within) (omega (arith, ints)) (omega (arith, ints));
       stages = λ k d within. stage_near _ (setup.stages k d within);
+      tools = λ k d within. tools_near _ (setup.stages k d within);
+      gauge = gauge_near _ setup.gauge;
     }

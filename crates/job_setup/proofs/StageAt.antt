@@ -1,12 +1,11 @@
 -- The stages of a job as the code reads them.
 use Rattle.std.proofs.Common.{◌≡◌, ℕ, ◌<◌, List, map, length, get_or, ◌∙◌, ap, sym, subst, arith}
-use Rattle.std.specs.Prelude.{All}
 use Rattle.std.proofs.lemmas.List.{length-map, get_or-map}
 use Rattle.job_setup.specs.declared.setup.Stage.{Stage}
 use Rattle.job_setup.specs.Setup.{StageData, JobData, stage_data}
 use Rattle.job_setup.specs.ValidJob.{IsJob}
 use Rattle.job_setup.specs.Near.{IsNearStage}
-use Rattle.job_setup.specs.Reasons.{no_stage, stage_of}
+use Rattle.job_setup.specs.StageOf.{no_stage, stage_of}
 use Rattle.job_setup.proofs.Near.{setup_near}
 
 -- the index of a stage lies within the code's list

@@ -1,12 +1,12 @@
 -- The steps of the definition of a job, one after the other.
-use Rattle.std.proofs.Common.{◌≡◌, ℕ, ℤ, List, Result, Ok, Err, refl, ap, ◌∙◌}
+use Rattle.std.proofs.Common.{◌≡◌, ℤ, List, Result, Ok, Err, ap, ◌∙◌}
 use Rattle.std.specs.Prelude.{OnOk}
 use Rattle.toml_fields.specs.Results.{◌>>=◌, each_from}
 use Rattle.part_file.specs.Part.{PartData}
 use Rattle.tool_library.specs.Tools.{ToolsData}
 use Rattle.machine_file.specs.Machine.{MachineData}
 use Rattle.job_setup.specs.declared.fault.JobFault.{JobFault}
-use Rattle.job_setup.specs.Setup.{StageData, JobData}
+use Rattle.job_setup.specs.Setup.{StageData}
 use Rattle.job_setup.specs.Stages.{stage_of}
 use Rattle.job_setup.specs.Places.{places_fit}
 use Rattle.job_setup.specs.Stock.{stock_suffices}

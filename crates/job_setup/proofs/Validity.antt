@@ -1,5 +1,5 @@
 -- The stages that the definition gives, and the jobs whose checks passed, are valid.
-use Rattle.std.proofs.Common.{◌≡◌, ℕ, suc, ◌+◌, ◌<◌, ℤ, pos, ◌≤ℤ◌, Bool, true, false, List, [], ◌∷◌, length, Option, Some, None, Result, Ok, Err, ok_or, if◌then◌else◌, refl, sym, ◌∙◌, ap, subst, arith}
+use Rattle.std.proofs.Common.{◌≡◌, ℕ, suc, ◌+◌, ℤ, pos, ◌≤ℤ◌, Bool, true, false, List, [], ◌∷◌, length, Option, Some, None, Result, Ok, Err, ok_or, if◌then◌else◌, refl, sym, ◌∙◌, ap, subst, arith}
 use Rattle.std.specs.Prelude.{◌≤◌, All, find, bytes_eq, IsOk}
 use Rattle.std.specs.Int.{int_min}
 use Rattle.std.specs.Ordering.{int_eq}
@@ -7,15 +7,15 @@ use Rattle.std.specs.Result.{is_ok}
 use Rattle.std.proofs.lemmas.Bool.{false≢true}
 use Rattle.std.proofs.lemmas.Int.{ints, clamps}
 use Rattle.std.proofs.lemmas.List.Elements.{All-nil, All-cons}
-use Rattle.toml_fields.specs.Results.{◌>>=◌, each_from}
+use Rattle.toml_fields.specs.Results.{each_from}
 use Rattle.toml_fields.proofs.Bind.{bind_ok, ok_or_ok, ok_same}
 use Rattle.part_file.specs.Part.{PartData, IsPart, half_thickness}
 use Rattle.unfolder.specs.declared.blank.Blank.{Blank}
 use Rattle.unfolder.specs.declared.blank.UnfoldFault.{UnfoldFault}
 use Rattle.unfolder.specs.Blank.{BlankData, Gives, blank_of_part}
 use Rattle.tool_library.specs.Tools.{PunchData, DieData, LoadData, ToolsData, IsPunch, IsDie, IsLoad, IsTools}
-use Rattle.machine_file.specs.Machine.{StageTextData, MachineData, IsWithin, IsStageText, IsMachine}
-use Rattle.job_setup.specs.declared.fault.JobFault.{JobFault}
+use Rattle.toml_fields.specs.Ranges.{IsWithin}
+use Rattle.machine_file.specs.Machine.{StageTextData, MachineData, IsStageText, IsMachine}
 use Rattle.job_setup.specs.declared.fault.JobFault.TheVariants.{UnknownTool}
 use Rattle.fold_boxes.specs.Shapes.{IsShape}
 use Rattle.job_setup.specs.Setup.{StageData, SetupData, JobData}
@@ -30,34 +30,15 @@ use Rattle.job_setup.proofs.Lists.{found_has}
 punch_is : (p : PunchData) → IsPunch p → IsPunch (punch_shape p)
 punch_is p fit = record {
   name = fit.name;
-  height_low = fit.height_low;
-  height_high = fit.height_high;
-  nose_low = fit.nose_low;
-  nose_high = fit.nose_high;
-  few_boxes = fit.few_boxes;
-  boxes = fit.boxes;
-  few_sections = omega arith;
-  sections = λ k d within. absurd (omega arith);
-  limit_low = omega (arith, ints);
-  limit_high = omega (arith, ints);
+  sizes = record { height = fit.sizes.height; nose = fit.sizes.nose; limit = record { bottom = omega (arith, ints); top = omega (arith, ints) } };
+  lists = record { few_boxes = fit.lists.few_boxes; each_box = fit.lists.each_box; few_sections = omega arith; each_section = λ k d within. absurd (omega arith) };
 }
 
 die_is : (d : DieData) → IsDie d → IsDie (die_shape d)
 die_is d fit = record {
   name = fit.name;
-  height_low = fit.height_low;
-  height_high = fit.height_high;
-  v_low = fit.v_low;
-  v_high = fit.v_high;
-  v_even = fit.v_even;
-  least_flange_low = fit.least_flange_low;
-  least_flange_high = fit.least_flange_high;
-  few_boxes = fit.few_boxes;
-  boxes = fit.boxes;
-  few_sections = omega arith;
-  sections = λ k d within. absurd (omega arith);
-  limit_low = omega (arith, ints);
-  limit_high = omega (arith, ints);
+  sizes = record { height = fit.sizes.height; v = fit.sizes.v; least_flange = fit.sizes.least_flange; limit = record { bottom = omega (arith, ints); top = omega (arith, ints) } };
+  lists = record { few_boxes = fit.lists.few_boxes; each_box = fit.lists.each_box; few_sections = omega arith; each_section = λ k d within. absurd (omega arith) };
 }
 
 load_is : (part : PartData) (loads : List LoadData) (v : ℤ) → All IsLoad loads → IsWithin (pos 0) (pos 1000000) (stage_load part loads v)
@@ -67,7 +48,7 @@ load_is part loads v all = by_found (find (is_load_for part v) loads) refl
     by_found None is = record { bottom = omega (arith, ints); top = omega (arith, ints) }
     by_found (Some row) is =
         let fit : IsLoad row = found_has IsLoad (is_load_for part v) loads row all is in
-        record { bottom = omega (arith, ints, fit.load_low); top = fit.load_high }
+        record { bottom = omega (arith, ints, fit.load.bottom); top = fit.load.top }
 
 limit_is : (a b : ℤ) → pos 0 ≤ℤ a → a ≤ℤ pos 1000000 → pos 0 ≤ℤ b → b ≤ℤ pos 1000000 → IsWithin (pos 0) (pos 1000000) (least_limit a b)
 limit_is a b a_low a_high b_low b_high = by_tests (int_eq a (pos 0)) (int_eq b (pos 0))
@@ -91,7 +72,7 @@ stage_is part loads text punch die all fit punch_fit die_fit = record {
   few_pieces = fit.few_pieces;
   pieces = fit.pieces;
   load = load_is part loads die.v all;
-  limit = limit_is punch.limit die.limit punch_fit.limit_low punch_fit.limit_high die_fit.limit_low die_fit.limit_high;
+  limit = limit_is punch.limit die.limit punch_fit.sizes.limit.bottom punch_fit.sizes.limit.top die_fit.sizes.limit.bottom die_fit.sizes.limit.top;
 }
 
 -- the stage that a text gives

@@ -4,9 +4,7 @@ use Rattle.toml_fields.specs.Results.{◌>>=◌, each_from}
 use Rattle.part_file.specs.declared.fault.PartFault.{PartFault}
 use Rattle.part_file.specs.Part.{PartData}
 use Rattle.part_file.specs.PartFile.{part_of}
-use Rattle.allowance.specs.declared.table.AllowFault.{AllowFault}
-use Rattle.allowance.specs.AllowTable.{found_in}
-use Rattle.unfolder.specs.declared.blank.UnfoldFault.{UnfoldFault}
+use Rattle.allowance.specs.AllowTable.{half_deduction_in}
 use Rattle.unfolder.specs.Blank.{BlankData, blank_of_part}
 use Rattle.tool_library.specs.declared.fault.ToolFault.{ToolFault}
 use Rattle.tool_library.specs.Tools.{ToolsData}
@@ -64,7 +62,7 @@ job_with part q tools machine = do
 -- the job of a part, tools and a machine, or the first refusal
 unfoldable pub job_in : PartData → ToolsData → MachineData → Result JobData JobFault
 job_in part tools machine = do
-  q ← refusing Allow (found_in tools.allow part)
+  q ← refusing Allow (half_deduction_in tools.allow part)
   job_with part q tools machine
 
 -- a part with its blank
@@ -75,7 +73,7 @@ pub record FlatPart : Type 0 where
 -- the part with its blank by the deductions of a shop's tools, or the first refusal
 unfoldable pub blank_in : PartData → ToolsData → Result FlatPart JobFault
 blank_in part tools = do
-  q ← refusing Allow (found_in tools.allow part)
+  q ← refusing Allow (half_deduction_in tools.allow part)
   blank ← refusing Unfold (blank_of_part part q)
   Ok (record { part = part; blank = blank })
 

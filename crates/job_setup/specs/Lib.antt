@@ -3,10 +3,14 @@ pub mod Results
 pub mod Stages
 pub mod Loads
 pub mod Stock
+pub mod StageStock
 pub mod Places
 pub mod ValidJob
 pub mod SetupRules
 pub mod JobOf
 pub mod StrokeGroup
+pub mod StageOf
+pub mod Obstacles
 pub mod Reasons
+pub mod LegalGauge
 pub mod Near

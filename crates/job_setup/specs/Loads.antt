@@ -3,7 +3,7 @@ use Rattle.std.specs.Prelude.{ℕ, ℤ, pos, List, length, find, count_by, posit
 use Rattle.std.specs.Ordering.{int_eq}
 use Rattle.toml_fields.specs.Results.{◌>>=◌, refuse_found}
 use Rattle.part_file.specs.Part.{PartData}
-use Rattle.tool_library.specs.Tools.{DieData, LoadData}
+use Rattle.tool_library.specs.Tools.{LoadData}
 use Rattle.job_setup.specs.declared.fault.JobFault.{JobFault}
 use Rattle.job_setup.specs.declared.fault.JobFault.TheVariants.{NoLoad, TwoLoads}
 use Rattle.job_setup.specs.Setup.{StageData}

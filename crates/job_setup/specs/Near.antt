@@ -1,7 +1,8 @@
 -- How large the coordinates of a job can be.
-use Rattle.std.specs.Prelude.{◌≤◌, ℤ, length, All}
+use Rattle.std.specs.Prelude.{All}
+use Rattle.brake_base.specs.declared.plane.Rect.{Rect}
 use Rattle.machine_file.specs.declared.machine.Fixed.{Fixed}
-use Rattle.part_file.specs.Part.{FaceData}
+use Rattle.machine_file.specs.declared.machine.GaugeRule.{GaugeRule}
 use Rattle.unfolder.specs.Extent.{IsNear}
 use Rattle.job_setup.specs.Setup.{StageData, JobData}
 
@@ -17,6 +18,28 @@ pub record IsNearStage (stage : StageData) : Type 0 where
   pub x0 : IsNear stage.x0
   pub x1 : IsNear stage.x1
 
+-- a box of a tool's body, across the bed and upwards
+pub record IsNearProfile (profile : Rect) : Type 0 where
+  pub y0 : IsNear profile.y0
+  pub y1 : IsNear profile.y1
+  pub z0 : IsNear profile.z0
+  pub z1 : IsNear profile.z1
+
+-- the boxes of a stage's tools
+pub record HasNearTools (stage : StageData) : Type 0 where
+  pub punch : All IsNearProfile stage.punch.body
+  pub die : All IsNearProfile stage.die.body
+
+pub record IsNearGauge (gauge : GaugeRule) : Type 0 where
+  pub near : IsNear gauge.near
+  pub far : IsNear gauge.far
+  pub inset : IsNear gauge.inset
+  pub finger : IsNear gauge.finger
+  pub gap : IsNear gauge.gap
+  pub depth : IsNear gauge.depth
+  pub above : IsNear gauge.above
+  pub below : IsNear gauge.below
+
 -- all coordinates of the setup lie within 1,000,000,000 micrometres of 0
 pub record IsNearSetup (j : JobData) : Type 0 where
   pub bed_from : IsNear j.setup.bed.0
@@ -26,3 +49,5 @@ pub record IsNearSetup (j : JobData) : Type 0 where
   pub upper : All IsNearBox j.setup.upper
   pub lower : All IsNearBox j.setup.lower
   pub stages : All IsNearStage j.setup.stages
+  pub tools : All HasNearTools j.setup.stages
+  pub gauge : IsNearGauge j.setup.gauge

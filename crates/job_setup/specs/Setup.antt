@@ -1,5 +1,5 @@
 -- A setup of a machine, and a job, as numbers, lists and texts. Lengths are in micrometres.
-use Rattle.std.specs.Prelude.{ℕ, ℤ, List, map, Bool}
+use Rattle.std.specs.Prelude.{ℤ, List, map, Bool}
 use Rattle.part_file.specs.Part.{PartData}
 use Rattle.tool_library.specs.Tools.{PunchData, DieData, punch_data, die_data}
 use Rattle.fold_boxes.specs.Shapes.{ShapeData}

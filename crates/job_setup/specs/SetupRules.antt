@@ -1,13 +1,14 @@
 -- The rules of a setup in parts.
 use Rattle.std.specs.Prelude.{◌≡◌, ◌≤◌, pos, neg_ℤ, length, All, Ok}
-use Rattle.machine_file.specs.Machine.{farthest, IsWithin, IsRange, IsFixed, IsGaugeRule, IsCosts}
+use Rattle.toml_fields.specs.Ranges.{IsWithin}
+use Rattle.machine_file.specs.Machine.{farthest, IsBedRange, IsFixed, IsGaugeRule, IsCosts}
 use Rattle.job_setup.specs.Setup.{SetupData}
 use Rattle.job_setup.specs.Places.{places_fit}
 use Rattle.job_setup.specs.ValidJob.{IsStage}
 
 -- the frames and the fixed boxes of the machine
 pub record HasFixtures (s : SetupData) : Type 0 where
-  pub frames : All IsRange s.frames
+  pub frames : All IsBedRange s.frames
   pub few_frames : length s.frames ≤ 4
   pub upper : All (IsFixed (pos 0) farthest) s.upper
   pub few_upper : length s.upper ≤ 16
@@ -16,7 +17,7 @@ pub record HasFixtures (s : SetupData) : Type 0 where
 
 -- its bed, its backgauge and its numbers
 pub record HasRules (s : SetupData) : Type 0 where
-  pub bed : IsRange s.bed
+  pub bed : IsBedRange s.bed
   pub gauge : IsGaugeRule s.gauge
   pub cost : IsCosts s.cost
   pub uncovered : IsWithin (pos 0) (pos 1000000) s.uncovered

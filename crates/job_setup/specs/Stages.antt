@@ -5,16 +5,11 @@ use Rattle.std.specs.Int.{int_min}
 use Rattle.toml_fields.specs.Results.{◌>>=◌}
 use Rattle.part_file.specs.Part.{PartData}
 use Rattle.tool_library.specs.Tools.{PunchData, DieData, LoadData, ToolsData}
-use Rattle.machine_file.specs.declared.machine.StageText.{StageText}
-use Rattle.machine_file.specs.Machine.{StageTextData, stage_data}
+use Rattle.machine_file.specs.Machine.{StageTextData}
 use Rattle.job_setup.specs.declared.fault.JobFault.{JobFault}
 use Rattle.job_setup.specs.declared.fault.JobFault.TheVariants.{UnknownTool}
 use Rattle.job_setup.specs.Setup.{StageData}
 use Rattle.job_setup.specs.Loads.{stage_load}
-
--- a stage as the machine's file gives it, by the names of its tools
-abbrev pub stage_text_data : StageText → StageTextData
-stage_text_data text = stage_data text
 
 -- the punch of a name, and the die of a name
 abbrev pub punch_named : List PunchData → List ℕ → Option PunchData

@@ -1,5 +1,5 @@
 -- What the stages use of the shop's stock of tool pieces.
-use Rattle.std.specs.Prelude.{ℕ, ◌+◌, ℤ, List, [], length, take, slice_index_or, sum_by, count_by, Bool, ◌||◌, nat_lt, bytes_eq, Option, Some, None, Result, if◌then◌else◌, pos}
+use Rattle.std.specs.Prelude.{ℕ, ◌+◌, ℤ, List, [], length, take, sum_by, count_by, Bool, ◌||◌, nat_lt, bytes_eq, Option, Some, None, Result, if◌then◌else◌}
 use Rattle.std.specs.List.{list_any}
 use Rattle.std.specs.Ordering.{int_eq}
 use Rattle.toml_fields.specs.Results.{refuse_first}
@@ -7,6 +7,8 @@ use Rattle.tool_library.specs.Tools.{PunchData, DieData, ToolsData}
 use Rattle.machine_file.specs.Machine.{StageTextData}
 use Rattle.job_setup.specs.declared.fault.JobFault.{JobFault}
 use Rattle.job_setup.specs.declared.fault.JobFault.TheVariants.{StockShort}
+use Rattle.job_setup.specs.declared.stock.ToolKind.{ToolKind}
+use Rattle.job_setup.specs.declared.stock.ToolKind.TheVariants.{Punch, Die}
 use Rattle.job_setup.specs.Stages.{punch_named, die_named}
 
 -- how many pieces of a length a section stands for
@@ -26,37 +28,40 @@ abbrev pub die_sections : Option DieData → List (ℤ × ℕ)
 die_sections None = []
 die_sections (Some die) = die.sections
 
--- how many pieces of a length a stage uses with the punch of a name, and with the die of a name
-abbrev pub punch_use : List ℕ → ℤ → StageTextData → ℕ
-punch_use name length stage = if bytes_eq stage.punch name then count_by (λ piece. int_eq piece length) stage.pieces else 0
+-- the sections of the punch, or of the die, of a name
+abbrev pub sections_of : ToolsData → ToolKind → List ℕ → List (ℤ × ℕ)
+sections_of tools Punch name = punch_sections (punch_named tools.punches name)
+sections_of tools Die name = die_sections (die_named tools.dies name)
 
-abbrev pub die_use : List ℕ → ℤ → StageTextData → ℕ
-die_use name length stage = if bytes_eq stage.die name then count_by (λ piece. int_eq piece length) stage.pieces else 0
+-- the name of a stage's punch, or of its die
+abbrev pub tool_name : ToolKind → StageTextData → List ℕ
+tool_name Punch stage = stage.punch
+tool_name Die stage = stage.die
 
--- how many pieces of a length the stages use
-abbrev pub used_with_punch : List StageTextData → List ℕ → ℤ → ℕ
-used_with_punch stages name length = sum_by (punch_use name length) stages
+-- how many pieces of a length a stage uses with the tool of a name
+abbrev pub stage_use : ToolKind → List ℕ → ℤ → StageTextData → ℕ
+stage_use kind name length stage =
+    if bytes_eq (tool_name kind stage) name then count_by (λ piece. int_eq piece length) stage.pieces else 0
 
-abbrev pub used_with_die : List StageTextData → List ℕ → ℤ → ℕ
-used_with_die stages name length = sum_by (die_use name length) stages
+-- how many pieces of a length the stages use with the tool of a name
+abbrev pub used : ToolKind → List StageTextData → List ℕ → ℤ → ℕ
+used kind stages name length = sum_by (stage_use kind name length) stages
 
--- the stages use more pieces of this length with this punch, or with this die, than its sections hold
-abbrev pub is_used_up : ToolsData → List StageTextData → List ℕ → List ℕ → ℤ → Bool
-is_used_up tools stages punch die length =
-    nat_lt (held (punch_sections (punch_named tools.punches punch)) length) (used_with_punch stages punch length)
-    || nat_lt (held (die_sections (die_named tools.dies die)) length) (used_with_die stages die length)
+-- the stages use a length with the tool of a name more often than its sections hold
+unfoldable pub is_used_up : ToolsData → List StageTextData → ToolKind → List ℕ → ℤ → Bool
+is_used_up tools stages kind name length = nat_lt (held (sections_of tools kind name) length) (used kind stages name length)
 
--- what stands past the last stage
-abbrev pub no_stage_text : StageTextData
-no_stage_text = record { punch = []; die = []; at = pos 0; pieces = [] }
+-- the stages use some piece length with the tool of a name more often than its sections hold
+abbrev pub is_tool_short : ToolsData → List StageTextData → ToolKind → List ℕ → Bool
+is_tool_short tools stages kind name = list_any (λ stage. list_any (is_used_up tools stages kind name) stage.pieces) stages
 
-abbrev pub stage_text_at : List StageTextData → ℕ → StageTextData
-stage_text_at stages i = slice_index_or stages i no_stage_text
+-- the stages use some piece length with one tool of this kind more often than its sections hold
+abbrev pub is_kind_short : ToolsData → List StageTextData → ToolKind → Bool
+is_kind_short tools stages kind = list_any (λ stage. is_tool_short tools stages kind (tool_name kind stage)) stages
 
--- the stages up to this one use more pieces of one of its lengths than there are
-abbrev pub is_short : ToolsData → List StageTextData → ℕ → Bool
-is_short tools stages i =
-    list_any (is_used_up tools (take (i + 1) stages) (stage_text_at stages i).punch (stage_text_at stages i).die) (stage_text_at stages i).pieces
+-- some piece length has been used by stages 0 to i, with one punch or one die, more often than that tool's sections hold
+unfoldable pub is_short : ToolsData → List StageTextData → ℕ → Bool
+is_short tools stages i = is_kind_short tools (take (i + 1) stages) Punch || is_kind_short tools (take (i + 1) stages) Die
 
 -- the first stage at which the stock is short
 abbrev pub stock_suffices : ToolsData → List StageTextData → Result (Unit {0}) JobFault

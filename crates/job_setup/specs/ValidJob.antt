@@ -1,9 +1,10 @@
 -- What makes a job valid.
-use Rattle.std.specs.Prelude.{◌≡◌, ℕ, ◌<◌, ◌≤◌, ℤ, pos, neg_ℤ, ◌+ℤ◌, ◌≤ℤ◌, List, [], length, All, Option, Some, None, Ok, IsOk}
-use Rattle.part_file.specs.Part.{PartData, IsPart, half_thickness}
+use Rattle.std.specs.Prelude.{◌≡◌, ◌<◌, ◌≤◌, pos, neg_ℤ, ◌+ℤ◌, ◌≤ℤ◌, [], length, All, Option, Some, None, Ok, IsOk}
+use Rattle.part_file.specs.Part.{IsPart, half_thickness}
 use Rattle.unfolder.specs.Blank.{blank_of_part}
 use Rattle.tool_library.specs.Tools.{IsPunch, IsDie}
-use Rattle.machine_file.specs.Machine.{farthest, IsWithin, IsRange, IsFixed, IsGaugeRule, IsCosts}
+use Rattle.toml_fields.specs.Ranges.{IsWithin}
+use Rattle.machine_file.specs.Machine.{farthest, IsBedRange, IsFixed, IsGaugeRule, IsCosts}
 use Rattle.job_setup.specs.Setup.{StageData, SetupData, JobData}
 use Rattle.job_setup.specs.Stages.{total}
 use Rattle.job_setup.specs.Places.{places_fit}
@@ -26,8 +27,8 @@ pub record IsStage (s : StageData) : Type 0 where
 
 -- all ranges hold, and the stages are equally high, apart, on the bed, and at least one
 pub record IsSetup (s : SetupData) : Type 0 where
-  pub bed : IsRange s.bed
-  pub frames : All IsRange s.frames
+  pub bed : IsBedRange s.bed
+  pub frames : All IsBedRange s.frames
   pub few_frames : length s.frames ≤ 4
   pub upper : All (IsFixed (pos 0) farthest) s.upper
   pub few_upper : length s.upper ≤ 16

@@ -77,6 +77,7 @@ impl Job {
     pub fn bends(&self) -> u8
         ensures value { result + 1 ≡ length self.now.part.faces }
         ensures few { result ≤ 12 }
+        ensures valid { IsJob self.now }
     {
         self.shape.faces() - 1
     }
@@ -85,6 +86,7 @@ impl Job {
     pub fn stages(&self) -> u8
         ensures value { result ≡ length self.now.setup.stages }
         ensures few { result ≤ 6 }
+        ensures valid { IsJob self.now }
     {
         self.setup.stages.len() as u8
     }

@@ -1,7 +1,7 @@
 //! The job of a part, tools and a machine.
 ghost use Rattle.std.specs.Prelude.{◌≡◌, ◌≤ℤ◌, pos, map, length, ◌≤◌, Ok, IsOk, IfOk, OnOk};
 ghost use Rattle.part_file.specs.Part.{part_data, IsPart, half_thickness};
-ghost use Rattle.allowance.specs.AllowTable.{found_in};
+ghost use Rattle.allowance.specs.AllowTable.{half_deduction_in};
 ghost use Rattle.unfolder.specs.Blank.{blank_data, blank_of_part};
 ghost use Rattle.tool_library.specs.Tools.{tools_data, IsTools};
 ghost use Rattle.machine_file.specs.Machine.{machine_data, IsMachine};
@@ -28,7 +28,7 @@ use unfolder::unfold;
 /// Half of what the part loses at each bend, by the shop's table.
 fn half_deduction_of(part: &Part, tools: &Tools) -> Result<i64, JobFault>
     requires { IsTools (tools_data tools.now) }
-    ensures value { result ≡ refusing JobFault.Allow (found_in (tools_data tools.now).allow (part_data part.now)) }
+    ensures value { result ≡ refusing JobFault.Allow (half_deduction_in (tools_data tools.now).allow (part_data part.now)) }
     ensures low { IfOk result (λ q. half_thickness (part_data part.now) ≤ℤ q) }
     ensures high { IfOk result (λ q. q ≤ℤ pos 100000) }
 {

@@ -3,10 +3,11 @@ ghost use Rattle.std.specs.Prelude.{◌≡◌, ◌≤◌, ◌<◌, pos, ◌≤�
 ghost use Rattle.toml_fields.specs.Results.{each_from};
 ghost use Rattle.part_file.specs.Part.{part_data};
 ghost use Rattle.tool_library.specs.Tools.{punch_data, die_data, load_data, tools_data};
-ghost use Rattle.machine_file.specs.Machine.{IsWithin, IsStageText};
+ghost use Rattle.toml_fields.specs.Ranges.{IsWithin};
+ghost use Rattle.machine_file.specs.Machine.{IsStageText, stage_text_data};
 ghost use Rattle.job_setup.specs.Results.{Gives};
 ghost use Rattle.job_setup.specs.Setup.{stage_data};
-ghost use Rattle.job_setup.specs.Stages.{stage_text_data, punch_named, die_named, punch_shape, die_shape, total, least_limit, stage_with, stage_of};
+ghost use Rattle.job_setup.specs.Stages.{punch_named, die_named, punch_shape, die_shape, total, least_limit, stage_with, stage_of};
 
 use crate::fault::JobFault;
 use crate::loads::stage_load;

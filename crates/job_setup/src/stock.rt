@@ -4,14 +4,33 @@ ghost use Rattle.std.specs.Ordering.{int_eq};
 ghost use Rattle.std.specs.List.{list_any};
 ghost use Rattle.toml_fields.specs.Results.{first_below};
 ghost use Rattle.tool_library.specs.Tools.{tools_data, punch_data, die_data};
-ghost use Rattle.job_setup.specs.Stages.{stage_text_data, punch_named, die_named};
-ghost use Rattle.job_setup.specs.Stock.{section_count, held, punch_use, die_use, punch_sections, die_sections, used_with_punch, used_with_die, is_used_up, stage_text_at, is_short, stock_suffices};
+ghost use Rattle.machine_file.specs.Machine.{stage_text_data};
+ghost use Rattle.job_setup.specs.Stages.{punch_named, die_named};
+ghost use Rattle.job_setup.specs.Stock.{section_count, held, punch_sections, die_sections, sections_of, tool_name, stage_use, used, is_used_up, stock_suffices};
+ghost use Rattle.job_setup.specs.StageStock.{overuses, runs_short, is_stage_short};
 
 use crate::fault::JobFault;
 use crate::stages::{die_named, punch_named};
 use brake_base::Name;
 use machine_file::StageText;
 use tool_library::{Die, Punch, Tools};
+
+/// The two tools of a stage.
+#[derive(Clone, Copy)]
+enum ToolKind {
+    Punch,
+    Die,
+}
+
+/// The name of the stage's tool.
+fn tool_name(kind: ToolKind, stage: &StageText) -> &Name
+    ensures { result.now.bytes ≡ tool_name kind (stage_text_data stage.now) }
+{
+    match kind {
+        ToolKind::Punch => &stage.punch,
+        ToolKind::Die => &stage.die,
+    }
+}
 
 /// How many of the pieces have this length.
 fn count_of(pieces: &[i64], piece: &i64) -> usize
@@ -45,50 +64,26 @@ fn held(sections: &[(i64, u16)], piece: &i64) -> usize
     held
 }
 
-/// How many pieces of this length the stage uses with the punch of this name.
-fn punch_use(stage: &StageText, name: &Name, piece: &i64) -> usize
-    ensures value { result ≡ punch_use name.now.bytes piece.now (stage_text_data stage.now) }
+/// How many pieces of this length the stage uses with the tool of this name.
+fn stage_use(kind: ToolKind, stage: &StageText, name: &Name, piece: &i64) -> usize
+    ensures value { result ≡ stage_use kind name.now.bytes piece.now (stage_text_data stage.now) }
     ensures few { result ≤ 32 }
 {
-    if stage.punch == *name {
+    if *tool_name(kind, stage) == *name {
         count_of(stage.pieces.as_slice(), piece)
     } else {
         0
     }
 }
 
-/// How many pieces of this length the stages use with the punch of this name.
-fn used_with_punch(stages: &[StageText], name: &Name, piece: &i64) -> usize
+/// How many pieces of this length the stages use with the tool of this name.
+fn used(kind: ToolKind, stages: &[StageText], name: &Name, piece: &i64) -> usize
     requires { length stages.now ≤ 6 }
-    ensures { result ≡ used_with_punch (map stage_text_data stages.now) name.now.bytes piece.now }
+    ensures { result ≡ used kind (map stage_text_data stages.now) name.now.bytes piece.now }
 {
     let mut used = 0;
     for stage in stages {
-        used += punch_use(stage, name, piece);
-    }
-    used
-}
-
-/// How many pieces of this length the stage uses with the die of this name.
-fn die_use(stage: &StageText, name: &Name, piece: &i64) -> usize
-    ensures value { result ≡ die_use name.now.bytes piece.now (stage_text_data stage.now) }
-    ensures few { result ≤ 32 }
-{
-    if stage.die == *name {
-        count_of(stage.pieces.as_slice(), piece)
-    } else {
-        0
-    }
-}
-
-/// How many pieces of this length the stages use with the die of this name.
-fn used_with_die(stages: &[StageText], name: &Name, piece: &i64) -> usize
-    requires { length stages.now ≤ 6 }
-    ensures { result ≡ used_with_die (map stage_text_data stages.now) name.now.bytes piece.now }
-{
-    let mut used = 0;
-    for stage in stages {
-        used += die_use(stage, name, piece);
+        used += stage_use(kind, stage, name, piece);
     }
     used
 }
@@ -113,49 +108,72 @@ fn held_of_die(dies: &[Die], name: &Name, piece: &i64) -> usize
     }
 }
 
-/// Whether the stages use more pieces of this length with this stage's punch, or with its die,
-/// than there are.
-fn is_used_up(tools: &Tools, stages: &[StageText], stage: &StageText, piece: &i64) -> bool
-    requires { length stages.now ≤ 6 }
-    ensures { result ≡ is_used_up (tools_data tools.now) (map stage_text_data stages.now) (stage_text_data stage.now).punch (stage_text_data stage.now).die piece.now }
+/// How many pieces of this length there are of the tool of this name.
+fn held_of(kind: ToolKind, tools: &Tools, name: &Name, piece: &i64) -> usize
+    ensures { result ≡ held (sections_of (tools_data tools.now) kind name.now.bytes) piece.now }
 {
-    held_of_punch(&tools.punches, &stage.punch, piece)
-        < used_with_punch(stages, &stage.punch, piece)
-        || held_of_die(&tools.dies, &stage.die, piece) < used_with_die(stages, &stage.die, piece)
+    match kind {
+        ToolKind::Punch => held_of_punch(&tools.punches, name, piece),
+        ToolKind::Die => held_of_die(&tools.dies, name, piece),
+    }
 }
 
-/// Whether the stages use more pieces of one of this stage's lengths than there are.
-fn runs_short(tools: &Tools, stages: &[StageText], stage: &StageText) -> bool
+/// Whether the stages use this length with the tool of this name more often than its sections
+/// hold.
+#[tactic(auto, unfolding(crate::specs::Stock::is_used_up))]
+fn is_used_up(tools: &Tools, stages: &[StageText], kind: ToolKind, name: &Name, piece: &i64) -> bool
     requires { length stages.now ≤ 6 }
-    ensures { result ≡ list_any (is_used_up (tools_data tools.now) (map stage_text_data stages.now) (stage_text_data stage.now).punch (stage_text_data stage.now).die) (stage_text_data stage.now).pieces }
+    ensures { result ≡ is_used_up (tools_data tools.now) (map stage_text_data stages.now) kind name.now.bytes piece.now }
 {
+    held_of(kind, tools, name, piece) < used(kind, stages, name, piece)
+}
+
+/// Whether the stages use one of this stage's lengths with its tool of this kind more often than
+/// that tool's sections hold.
+fn overuses(tools: &Tools, stages: &[StageText], stage: &StageText, kind: ToolKind) -> bool
+    requires { length stages.now ≤ 6 }
+    ensures { result ≡ overuses (tools_data tools.now) (map stage_text_data stages.now) (stage_text_data stage.now) kind }
+{
+    let name = tool_name(kind, stage);
     stage
         .pieces
         .as_slice()
         .iter()
-        .any(|piece| is_used_up(tools, stages, stage, piece))
+        .any(|piece| is_used_up(tools, stages, kind, name, piece))
 }
 
-/// Whether the stages up to this one use more pieces of one of its lengths than there are.
-fn is_short(tools: &Tools, stages: &[StageText], i: usize) -> bool
+/// Whether the stages use one of this stage's lengths with its punch or its die more often than
+/// that tool's sections hold.
+fn runs_short(tools: &Tools, stages: &[StageText], stage: &StageText) -> bool
+    requires { length stages.now ≤ 6 }
+    ensures { result ≡ runs_short (tools_data tools.now) (map stage_text_data stages.now) (stage_text_data stage.now) }
+{
+    overuses(tools, stages, stage, ToolKind::Punch) || overuses(tools, stages, stage, ToolKind::Die)
+}
+
+/// Whether the stages up to this one use one of its lengths with its punch or its die more often
+/// than that tool's sections hold.
+#[tactic(auto, unfolding(crate::specs::StageStock::is_stage_short))]
+fn is_stage_short(tools: &Tools, stages: &[StageText], i: usize) -> bool
     requires within { i < length stages.now }
     requires few { length stages.now ≤ 6 }
-    ensures { result ≡ is_short (tools_data tools.now) (map stage_text_data stages.now) i }
+    ensures { result ≡ is_stage_short (tools_data tools.now) (map stage_text_data stages.now) i }
 {
     runs_short(tools, &stages[..=i], &stages[i])
 }
 
-/// The first stage at which the stock is short.
+/// The first stage at which the stock is short by one of the stage's own lengths and tools.
 fn first_short(tools: &Tools, stages: &[StageText]) -> Option<usize>
     requires { length stages.now ≤ 6 }
-    ensures value { result ≡ first_below (is_short (tools_data tools.now) (map stage_text_data stages.now)) (length stages.now) }
+    ensures value { result ≡ first_below (is_stage_short (tools_data tools.now) (map stage_text_data stages.now)) (length stages.now) }
     ensures within { IfSome result (λ i. i < length stages.now) }
 {
-    (0..stages.len()).find(|i| is_short(tools, stages, *i))
+    (0..stages.len()).find(|i| is_stage_short(tools, stages, *i))
 }
 
-/// Refuses the first stage at which the stock is short.
-#[tactic(auto, using(crate::proofs::Lists::seen))]
+/// Refuses the first stage at which the stock is short. It is short there by one of the stage's own
+/// lengths and tools, so that no others are looked at.
+#[tactic(auto, using(crate::proofs::Lists::seen, crate::proofs::ShortStock::first_stage_short))]
 pub(crate) fn check_stock(tools: &Tools, stages: &[StageText]) -> Result<(), JobFault>
     requires { length stages.now ≤ 6 }
     ensures { result ≡ stock_suffices (tools_data tools.now) (map stage_text_data stages.now) }

@@ -5,8 +5,9 @@ ghost use Rattle.brake_base.specs.Masks.{has};
 ghost use Rattle.fold_boxes.specs.Groups.{span, members};
 ghost use Rattle.job_setup.specs.Setup.{stage_data, shape_of};
 ghost use Rattle.job_setup.specs.Near.{IsNearStage};
-ghost use Rattle.job_setup.specs.StrokeGroup.{in_group};
-ghost use Rattle.job_setup.specs.Reasons.{stage_of, core_depth, reach, is_uncovered, lacks_rest, meets};
+ghost use Rattle.job_setup.specs.StrokeGroup.{in_group, group_of};
+ghost use Rattle.job_setup.specs.StageOf.{stage_of};
+ghost use Rattle.job_setup.specs.Reasons.{core_depth, reach, is_uncovered, lacks_rest, meets};
 
 use crate::job::Job;
 use crate::setup::Stage;
@@ -21,7 +22,8 @@ use unfolder::cores::joint_of;
 pub fn group(job: &Job, mask: Mask, bend: u8) -> Mask
     requires some { 0 < bend }
     requires bend { bend < length job.now.part.faces }
-    ensures { (other : ℕ) → has result other ≡ in_group job.now (has mask) bend other }
+    ensures bends { (other : ℕ) → has result other ≡ in_group job.now (has mask) bend other }
+    ensures value { result ≡ group_of job.now mask bend }
 {
     if job.setup().gang {
         mates(job.shape(), bend).without(mask)
@@ -43,7 +45,7 @@ pub fn meets_at(job: &Job, mask: Mask, bend: u8, stage: u8) -> bool
 }
 
 /// The stage of a number.
-fn stage_at(job: &Job, stage: u8) -> &Stage
+pub(crate) fn stage_at(job: &Job, stage: u8) -> &Stage
     requires { stage < length job.now.setup.stages }
     ensures value { stage_data result.now ≡ stage_of job.now stage }
     ensures near { IsNearStage (stage_data result.now) }
@@ -61,7 +63,7 @@ fn meets(job: &Job, group: Mask, stage: &Stage) -> bool
 
 /// Whether the span of the group is longer than the stage and what it may leave uncovered at
 /// either end.
-fn is_uncovered(job: &Job, group: Mask, stage: &Stage) -> bool
+pub(crate) fn is_uncovered(job: &Job, group: Mask, stage: &Stage) -> bool
     requires { IsNearStage (stage_data stage.now) }
     ensures { result ≡ is_uncovered job.now (has group) (stage_data stage.now) }
 {
@@ -77,7 +79,7 @@ fn lacks_a_rest(job: &Job, group: Mask, stage: &Stage) -> bool
 }
 
 /// Whether a core on this side of the group's lines is shorter than the die's least flange.
-fn lacks_rest(job: &Job, group: Mask, side: Back, stage: &Stage) -> bool
+pub(crate) fn lacks_rest(job: &Job, group: Mask, side: Back, stage: &Stage) -> bool
     ensures { result ≡ lacks_rest job.now (has group) side (stage_data stage.now) }
 {
     let shape = job.shape();

@@ -2,74 +2,12 @@
 
 use crate::{JobFault, group, make_job, meets_at};
 use brake_base::Mask;
+use common_files::{EAST_FLANGE, L_SECTION, MACHINE, STAGE, TOOLS, TWO_FLANGES};
 use machine_file::read_machine;
 use part_file::read_part;
 use std::alloc::Global;
 use std::test::Fail;
 use tool_library::read_tools;
-
-const PART: &str = "material = \"S235\"
-thickness = 2000
-radius = 2000
-[[face]]
-name = \"base\"
-width = 100000
-length = 50000
-[[face]]
-name = \"leg\"
-on = \"base\"
-side = \"N\"
-at = 0
-width = 100000
-length = 30000
-dir = \"up\"
-";
-
-/// Two flanges on one side of a face.
-const TWO_FLANGES: &str = "material = \"S235\"
-thickness = 2000
-radius = 2000
-[[face]]
-name = \"base\"
-width = 100000
-length = 60000
-[[face]]
-name = \"left\"
-on = \"base\"
-side = \"N\"
-at = 0
-width = 45000
-length = 30000
-dir = \"up\"
-[[face]]
-name = \"right\"
-on = \"base\"
-side = \"N\"
-at = 55000
-width = 45000
-length = 30000
-dir = \"up\"
-";
-
-const TOOLS: &str = "[[allow]]
-material = \"S235\"
-thickness = 2000
-radius = 2000
-k = 650
-[[punch]]
-name = \"P100\"
-height = 100000
-nose = 6000
-body = [[-6000, 6000, 6000, 100000]]
-sections = [[100000, 2], [90000, 1], [70000, 1], [60000, 1], [56000, 1], [45000, 1]]
-[[die]]
-name = \"D16\"
-height = 60000
-v = 16000
-least_flange = 11000
-body = [[-20000, -8000, -60000, 0], [-8000, 8000, -60000, -8000], [8000, 20000, -60000, 0]]
-sections = [[100000, 2], [90000, 1], [70000, 1], [60000, 1], [56000, 1], [45000, 1]]
-";
 
 const LOAD: &str = "[[load]]
 material = \"S235\"
@@ -85,38 +23,9 @@ v = 12000
 load = 300
 ";
 
-const MACHINE: &str = "bed = [0, 3000000]
-uncovered = 5000
-upper = [[0, 3000000, -60000, 60000, 0, 300000]]
-lower = [[0, 3000000, -30000, 30000, -300000, 0]]
-[gauge]
-near = 5000
-far = 600000
-inset = 5000
-finger = 10000
-gap = 10000
-depth = 20000
-above = 10000
-below = 10000
-[cost]
-stroke = 100
-quarter = 20
-half = 30
-flip = 60
-roll = 80
-stage = 40
-";
-
-const STAGE: &str = "[[stage]]
-punch = \"P100\"
-die = \"D16\"
-at = 200000
-pieces = [100000]
-";
-
 /// The refusal of these load rows and stages with the rest of the files.
 fn refusal(alloc: Global, loads: &str, stages: &str) -> Result<Option<JobFault>, Fail> {
-    let part = read_part(alloc, PART.as_bytes())?;
+    let part = read_part(alloc, L_SECTION.as_bytes())?;
     let tools = read_tools(alloc, format!(in alloc; "{TOOLS}{loads}")?.as_bytes())?;
     let machine = read_machine(alloc, format!(in alloc; "{MACHINE}{stages}")?.as_bytes())?;
     Ok(make_job(part, &tools, &machine).err())
@@ -125,7 +34,7 @@ fn refusal(alloc: Global, loads: &str, stages: &str) -> Result<Option<JobFault>,
 #[test]
 fn l_section(rt: HostRuntime) -> Result<(), Fail> {
     let alloc = rt.alloc();
-    let part = read_part(alloc, PART.as_bytes())?;
+    let part = read_part(alloc, L_SECTION.as_bytes())?;
     let tools = read_tools(alloc, format!(in alloc; "{TOOLS}{LOAD}")?.as_bytes())?;
     let machine = read_machine(alloc, format!(in alloc; "{MACHINE}{STAGE}")?.as_bytes())?;
     let job = make_job(part, &tools, &machine).ok().expect(&rt, "a job");
@@ -187,11 +96,15 @@ fn stages_that_meet(rt: HostRuntime) -> Result<(), Fail> {
     let whole = format!(in alloc; "{MACHINE}{STAGE}")?;
     let long_enough = whole.replacen(alloc, "[100000]", "[90000]", 1)?;
     let too_short = whole.replacen(alloc, "[100000]", "[60000]", 1)?;
-    let least_leg = PART.replacen(alloc, "30000", "12919", 1)?;
-    let shorter_leg = PART.replacen(alloc, "30000", "12918", 1)?;
-    assert!(rt; first_stroke(alloc, PART, &long_enough)? == Some((Mask(1), true)));
-    assert!(rt; first_stroke(alloc, PART, &too_short)? == Some((Mask(1), false)));
+    let least_leg = L_SECTION.replacen(alloc, "30000", "12919", 1)?;
+    let shorter_leg = L_SECTION.replacen(alloc, "30000", "12918", 1)?;
+    assert!(rt; first_stroke(alloc, L_SECTION, &long_enough)? == Some((Mask(1), true)));
+    assert!(rt; first_stroke(alloc, L_SECTION, &too_short)? == Some((Mask(1), false)));
     assert!(rt; first_stroke(alloc, &least_leg, &whole)? == Some((Mask(1), true)));
     assert!(rt; first_stroke(alloc, &shorter_leg, &whole)? == Some((Mask(1), false)));
+    let least_base = EAST_FLANGE.replacen(alloc, "20000", "12919", 1)?;
+    let narrower_base = EAST_FLANGE.replacen(alloc, "20000", "12918", 1)?;
+    assert!(rt; first_stroke(alloc, &least_base, &whole)? == Some((Mask(1), true)));
+    assert!(rt; first_stroke(alloc, &narrower_base, &whole)? == Some((Mask(1), false)));
     Ok(())
 }

@@ -4,7 +4,8 @@ ghost use Rattle.part_file.specs.Part.{IsPart, part_data, half_thickness};
 ghost use Rattle.unfolder.specs.Blank.{blank_of_part};
 ghost use Rattle.tool_library.specs.Tools.{IsPunch, IsDie, punch_data, die_data};
 ghost use Rattle.fold_boxes.specs.Shapes.{IsShape};
-ghost use Rattle.machine_file.specs.Machine.{farthest, IsWithin, IsRange, IsFixed};
+ghost use Rattle.toml_fields.specs.Ranges.{IsWithin};
+ghost use Rattle.machine_file.specs.Machine.{farthest, IsBedRange, IsFixed};
 ghost use Rattle.job_setup.specs.Setup.{stage_data, setup_data};
 ghost use Rattle.job_setup.specs.Stages.{total};
 ghost use Rattle.job_setup.specs.Places.{places_fit};
@@ -15,8 +16,9 @@ use crate::job::Job;
 use crate::places::check_places;
 use crate::setup::{Setup, Stage};
 use crate::stages::total;
-use machine_file::{Fixed, are_within, is_range, is_within};
+use machine_file::{Fixed, are_within, is_bed_range};
 use part_file::Part;
+use toml_fields::is_within;
 use tool_library::{Die, Punch};
 use unfolder::unfold;
 
@@ -44,13 +46,20 @@ fn are_pieces(pieces: &[i64]) -> bool
     !pieces.is_empty() && are_within(pieces, 1, 10_000_000)
 }
 
-/// Whether the stage begins where it may, and ends where its pieces end.
-fn is_as_long_as_its_pieces(stage: &Stage) -> bool
-    requires { All (IsWithin (pos 1) (pos 10000000)) stage.now.pieces.items }
-    ensures { IsTrue result ↔ (IsWithin (neg_ℤ farthest) farthest stage.now.x0 × (stage.now.x1 ≡ stage.now.x0 +ℤ total stage.now.pieces.items)) }
+/// Whether the stage begins where it may.
+fn begins_near(stage: &Stage) -> bool
+    ensures { IsTrue result ↔ IsWithin (neg_ℤ farthest) farthest stage.now.x0 }
 {
     is_within(stage.x0, -FARTHEST, FARTHEST)
-        && stage.x1 == stage.x0 + total(stage.pieces.as_slice())
+}
+
+/// Whether the stage ends where its pieces end.
+fn is_as_long_as_its_pieces(stage: &Stage) -> bool
+    requires pieces { All (IsWithin (pos 1) (pos 10000000)) stage.now.pieces.items }
+    requires begins { IsWithin (neg_ℤ farthest) farthest stage.now.x0 }
+    ensures { IsTrue result ↔ (stage.now.x1 ≡ stage.now.x0 +ℤ total stage.now.pieces.items) }
+{
+    stage.x1 == stage.x0 + total(stage.pieces.as_slice())
 }
 
 /// Whether the load and the limit are in range.
@@ -69,6 +78,7 @@ impl Stage {
         is_bare_punch(&self.punch)
             && is_bare_die(&self.die)
             && are_pieces(self.pieces.as_slice())
+            && begins_near(self)
             && is_as_long_as_its_pieces(self)
             && is_loadable(self)
     }
@@ -76,9 +86,9 @@ impl Stage {
 
 /// Whether each range lies along the bed.
 fn are_ranges(ranges: &[(i64, i64)]) -> bool
-    ensures { IsTrue result ↔ All IsRange ranges.now }
+    ensures { IsTrue result ↔ All IsBedRange ranges.now }
 {
-    ranges.iter().all(|range| is_range(range))
+    ranges.iter().all(|range| is_bed_range(range))
 }
 
 /// Whether each box is in range, between two heights.
@@ -108,7 +118,7 @@ fn are_limits(setup: &Setup) -> bool
 fn are_rules(setup: &Setup) -> bool
     ensures { IsTrue result ↔ HasRules (setup_data setup.now) }
 {
-    is_range(&setup.bed) && setup.gauge.is_valid() && setup.cost.is_valid() && are_limits(setup)
+    is_bed_range(&setup.bed) && setup.gauge.is_valid() && setup.cost.is_valid() && are_limits(setup)
 }
 
 /// Whether each stage is valid.

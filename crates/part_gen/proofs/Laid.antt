@@ -136,8 +136,8 @@ root_laid s range faces at bent =
     (λ i. flat_image (to_root-root faces (flat_step faces s.q) i) (core_is i)) ∙ root_image (root_core s) (omega (arith, ints)) (omega (arith, ints)) in
     record {
       name = ap (λ (face : FaceData). face.name) at;
-      wide = subst (λ (face : FaceData). IsSize face.width) (sym at) (record { low = omega (arith, ints); high = range.width_high });
-      long = subst (λ (face : FaceData). IsSize face.length) (sym at) (record { low = omega (arith, ints); high = range.length_high });
+      wide = subst (λ (face : FaceData). IsSize face.width) (sym at) (record { bottom = omega (arith, ints); top = range.width_high });
+      long = subst (λ (face : FaceData). IsSize face.length) (sym at) (record { bottom = omega (arith, ints); top = range.length_high });
       joined = λ some. absurd (omega arith);
       fits = ap is_too_small core_is ∙ fits_in (root_core s) (omega (arith, ints)) (omega (arith, ints));
       on_edge = λ some. absurd (omega arith);
@@ -236,9 +236,11 @@ joint_fits : (faces : List FaceData) (f : ℕ) (face parent : FaceData) (joint :
 joint_fits faces f face parent joint at has on earlier low high south = record {
   has = ap (λ (x : FaceData). x.joint) at ∙ has;
   earlier = earlier;
-  at_low = low;
-  at_high = subst (λ (x : FaceData). (joint.at +ℤ x.width) ≤ℤ side_length joint.side (face_at faces joint.on)) (sym at) (subst (λ (x : FaceData). (joint.at +ℤ face.width) ≤ℤ side_length joint.side x) (sym on) high);
-  south = south;
+  within = record {
+    at_low = low;
+    at_high = subst (λ (x : FaceData). (joint.at +ℤ x.width) ≤ℤ side_length joint.side (face_at faces joint.on)) (sym at) (subst (λ (x : FaceData). (joint.at +ℤ face.width) ≤ℤ side_length joint.side x) (sym on) high);
+    south = south;
+  };
 }
 
 -- the first flange of a side
@@ -276,8 +278,8 @@ first_laid s range faces side dir at_root around at bent flat_is =
     let ends = strip_fits.ends in
     record {
       name = ap (λ (x : FaceData). x.name) at;
-      wide = subst (λ (x : FaceData). IsSize x.width) (sym at) (record { low = omega (arith, ints); high = omega (arith, ints) });
-      long = subst (λ (x : FaceData). IsSize x.length) (sym at) (record { low = omega (arith, ints); high = range.first_high side });
+      wide = subst (λ (x : FaceData). IsSize x.width) (sym at) (record { bottom = omega (arith, ints); top = omega (arith, ints) });
+      long = subst (λ (x : FaceData). IsSize x.length) (sym at) (record { bottom = omega (arith, ints); top = range.first_high side });
       joined = λ some. (joint, joint_fits faces f face (root_of s) joint at refl at_root (some_number side) (omega (arith, ints)) (omega (arith, ints)) (λ south. refl));
       fits = ap is_too_small core_is ∙ fits_in (strip (width_of s side) s.q (s.first side -ℤ top)) (omega (arith, ints)) (omega (arith, ints));
       on_edge = λ some. off_face_is s.q faces f face (root_of s) (s.has_second side) joint (root_core s) at refl at_root bent (core_of_root s faces at_root around) ∙ root_line s range side f dir;
@@ -315,8 +317,8 @@ second_laid s range faces side number length first_dir dir low high has later at
     let top : if_bent (s.has_second side) s.q ≡ s.q = ap (λ (b : Bool). if_bent b s.q) has in
     record {
       name = ap (λ (x : FaceData). x.name) at;
-      wide = subst (λ (x : FaceData). IsSize x.width) (sym at) (record { low = omega (arith, ints); high = omega (arith, ints) });
-      long = subst (λ (x : FaceData). IsSize x.length) (sym at) (record { low = omega (arith, ints); high = high });
+      wide = subst (λ (x : FaceData). IsSize x.width) (sym at) (record { bottom = omega (arith, ints); top = omega (arith, ints) });
+      long = subst (λ (x : FaceData). IsSize x.length) (sym at) (record { bottom = omega (arith, ints); top = high });
       joined = λ some. (second_joint side dir, joint_fits faces number face parent (second_joint side dir) at refl at_parent later (omega (arith, ints)) (omega (arith, ints)) (λ south. absurd (cc)));
       fits = ap is_too_small core_is ∙ fits_in (strip (width_of s side) s.q (length -ℤ pos 0)) (omega (arith, ints)) (omega (arith, ints));
       on_edge = λ some. off_face_is s.q faces number face parent false (second_joint side dir) (strip (width_of s side) s.q (s.first side -ℤ s.q)) at refl at_parent bent parent_core ∙ far_line s.q parent number dir (omega (arith, ints)) (omega (arith, ints)) (omega (arith, ints));

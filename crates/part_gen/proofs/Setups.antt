@@ -4,9 +4,10 @@ use Rattle.std.specs.Prelude.{All}
 use Rattle.std.proofs.lemmas.Int.{ints}
 use Rattle.std.proofs.lemmas.List.Elements.{All-nil, All-cons}
 use Rattle.brake_base.specs.declared.plane.Rect.{Rect}
-use Rattle.tool_library.specs.Tools.{IsPunch, IsDie, IsBox, IsSection}
+use Rattle.tool_library.specs.Tools.{IsPunch, IsDie, IsBodyBox, IsSection}
 use Rattle.machine_file.specs.declared.machine.Fixed.{Fixed}
-use Rattle.machine_file.specs.Machine.{farthest, IsWithin, IsRange, IsFixed, IsGaugeRule}
+use Rattle.toml_fields.specs.Ranges.{IsWithin}
+use Rattle.machine_file.specs.Machine.{farthest, IsBedRange, IsFixed, IsGaugeRule}
 use Rattle.job_setup.specs.Setup.{StageData}
 use Rattle.job_setup.specs.Places.{places_fit}
 use Rattle.job_setup.specs.ValidJob.{IsStage, IsSetup}
@@ -16,26 +17,23 @@ use Rattle.part_gen.specs.CommonSetup.{rect, punch_p100, die_d16, stage_at, box_
 alone : {X : Type 0} (P : X → Type 0) (x : X) → P x → All P (x ∷ [])
 alone P x fits = All-cons P x [] fits (All-nil P)
 
-punch_box : IsBox (pos 0) (pos 100000) (rect (neg_ℤ (pos 6000)) (pos 6000) (pos 6000) (pos 100000))
+punch_box : IsBodyBox (pos 0) (pos 100000) (rect (neg_ℤ (pos 6000)) (pos 6000) (pos 6000) (pos 100000))
 punch_box = record { across = record { order = omega (arith, ints); bottom = omega (arith, ints); top = omega (arith, ints) }; upwards = record { order = omega (arith, ints); bottom = omega (arith, ints); top = omega (arith, ints) } }
 
 is_punch : IsPunch punch_p100
 is_punch = record {
   name = refl;
-  height_low = omega (arith, ints);
-  height_high = omega (arith, ints);
-  nose_low = omega (arith, ints);
-  nose_high = omega (arith, ints);
-  few_boxes = omega arith;
-  boxes = alone (IsBox (pos 0) (pos 100000)) (rect (neg_ℤ (pos 6000)) (pos 6000) (pos 6000) (pos 100000)) punch_box;
-  few_sections = omega arith;
-  sections = All-nil IsSection;
-  limit_low = omega (arith, ints);
-  limit_high = omega (arith, ints);
+  sizes = record { height = record { bottom = omega (arith, ints); top = omega (arith, ints) }; nose = record { bottom = omega (arith, ints); top = omega (arith, ints) }; limit = record { bottom = omega (arith, ints); top = omega (arith, ints) } };
+  lists = record {
+    few_boxes = omega arith;
+    each_box = alone (IsBodyBox (pos 0) (pos 100000)) (rect (neg_ℤ (pos 6000)) (pos 6000) (pos 6000) (pos 100000)) punch_box;
+    few_sections = omega arith;
+    each_section = All-nil IsSection;
+  };
 }
 
 abbrev IsDieBox : Rect → Type 0
-IsDieBox box = IsBox (neg_ℤ (pos 60000)) (pos 0) box
+IsDieBox box = IsBodyBox (neg_ℤ (pos 60000)) (pos 0) box
 
 abbrev shoulder : Rect
 shoulder = rect (neg_ℤ (pos 20000)) (neg_ℤ (pos 8000)) (neg_ℤ (pos 60000)) (pos 0)
@@ -58,19 +56,13 @@ is_far_shoulder = record { across = record { order = omega (arith, ints); bottom
 is_die : IsDie die_d16
 is_die = record {
   name = refl;
-  height_low = omega (arith, ints);
-  height_high = omega (arith, ints);
-  v_low = omega (arith, ints);
-  v_high = omega (arith, ints);
-  v_even = refl;
-  least_flange_low = omega (arith, ints);
-  least_flange_high = omega (arith, ints);
-  few_boxes = omega arith;
-  boxes = All-cons IsDieBox shoulder (bottom_box ∷ far_shoulder ∷ []) is_shoulder (All-cons IsDieBox bottom_box (far_shoulder ∷ []) is_bottom (alone IsDieBox far_shoulder is_far_shoulder));
-  few_sections = omega arith;
-  sections = All-nil IsSection;
-  limit_low = omega (arith, ints);
-  limit_high = omega (arith, ints);
+  sizes = record { height = record { bottom = omega (arith, ints); top = omega (arith, ints) }; v = record { range = record { bottom = omega (arith, ints); top = omega (arith, ints) }; even = refl }; least_flange = record { bottom = omega (arith, ints); top = omega (arith, ints) }; limit = record { bottom = omega (arith, ints); top = omega (arith, ints) } };
+  lists = record {
+    few_boxes = omega arith;
+    each_box = All-cons IsDieBox shoulder (bottom_box ∷ far_shoulder ∷ []) is_shoulder (All-cons IsDieBox bottom_box (far_shoulder ∷ []) is_bottom (alone IsDieBox far_shoulder is_far_shoulder));
+    few_sections = omega arith;
+    each_section = All-nil IsSection;
+  };
 }
 
 is_stage : (at piece : ℤ) → pos 0 ≤ℤ at → at ≤ℤ pos 1000000 → pos 1 ≤ℤ piece → piece ≤ℤ pos 1000000 → IsStage (stage_at at piece)
@@ -109,10 +101,10 @@ abbrev bed_box : Fixed
 bed_box = box_over (rect (neg_ℤ (pos 30000)) (pos 30000) (neg_ℤ (pos 300000)) (pos 0))
 
 is_beam : IsFixed (pos 0) farthest beam
-is_beam = record { along = record { order = omega (arith, ints); bottom = omega (arith, ints); top = omega (arith, ints) }; across = record { order = omega (arith, ints); bottom = omega (arith, ints); top = omega (arith, ints) }; upwards = record { order = omega (arith, ints); bottom = omega (arith, ints); top = omega (arith, ints) } }
+is_beam = record { footprint = record { along = record { order = omega (arith, ints); bottom = omega (arith, ints); top = omega (arith, ints) }; across = record { order = omega (arith, ints); bottom = omega (arith, ints); top = omega (arith, ints) } }; upwards = record { order = omega (arith, ints); bottom = omega (arith, ints); top = omega (arith, ints) } }
 
 is_bed_box : IsFixed (neg_ℤ farthest) (pos 0) bed_box
-is_bed_box = record { along = record { order = omega (arith, ints); bottom = omega (arith, ints); top = omega (arith, ints) }; across = record { order = omega (arith, ints); bottom = omega (arith, ints); top = omega (arith, ints) }; upwards = record { order = omega (arith, ints); bottom = omega (arith, ints); top = omega (arith, ints) } }
+is_bed_box = record { footprint = record { along = record { order = omega (arith, ints); bottom = omega (arith, ints); top = omega (arith, ints) }; across = record { order = omega (arith, ints); bottom = omega (arith, ints); top = omega (arith, ints) } }; upwards = record { order = omega (arith, ints); bottom = omega (arith, ints); top = omega (arith, ints) } }
 
 is_gauge_rule : IsGaugeRule gauge_rule
 is_gauge_rule = record {
@@ -130,7 +122,7 @@ pub is_setup : IsSetup common_setup
 unfolding common_setup places_fit
 is_setup = record {
   bed = record { order = omega (arith, ints); bottom = omega (arith, ints); top = omega (arith, ints) };
-  frames = All-nil IsRange;
+  frames = All-nil IsBedRange;
   few_frames = omega arith;
   upper = alone (IsFixed (pos 0) farthest) beam is_beam;
   few_upper = omega arith;

@@ -103,18 +103,21 @@ different f g below same = let digits : 48 + f ≡ 48 + g = cc in omega arith
 
 pub is_part : (s : Sizes) (faces : List FaceData) (roles : List Role) → IsFlanged s faces roles → 0 < length faces → length faces ≤ 9 → joint_at faces 0 ≡ None → IsPart (record { material = codes "S235"; thickness = pos 2000; radius = pos 2000; faces = faces })
 is_part s faces roles flanged some few lone = record {
-  material = refl;
-  thickness_low = omega (arith, ints);
-  thickness_high = omega (arith, ints);
-  even = refl;
-  radius_low = omega (arith, ints);
-  radius_high = omega (arith, ints);
+  sheet = record {
+    material = refl;
+    thickness = record { range = record { bottom = omega (arith, ints); top = omega (arith, ints) }; even = refl };
+    radius = record { bottom = omega (arith, ints); top = omega (arith, ints) };
+  };
   some_face = some;
   few_faces = omega arith;
-  named = λ f inside. subst (λ (name : List ℕ). IsTrue (is_name name)) (sym (face_is s faces roles flanged f inside).name) (is_face_name f (omega arith));
-  distinct = λ f g before inside same. different f g before (sym (face_is s faces roles flanged f (omega arith)).name ∙ same ∙ (face_is s faces roles flanged g inside).name);
-  wide = λ f inside. (face_is s faces roles flanged f inside).wide;
-  long = λ f inside. (face_is s faces roles flanged f inside).long;
-  root = lone;
-  joined = λ b low inside. (face_is s faces roles flanged b inside).joined low;
+  each_face = λ b inside.
+      let face = face_is s faces roles flanged b inside in
+      record {
+        name = subst (λ (name : List ℕ). IsTrue (is_name name)) (sym face.name) (is_face_name b (omega arith));
+        new_name = record { differs = λ f before same. different f b before (sym (face_is s faces roles flanged f (omega arith)).name ∙ same ∙ face.name) };
+        placed = record {
+          sizes = record { wide = face.wide; long = face.long };
+          joined = record { root = λ zero. subst (λ (n : ℕ). joint_at faces n ≡ None) (sym zero) lone; joint = λ low. face.joined low };
+        };
+      };
 }

@@ -1,12 +1,11 @@
-use Rattle.std.proofs.Common.{◌≡◌, ◌∙◌, ap, sym, map, List, Result, Ok, Err}
+use Rattle.std.proofs.Common.{◌∙◌, ap, sym, map, List, Err}
 use Rattle.std.proofs.lemmas.Result.{err_from_is_err_and}
 use Rattle.part_file.specs.Part.{part_data}
 use Rattle.tool_library.specs.declared.tools.LoadRow.{LoadRow}
 use Rattle.tool_library.specs.Tools.{load_data, tools_data}
 use Rattle.machine_file.specs.declared.machine.StageText.{StageText}
-use Rattle.machine_file.specs.Machine.{machine_data}
+use Rattle.machine_file.specs.Machine.{machine_data, stage_text_data}
 use Rattle.job_setup.specs.Setup.{stage_data}
-use Rattle.job_setup.specs.Stages.{stage_text_data}
 use Rattle.job_setup.specs.Stock.{stock_suffices}
 use Rattle.job_setup.specs.Loads.{loads_fit}
 use Rattle.job_setup.proofs.Steps.{stops_at_places, stops_at_stock, ends_at_loads, on_ok}

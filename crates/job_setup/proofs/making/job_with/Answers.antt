@@ -1,4 +1,4 @@
-use Rattle.std.proofs.Common.{◌≡◌, ◌≤◌, ◌∙◌, ap, sym, subst, map, List, length, Result, Ok, Err, arith}
+use Rattle.std.proofs.Common.{◌≡◌, ◌≤◌, ◌∙◌, ap, sym, subst, map, List, length, Ok, Err}
 use Rattle.std.specs.Prelude.{All, IsOk}
 use Rattle.std.proofs.lemmas.Int.{to_z-of_z}
 use Rattle.std.proofs.lemmas.List.{length-map}
@@ -8,10 +8,10 @@ use Rattle.part_file.specs.Part.{part_data}
 use Rattle.unfolder.specs.Blank.{blank_of_part}
 use Rattle.tool_library.specs.Tools.{tools_data}
 use Rattle.machine_file.specs.declared.machine.StageText.{StageText}
-use Rattle.machine_file.specs.Machine.{machine_data, IsStageText}
+use Rattle.machine_file.specs.Machine.{machine_data, IsStageText, stage_text_data}
 use Rattle.job_setup.specs.declared.setup.Stage.{Stage}
 use Rattle.job_setup.specs.Setup.{stage_data}
-use Rattle.job_setup.specs.Stages.{stage_text_data, stage_of}
+use Rattle.job_setup.specs.Stages.{stage_of}
 use Rattle.job_setup.specs.Places.{places_fit}
 use Rattle.job_setup.specs.JobOf.{unfolds, stages_fit}
 use Rattle.job_setup.proofs.Steps.{stops_at_blank, stops_at_stages, stops_at_fit, gives_job}

@@ -1,4 +1,4 @@
-use Rattle.std.proofs.Common.{◌≡◌, ◌<◌, ◌∙◌, sym, arith, length}
+use Rattle.std.proofs.Common.{◌<◌, ◌∙◌, sym, arith, length}
 use Rattle.job_setup.specs.Places.{heights, is_unequal}
 use Rattle.job_setup.proofs.Lists.{stage_at}
 use Rattle.job_setup.proofs.places.differs_from_first.Goals as goal

@@ -1,4 +1,4 @@
-use Rattle.std.proofs.Common.{◌≡◌, ◌∙◌, sym}
+use Rattle.std.proofs.Common.{◌∙◌, sym}
 use Rattle.job_setup.specs.Places.{range, is_overlap}
 use Rattle.job_setup.proofs.Lists.{stage_at}
 use Rattle.job_setup.proofs.places.is_overlap_of.Goals as goal

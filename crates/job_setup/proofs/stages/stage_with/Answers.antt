@@ -1,9 +1,10 @@
-use Rattle.std.proofs.Common.{◌≡◌, ◌+ℤ◌, ◌∙◌, ap, sym, map, w64, SFits, arith, rules}
+use Rattle.std.proofs.Common.{◌≡◌, ◌+ℤ◌, ◌∙◌, ap, map, w64, SFits, arith, rules}
 use Rattle.std.proofs.lemmas.Int.{ints, to_z-of_z}
 use Rattle.part_file.specs.Part.{part_data}
 use Rattle.tool_library.specs.Tools.{punch_data, die_data, load_data}
 use Rattle.job_setup.specs.Setup.{StageData}
-use Rattle.job_setup.specs.Stages.{stage_text_data, total, least_limit, stage_with}
+use Rattle.machine_file.specs.Machine.{stage_text_data}
+use Rattle.job_setup.specs.Stages.{total, least_limit, stage_with}
 use Rattle.job_setup.proofs.stages.stage_with.Goals as goal
 
 pub returns : goal.returns

@@ -5,8 +5,8 @@ use Rattle.toml_fields.proofs.Each.{goes_on, is_done}
 use Rattle.part_file.specs.Part.{part_data}
 use Rattle.tool_library.specs.Tools.{tools_data}
 use Rattle.job_setup.specs.Setup.{StageData, stage_data}
-use Rattle.job_setup.specs.Stages.{stage_text_data, stage_of}
-use Rattle.machine_file.specs.Machine.{IsStageText}
+use Rattle.job_setup.specs.Stages.{stage_of}
+use Rattle.machine_file.specs.Machine.{IsStageText, stage_text_data}
 use Rattle.job_setup.proofs.Lists.{all_at, stops}
 use Rattle.job_setup.proofs.stages.stages_of.Goals as goal
 

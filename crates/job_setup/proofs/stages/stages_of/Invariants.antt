@@ -4,7 +4,8 @@ use Rattle.toml_fields.proofs.Each.{with_front}
 use Rattle.part_file.specs.Part.{part_data}
 use Rattle.tool_library.specs.Tools.{tools_data}
 use Rattle.job_setup.specs.Setup.{stage_data}
-use Rattle.job_setup.specs.Stages.{stage_text_data, stage_of}
+use Rattle.machine_file.specs.Machine.{stage_text_data}
+use Rattle.job_setup.specs.Stages.{stage_of}
 use Rattle.job_setup.proofs.stages.stages_of.Given as goal
 
 abbrev pub invariant-loop-text : goal.invariant-loop-text

@@ -1,7 +1,7 @@
-use Rattle.std.proofs.Common.{◌≡◌, ◌<◌, pos, length, get_or, arith}
+use Rattle.std.proofs.Common.{pos, get_or, arith}
 use Rattle.std.proofs.lemmas.Int.{ints, to_z-of_z}
 use Rattle.std.proofs.lemmas.List.Sums.{fold_more}
-use Rattle.machine_file.specs.Machine.{IsWithin}
+use Rattle.toml_fields.specs.Ranges.{IsWithin}
 use Rattle.job_setup.proofs.stages.total.Goals as goal
 
 pub loop-piece-preserved : goal.loop-piece-preserved

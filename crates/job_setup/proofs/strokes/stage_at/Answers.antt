@@ -1,4 +1,4 @@
-use Rattle.std.proofs.Common.{◌≡◌, ap}
+use Rattle.std.proofs.Common.{ap}
 use Rattle.job_setup.specs.Setup.{SetupData, stage_data}
 use Rattle.job_setup.proofs.StageAt.{stage_within, stage_is, stage_is_near}
 use Rattle.job_setup.proofs.strokes.stage_at.Goals as goal

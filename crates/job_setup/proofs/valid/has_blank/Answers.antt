@@ -1,4 +1,3 @@
-use Rattle.std.proofs.Common.{w64}
 use Rattle.std.proofs.lemmas.Int.{to_z-of_z}
 use Rattle.job_setup.proofs.Validity.{unfolds_where}
 use Rattle.job_setup.proofs.valid.has_blank.Goals as goal

@@ -1,4 +1,4 @@
-use Rattle.std.proofs.Common.{◌∙◌, sym, w64}
+use Rattle.std.proofs.Common.{◌∙◌, sym}
 use Rattle.std.proofs.lemmas.Bool.{false≢true}
 use Rattle.std.proofs.lemmas.Int.{to_z-of_z}
 use Rattle.job_setup.proofs.Validity.{job_of_parts, shape_of_job}
