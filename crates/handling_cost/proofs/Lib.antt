@@ -1,0 +1,15 @@
+pub mod Counts
+pub mod Ways
+pub mod Mates
+pub mod Actions
+pub mod Legal
+pub mod Admissible
+pub mod Least
+pub mod Tables
+pub mod Pigeonhole
+pub mod Keys
+pub mod Small
+pub mod Nodes
+pub mod Changes
+pub mod LeadTests
+pub mod PlanSteps
