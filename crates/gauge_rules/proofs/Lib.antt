@@ -1,0 +1,4 @@
+mod Firsts
+mod LevelTurns
+mod Small
+mod Some

@@ -1,0 +1,16 @@
+use Rattle.std.proofs.Common.{arith}
+use Rattle.std.proofs.lemmas.List.{length-map}
+use Rattle.brake_base.specs.Turns.{map_of}
+use Rattle.fold_boxes.specs.Pose.{pose_data}
+use Rattle.gauge_rules.proofs.Small.{clash}
+use Rattle.gauge_rules.proofs.Firsts.{legal_within, more_right}
+use Rattle.gauge_rules.proofs.pairs.first_with.Goals as goal
+
+pub loop-right_face-preserved : goal.loop-right_face-preserved
+loop-right_face-preserved c = more_right c.args.job.now (pose_data c.args.pose.now) c.args.left_face c.loop-right_face.right_face c.loop-right_face.invariant (λ legal. clash c.legal.result c.if-legal.false (c.legal.ensures.1 legal))
+
+pub returns : goal.returns
+returns c = λ other same legal.
+    let faces = c.args.pose.now.places.items in
+    let within = (legal_within c.args.job.now (pose_data c.args.pose.now) other legal).1 in
+    c.loop-right_face.invariant other same (omega (arith, within, c.face_count-right_face-end.ensures, length-map faces map_of)) legal

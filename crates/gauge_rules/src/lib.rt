@@ -1,0 +1,11 @@
+//! Where the two fingers of the backgauge may stand behind a part on the machine.
+#![tactic(auto)]
+
+mod fingers;
+mod flat_faces;
+mod pairs;
+
+pub use pairs::{first_legal, legal};
+
+#[cfg(test)]
+mod tests;
