@@ -1,0 +1,4 @@
+pub mod Moved
+pub mod Moving
+pub mod Folds
+pub mod Folding
