@@ -1,19 +1,13 @@
 -- One more line of faces.
-use Rattle.std.proofs.Common.{◌≡◌, ℕ, zero, suc, ◌+◌, ◌<◌, List, [], ◌∷◌, ◌++◌, length, get_or, map, sym, ap, ◌∙◌, append_assoc, arith}
+use Rattle.std.proofs.Common.{◌≡◌, ℕ, suc, ◌<◌, List, ◌++◌, length, get_or, map, ap, ◌∙◌}
 use Rattle.std.specs.List.{flat_map, range_with_len}
-use Rattle.std.proofs.lemmas.List.{get_or-map, get_or_default, append-nil}
-use Rattle.std.proofs.lemmas.Grind.{flat_map-append}
+use Rattle.std.proofs.lemmas.List.{get_or-map, get_or_default}
 use Rattle.part_file.specs.declared.part.Face.{Face}
 use Rattle.part_file.specs.Part.{FaceData, face_data, face_at, no_face}
 use Rattle.unfolder.specs.declared.blank.FlatRect.{FlatRect}
 use Rattle.unfolder.specs.declared.blank.FlatFace.{FlatFace}
 use Rattle.setup_sheet.specs.Sheets.{face_line, no_flat_face, rect_at}
-
-numbers_more : (a n m : ℕ) → a + n ≡ m → range_with_len a (suc n) ≡ range_with_len a n ++ m ∷ []
-numbers_more a zero m at =
-    let here : a ≡ m = omega arith in
-    ap (λ (k : ℕ). k ∷ []) here
-numbers_more a (suc n) m at = ap (λ (t : List ℕ). a ∷ t) (numbers_more (a + 1) n m (omega arith))
+use Rattle.setup_sheet.proofs.Numbered.{numbered_more}
 
 -- the line of the face of a number
 abbrev pub line_of : FlatRect → List FaceData → List FlatFace → ℕ → List ℕ
@@ -31,7 +25,4 @@ pub lines_more : (extent : FlatRect) (i : ℕ) (fs : List Face) (gs : List FlatF
     → after ≡ before ++ face_line extent i (get_or fs i f).name.bytes (get_or gs i g).rect
     → after ≡ front ++ flat_map (line_of extent (map face_data fs) gs) (range_with_len 0 (suc i))
 lines_more extent i fs gs f g front before after lt lt' so_far grown =
-    let line = line_of extent (map face_data fs) gs in
-    let step : flat_map line (range_with_len 0 (suc i)) ≡ flat_map line (range_with_len 0 i) ++ face_line extent i (get_or fs i f).name.bytes (get_or gs i g).rect =
-    ap (λ (numbers : List ℕ). flat_map line numbers) (numbers_more 0 i i (omega arith)) ∙ flat_map-append line (range_with_len 0 i) (i ∷ []) ∙ ap (λ (t : List ℕ). flat_map line (range_with_len 0 i) ++ t) (append-nil (line i) ∙ line_is extent i fs gs f g lt lt') in
-    grown ∙ ap (λ (t : List ℕ). t ++ face_line extent i (get_or fs i f).name.bytes (get_or gs i g).rect) so_far ∙ append_assoc front _ _ ∙ ap (λ (t : List ℕ). front ++ t) (sym step)
+    numbered_more (line_of extent (map face_data fs) gs) i front before after _ so_far grown (line_is extent i fs gs f g lt lt')

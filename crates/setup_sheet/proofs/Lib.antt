@@ -1,2 +1,4 @@
 pub mod Texts
+pub mod Numbered
 pub mod FaceLines
+pub mod StageLines

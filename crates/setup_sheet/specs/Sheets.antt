@@ -10,6 +10,8 @@ use Rattle.unfolder.specs.declared.blank.FlatFace.{FlatFace}
 use Rattle.unfolder.specs.declared.blank.BendLine.{BendLine}
 use Rattle.unfolder.specs.Blank.{BlankData}
 use Rattle.unfolder.specs.Extent.{extent_of}
+use Rattle.job_setup.specs.Setup.{StageData, JobData}
+use Rattle.job_setup.specs.StageOf.{no_stage}
 
 -- a space and a number
 unfoldable pub field : ℤ → List ℕ
@@ -58,3 +60,20 @@ unfoldable pub blank_text : PartData → BlankData → List ℕ
 blank_text part blank =
     let extent = extent_of blank.faces in
     codes "blank\n" ++ size_line extent ++ face_lines extent part.faces blank.faces ++ flat_map (bend_line extent) blank.bends
+
+-- `stage S PUNCH DIE X0 X1`: the number of a stage, the names of its tools, and its range on the bed
+unfoldable pub stage_place : ℕ → StageData → List ℕ
+stage_place number stage =
+    codes "stage" ++ field (pos number) ++ codes " " ++ stage.punch.name ++ codes " " ++ stage.die.name ++ field stage.x0 ++ field stage.x1
+
+-- the place of a stage, and `pieces P P P`: the lengths of its pieces in their order
+unfoldable pub stage_lines : ℕ → StageData → List ℕ
+stage_lines number stage = stage_place number stage ++ codes "\npieces" ++ flat_map field stage.pieces ++ codes "\n"
+
+-- the lines of each stage, in order of number
+unfoldable pub stages_lines : List StageData → List ℕ
+stages_lines stages = flat_map (λ s. stage_lines s (slice_index_or stages s no_stage)) (range_with_len 0 (length stages))
+
+-- The setup sheet: the tools of each stage, where it stands on the bed, and its pieces.
+unfoldable pub setup_text : JobData → List ℕ
+setup_text job = codes "setup\n" ++ stages_lines job.setup.stages

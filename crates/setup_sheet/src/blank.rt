@@ -6,19 +6,11 @@ ghost use Rattle.unfolder.specs.Blank.{blank_data};
 ghost use Rattle.unfolder.specs.Extent.{IsNear, IsNearRect, IsNearLine, IsNearBlank};
 ghost use Rattle.setup_sheet.specs.Sheets.{field, dir_field, point, size_line, corners, face_line, bend_line, face_lines, blank_text};
 
-use brake_text::{put_number, put_word};
+use crate::words::put_field;
+use brake_text::put_word;
 use part_file::{Dir, Face, Part};
 use std::alloc::{AllocError, Global};
 use unfolder::{BendLine, Blank, FlatFace, FlatRect, extent};
-
-/// A space and a number.
-#[tactic(auto, using(crate::proofs::Texts::pieces), unfolding(crate::specs::Sheets::field))]
-fn put_field(out: &mut Vec<u8>, value: i64) -> Result<(), AllocError>
-    ensures { OnOk result (out.new.items ≡ out.old.items ++ field value) }
-{
-    put_word(out, b" ")?;
-    put_number(out, value)
-}
 
 /// A space and how far a coordinate is above the least one.
 fn put_offset(out: &mut Vec<u8>, value: i64, least: i64) -> Result<(), AllocError>

@@ -2,5 +2,8 @@
 #![tactic(auto)]
 
 mod blank;
+mod setup;
+mod words;
 
 pub use blank::blank_sheet;
+pub use setup::setup_sheet;

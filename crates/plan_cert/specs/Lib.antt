@@ -1,0 +1,5 @@
+pub mod Cert
+pub mod Lines
+pub mod JobText
+pub mod WellFormed
+pub mod CertText
