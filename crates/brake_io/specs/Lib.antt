@@ -1,4 +1,4 @@
 pub mod Rose
 pub mod Meanings
-pub mod ShelfState
-pub mod SinkState
+pub mod MemShelfState
+pub mod MemSinkState

@@ -1,5 +1,7 @@
 //! Files of the current folder as a shelf.
-ghost use Rattle.std.specs.Prelude.{◌≡◌, None, refl};
+ghost use Rattle.std.specs.Prelude.{◌≡◌, ◌≤◌, None, IsErrOf, OnErr};
+ghost use Rattle.brake_io.specs.Rose.{raised, Rose};
+ghost use Rattle.brake_io.specs.Meanings.{NoCountFalls};
 
 use crate::shelf::{FetchFault, Shelf, StoreFault};
 use crate::whole::{read_whole, write_whole};
@@ -19,9 +21,8 @@ pub struct DirShelf<R: Files + Drop> {
 impl<R: Files + Drop> DirShelf<R> {
     /// Over the files of this runtime, with counts of 0.
     pub fn new(rt: R) -> Self
-        ensures faults { ⟦<DirShelf<R> as Shelf>⟧.faults result ≡ 0 }
-        ensures longs { ⟦<DirShelf<R> as Shelf>⟧.longs result ≡ 0 }
-        ensures calls { ⟦<DirShelf<R> as Shelf>⟧.calls result ≡ 0 }
+        ensures { ⟦<DirShelf<R> as Shelf>⟧.state result
+            ≡ record { content = None; calls = 0; faults = 0; longs = 0 } }
     {
         DirShelf {
             rt,
@@ -33,17 +34,12 @@ impl<R: Files + Drop> DirShelf<R> {
 }
 
 impl<R: Files + Drop> Shelf for DirShelf<R> {
-    ghost held = { λ _. None };
-
-    ghost faults = { λ s. s.faults };
-
-    ghost longs = { λ s. s.longs };
-
-    ghost calls = { λ s. s.calls };
-
-    ghost due = { λ _. None };
-
-    ghost due_is_told = { λ _. refl };
+    ghost state = { λ s. record {
+      content = None;
+      calls = s.calls;
+      faults = s.faults;
+      longs = s.longs;
+    } };
 
     fn fetch(&mut self, alloc: Global, name: &str, limit: u64) -> Result<Vec<u8>, FetchFault> {
         self.calls = self.calls.saturating_add(1);
@@ -59,7 +55,15 @@ impl<R: Files + Drop> Shelf for DirShelf<R> {
         outcome
     }
 
-    fn store(&mut self, name: &str, bytes: &[u8]) -> Result<(), StoreFault> {
+    fn store(&mut self, name: &str, bytes: &[u8]) -> Result<(), StoreFault>
+        ensures calls { self.new.calls ≡ raised self.old.calls }
+        ensures failed { IsErrOf result StoreFault.Failed → Rose self.old.faults self.new.faults }
+        ensures faults { ¬ IsErrOf result StoreFault.Failed → self.new.faults ≡ self.old.faults }
+        ensures longs { self.new.longs ≡ self.old.longs }
+        ensures never_falls { NoCountFalls (⟦<DirShelf<R> as Shelf>⟧.state self.old) (⟦<DirShelf<R> as Shelf>⟧.state self.new) }
+        // Each error of the folder is counted.
+        ensures counted { OnErr result (self.new.faults ≡ raised self.old.faults) }
+    {
         self.calls = self.calls.saturating_add(1);
         let is_whole = match fs::create(&self.rt, name) {
             Ok(mut file) => write_whole(&mut file, bytes),

@@ -1,7 +1,7 @@
 //! A shelf in memory.
-ghost use Rattle.std.specs.Prelude.{◌≡◌, ◌≢◌, ◌⊎◌, ◌↔◌, ℕ, ◌≤◌, List, [], ◌∷◌, ◌++◌, Some, None, IsTrue, OnOk, OnErr, IfOk, IsErrOf, is_some, option_map, vec_len, refl};
+ghost use Rattle.std.specs.Prelude.{◌≡◌, ◌↔◌, ◌≤◌, IsTrue, OnOk, OnErr, IfOk, IsErrOf, option_map, vec_len};
 ghost use Rattle.brake_io.specs.Rose.{raised, Rose};
-ghost use Rattle.brake_io.specs.Meanings.{IsDue, Holds, IsLonger, MayFail, MayFailAt, WhereTold, SameBut, HoldsPart};
+ghost use Rattle.brake_io.specs.Meanings.{NoCountFalls, Holds, IsLonger, MayFail, MayFailAt, WhereTold, ChangesOnly, HoldsNow, HoldsPart};
 
 use crate::shelf::{FetchFault, Shelf, StoreFault};
 use std::alloc::{AllocError, Global};
@@ -19,12 +19,11 @@ pub struct MemShelf {
 }
 
 impl MemShelf {
-    ghost use Rattle.brake_io.specs.ShelfState.{state_of, with_bytes, IsToFail};
+    ghost use Rattle.brake_io.specs.MemShelfState.{content_of, state_of, empty, holding, failing_at, IsToFail};
 
     /// A shelf that holds nothing and has no call fail.
     pub fn new(alloc: Global) -> Self
-        ensures { state_of result
-            ≡ record { held = λ _. None; due = []; calls = 0; faults = 0; longs = 0 } }
+        ensures { state_of result ≡ empty }
     {
         MemShelf {
             alloc,
@@ -38,8 +37,7 @@ impl MemShelf {
 
     /// Has `name` hold the bytes. After a refusal the shelf is as it was.
     pub fn add(&mut self, name: &str, bytes: &[u8]) -> Result<(), AllocError>
-        ensures ok { OnOk result (let old = state_of self.old in
-            state_of self.new ≡ record old { held = with_bytes old.held name.now bytes.now }) }
+        ensures ok { OnOk result (state_of self.new ≡ holding name.now bytes.now self.old) }
         ensures err { OnErr result (state_of self.new ≡ state_of self.old) }
     {
         let name = String::from_str(self.alloc, name)?;
@@ -50,8 +48,7 @@ impl MemShelf {
 
     /// Has the call with this number fail, counted from 1. After a refusal the shelf is as it was.
     pub fn fail_at(&mut self, call: u32) -> Result<(), AllocError>
-        ensures ok { OnOk result (let old = state_of self.old in
-            state_of self.new ≡ record old { due = old.due ++ call ∷ [] }) }
+        ensures ok { OnOk result (state_of self.new ≡ failing_at call self.old) }
         ensures err { OnErr result (state_of self.new ≡ state_of self.old) }
     {
         self.due.push(u64::from(call))?;
@@ -60,7 +57,7 @@ impl MemShelf {
 
     /// The bytes under `name`, or `None` where it is not held.
     pub fn bytes_of(&self, name: &str) -> Option<&[u8]>
-        ensures { option_map (λ bytes. bytes.now) result ≡ (state_of self.now).held name.now }
+        ensures { option_map (λ bytes. bytes.now) result ≡ (content_of self.now).held name.now }
     {
         match self.files.get(name) {
             Some(bytes) => Some(bytes.as_slice()),
@@ -71,7 +68,8 @@ impl MemShelf {
     /// Counts a call, and says whether it is to fail.
     fn count_call(&mut self) -> bool
         ensures counted { self.new ≡ record self.old { calls = raised self.old.calls } }
-        ensures due { IsTrue result ↔ IsToFail (state_of self.old) }
+        ensures never_falls { self.old.calls ≤ self.new.calls }
+        ensures due { IsTrue result ↔ IsToFail self.old }
     {
         let before = self.calls;
         self.calls = before.saturating_add(1);
@@ -80,40 +78,27 @@ impl MemShelf {
 }
 
 impl Shelf for MemShelf {
-    ghost use Rattle.brake_io.specs.ShelfState.{state_of, held_in, due_in, calls_in, faults_in, longs_in, IsToFail};
+    ghost use Rattle.brake_io.specs.MemShelfState.{content_of, state_of, IsToFail, IsToFailAt};
 
-    ghost held = { held_in };
-
-    ghost faults = { faults_in };
-
-    ghost longs = { longs_in };
-
-    ghost calls = { calls_in };
-
-    ghost due = { due_in };
-
-    ghost due_is_told = { λ _. refl };
+    ghost state = { state_of };
 
     fn fetch(&mut self, alloc: Global, name: &str, limit: u64) -> Result<Vec<u8>, FetchFault>
-        ensures held { held_in self.new ≡ held_in self.old }
-        ensures due { due_in self.new ≡ due_in self.old }
-        ensures calls { calls_in self.new ≡ raised (calls_in self.old) }
-        ensures faults { faults_in self.old ≤ faults_in self.new }
-        ensures bytes { IfOk result (λ bytes. Holds (held_in self.old) name.now bytes.items) }
+        ensures content { (state_of self.new).content ≡ (state_of self.old).content }
+        ensures calls { self.new.calls ≡ raised self.old.calls }
+        ensures bytes { IfOk result (λ bytes. Holds (state_of self.old) name.now bytes.items) }
         ensures within { IfOk result (λ bytes. vec_len bytes ≤ limit) }
-        ensures failed { IsErrOf result FetchFault.Failed →
-            Rose (faults_in self.old) (faults_in self.new) }
+        ensures failed { IsErrOf result FetchFault.Failed → Rose self.old.faults self.new.faults }
         ensures cause { IsErrOf result FetchFault.Failed →
-            MayFailAt (held_in self.old) name.now (due_in self.old) (calls_in self.old) (calls_in self.new) }
-        ensures too_long { IsErrOf result FetchFault.TooLong →
-            Rose (longs_in self.old) (longs_in self.new) }
+            MayFailAt name.now (state_of self.old) (state_of self.new) }
         ensures longer { IsErrOf result FetchFault.TooLong →
-            IsLonger (held_in self.old) name.now limit }
-        ensures longs { ¬ IsErrOf result FetchFault.TooLong → longs_in self.new ≡ longs_in self.old }
+            IsLonger (state_of self.old) name.now limit }
+        ensures too_long { IsErrOf result FetchFault.TooLong → self.new.longs ≡ raised self.old.longs }
+        ensures never_falls { NoCountFalls (state_of self.old) (state_of self.new) }
+        ensures faults { ¬ IsErrOf result FetchFault.Failed → self.new.faults ≡ self.old.faults }
+        ensures longs { ¬ IsErrOf result FetchFault.TooLong → self.new.longs ≡ self.old.longs }
         // But for want of memory it fails exactly where it is to fail or the name isn't held.
         ensures exactly { ¬ IsErrOf result FetchFault.NoMemory →
-            (IsErrOf result FetchFault.Failed
-            ↔ IsToFail (state_of self.old) ⊎ ((state_of self.old).held name.now ≡ None)) }
+            (IsErrOf result FetchFault.Failed ↔ IsToFailAt self.old name.now) }
     {
         if self.count_call() {
             self.faults = self.faults.saturating_add(1);
@@ -131,23 +116,22 @@ impl Shelf for MemShelf {
     }
 
     fn store(&mut self, name: &str, bytes: &[u8]) -> Result<(), StoreFault>
-        ensures due { due_in self.new ≡ due_in self.old }
-        ensures calls { calls_in self.new ≡ raised (calls_in self.old) }
-        ensures faults { faults_in self.old ≤ faults_in self.new }
-        ensures longs { longs_in self.new ≡ longs_in self.old }
-        ensures others { WhereTold (held_in self.old) (held_in self.new) (SameBut name.now) }
+        ensures others { WhereTold (state_of self.old) (state_of self.new) (ChangesOnly name.now) }
         ensures ok { OnOk result
-            (WhereTold (held_in self.old) (held_in self.new) (λ _ now. now name.now ≡ Some bytes.now)) }
+            (WhereTold (state_of self.old) (state_of self.new) (HoldsNow name.now bytes.now)) }
         ensures err { OnErr result
-            (WhereTold (held_in self.old) (held_in self.new) (HoldsPart name.now bytes.now)) }
-        ensures failed { IsErrOf result StoreFault.Failed →
-            Rose (faults_in self.old) (faults_in self.new) }
+            (WhereTold (state_of self.old) (state_of self.new) (HoldsPart name.now bytes.now)) }
+        ensures calls { self.new.calls ≡ raised self.old.calls }
+        ensures failed { IsErrOf result StoreFault.Failed → Rose self.old.faults self.new.faults }
         ensures cause { IsErrOf result StoreFault.Failed →
-            MayFail (due_in self.old) (calls_in self.old) (calls_in self.new) }
+            MayFail (state_of self.old) (state_of self.new) }
+        ensures faults { ¬ IsErrOf result StoreFault.Failed → self.new.faults ≡ self.old.faults }
+        ensures longs { self.new.longs ≡ self.old.longs }
+        ensures never_falls { NoCountFalls (state_of self.old) (state_of self.new) }
         // But for want of memory it fails exactly where it is to fail, and then changes nothing held.
         ensures exactly { ¬ IsErrOf result StoreFault.NoMemory →
-            (IsErrOf result StoreFault.Failed ↔ IsToFail (state_of self.old)) }
-        ensures unchanged { OnErr result ((state_of self.new).held ≡ (state_of self.old).held) }
+            (IsErrOf result StoreFault.Failed ↔ IsToFail self.old) }
+        ensures unchanged { OnErr result (content_of self.new ≡ content_of self.old) }
     {
         if self.count_call() {
             self.faults = self.faults.saturating_add(1);

@@ -1,9 +1,8 @@
 //! A sink in memory.
-ghost use Rattle.std.specs.Prelude.{◌≡◌, ℕ, ◌<◌, ◌≤◌, List, [], ◌++◌, length, take, Some, None, IfSome, IsErrOf, OnOk, OnErr, is_some};
-ghost use Rattle.std.specs.Io.KnownBytes.{Appends};
+ghost use Rattle.std.specs.Prelude.{◌≡◌, ℕ, ◌<◌, ◌≤◌, [], ◌++◌, length, take, Some, None, IsErrOf, OnOk, OnErr};
 ghost use Rattle.brake_io.specs.Rose.{raised, Rose};
-ghost use Rattle.brake_io.specs.Meanings.{AppendsPart};
-ghost use Rattle.brake_io.specs.SinkState.{IsToFailAfter};
+ghost use Rattle.brake_io.specs.Meanings.{Puts, PutsPart};
+ghost use Rattle.brake_io.specs.MemSinkState.{seen, IsToFailAfter};
 
 use crate::sink::{PutFault, Sink};
 use std::alloc::Global;
@@ -27,9 +26,9 @@ struct Failure {
 
 impl Model for MemSink {
     ghost use Rattle.std.specs.Prelude.{option_map};
-    ghost use Rattle.brake_io.specs.SinkState.{SinkState};
+    ghost use Rattle.brake_io.specs.MemSinkState.{MemSinkState};
 
-    ghost Value = { SinkState };
+    ghost Value = { MemSinkState };
 
     ghost view = { λ s. record {
       written = s.written.items;
@@ -68,15 +67,14 @@ impl MemSink {
 }
 
 impl Sink for MemSink {
-    ghost written = { λ s. Some s.written };
-
-    ghost faults = { λ s. s.faults };
+    ghost state = { seen };
 
     fn put(&mut self, bytes: &[u8]) -> Result<(), PutFault>
-        ensures faults { self.old.faults ≤ self.new.faults }
-        ensures ok { OnOk result (Appends (Some self.old.written) (Some self.new.written) bytes.now) }
-        ensures err { OnErr result (AppendsPart (Some self.old.written) (Some self.new.written) bytes.now) }
+        ensures ok { OnOk result (Puts (seen self.old) (seen self.new) bytes.now) }
+        ensures err { OnErr result (PutsPart (seen self.old) (seen self.new) bytes.now) }
         ensures failed { IsErrOf result PutFault.Failed → Rose self.old.faults self.new.faults }
+        ensures faults { OnOk result (self.new.faults ≡ self.old.faults) }
+        ensures never_falls { self.old.faults ≤ self.new.faults }
         ensures none_taken { self.new.written ≡ self.old.written → 0 < length bytes.now →
             Rose self.old.faults self.new.faults }
         // But for want of memory it fails exactly at its place, after so many bytes or the whole piece.

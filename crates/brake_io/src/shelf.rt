@@ -1,7 +1,7 @@
 //! A place where files are fetched and stored.
-ghost use Rattle.std.specs.Prelude.{◌≡◌, ℕ, ◌≤◌, List, Option, Some, is_some, IsErrOf, IfOk, OnOk, OnErr, vec_len};
+ghost use Rattle.std.specs.Prelude.{◌≡◌, ◌≤◌, IsErrOf, IfOk, OnOk, OnErr, vec_len};
 ghost use Rattle.brake_io.specs.Rose.{raised, Rose};
-ghost use Rattle.brake_io.specs.Meanings.{Names, Holds, IsLonger, MayFail, MayFailAt, WhereTold, SameBut, HoldsPart};
+ghost use Rattle.brake_io.specs.Meanings.{ShelfState, NoCountFalls, Holds, IsLonger, MayFail, MayFailAt, WhereTold, ChangesOnly, HoldsNow, HoldsPart};
 
 use std::alloc::{AllocError, AllocFailed, Global};
 
@@ -22,54 +22,45 @@ pub enum StoreFault {
 
 /// Files under their names.
 pub trait Shelf {
-    /// The bytes under each name, which a shelf may tell or not.
-    ghost held: { Self → Option Names };
-
-    /// How often the outside has failed. This count never falls.
-    ghost faults: { Self → ℕ };
-
-    /// How often a file was longer than the limit. This count never falls.
-    ghost longs: { Self → ℕ };
-
-    /// How many calls of `fetch` and `store` there were.
-    ghost calls: { Self → ℕ };
-
-    /// The numbers of the calls that are to fail, told exactly where the content is.
-    ghost due: { Self → Option (List ℕ) };
+    /// What is seen of a shelf: its content, which it may tell or not, and three counts that never
+    /// fall.
+    ghost state: { Self → ShelfState };
 
     /// The bytes under `name`, which are at most `limit`. A name that is not held is a fault.
     fn fetch(&mut self, alloc: Global, name: &str, limit: u64) -> Result<Vec<u8>, FetchFault>
-        ensures held { held self.new ≡ held self.old }
-        ensures due { due self.new ≡ due self.old }
-        ensures calls { calls self.new ≡ raised (calls self.old) }
-        ensures faults { faults self.old ≤ faults self.new }
-        ensures bytes { IfOk result (λ bytes. Holds (held self.old) name.now bytes.items) }
+        ensures content { (state self.new).content ≡ (state self.old).content }
+        ensures calls { (state self.new).calls ≡ raised (state self.old).calls }
+        ensures bytes { IfOk result (λ bytes. Holds (state self.old) name.now bytes.items) }
         ensures within { IfOk result (λ bytes. vec_len bytes ≤ limit) }
-        ensures failed { IsErrOf result FetchFault.Failed → Rose (faults self.old) (faults self.new) }
+        ensures failed { IsErrOf result FetchFault.Failed →
+            Rose (state self.old).faults (state self.new).faults }
         ensures cause { IsErrOf result FetchFault.Failed →
-            MayFailAt (held self.old) name.now (due self.old) (calls self.old) (calls self.new) }
-        ensures too_long { IsErrOf result FetchFault.TooLong → Rose (longs self.old) (longs self.new) }
-        ensures longer { IsErrOf result FetchFault.TooLong → IsLonger (held self.old) name.now limit }
-        ensures longs { ¬ IsErrOf result FetchFault.TooLong → longs self.new ≡ longs self.old };
+            MayFailAt name.now (state self.old) (state self.new) }
+        ensures longer { IsErrOf result FetchFault.TooLong → IsLonger (state self.old) name.now limit }
+        ensures too_long { IsErrOf result FetchFault.TooLong →
+            (state self.new).longs ≡ raised (state self.old).longs }
+        ensures never_falls { NoCountFalls (state self.old) (state self.new) }
+        // A count stands still where the answer isn't its own.
+        ensures faults { ¬ IsErrOf result FetchFault.Failed →
+            (state self.new).faults ≡ (state self.old).faults }
+        ensures longs { ¬ IsErrOf result FetchFault.TooLong →
+            (state self.new).longs ≡ (state self.old).longs };
 
     /// Has `name` hold the bytes.
     fn store(&mut self, name: &str, bytes: &[u8]) -> Result<(), StoreFault>
-        ensures told { is_some (held self.new) ≡ is_some (held self.old) }
-        ensures due { due self.new ≡ due self.old }
-        ensures calls { calls self.new ≡ raised (calls self.old) }
-        ensures faults { faults self.old ≤ faults self.new }
-        ensures longs { longs self.new ≡ longs self.old }
-        ensures others { WhereTold (held self.old) (held self.new) (SameBut name.now) }
+        ensures others { WhereTold (state self.old) (state self.new) (ChangesOnly name.now) }
         ensures ok { OnOk result
-            (WhereTold (held self.old) (held self.new) (λ _ now. now name.now ≡ Some bytes.now)) }
+            (WhereTold (state self.old) (state self.new) (HoldsNow name.now bytes.now)) }
         ensures err { OnErr result
-            (WhereTold (held self.old) (held self.new) (HoldsPart name.now bytes.now)) }
-        ensures failed { IsErrOf result StoreFault.Failed → Rose (faults self.old) (faults self.new) }
-        ensures cause { IsErrOf result StoreFault.Failed →
-            MayFail (due self.old) (calls self.old) (calls self.new) };
-
-    /// The failing calls are told exactly where the content is.
-    ghost due_is_told: { (shelf : Self) → is_some (due shelf) ≡ is_some (held shelf) };
+            (WhereTold (state self.old) (state self.new) (HoldsPart name.now bytes.now)) }
+        ensures calls { (state self.new).calls ≡ raised (state self.old).calls }
+        ensures failed { IsErrOf result StoreFault.Failed →
+            Rose (state self.old).faults (state self.new).faults }
+        ensures cause { IsErrOf result StoreFault.Failed → MayFail (state self.old) (state self.new) }
+        ensures faults { ¬ IsErrOf result StoreFault.Failed →
+            (state self.new).faults ≡ (state self.old).faults }
+        ensures longs { (state self.new).longs ≡ (state self.old).longs }
+        ensures never_falls { NoCountFalls (state self.old) (state self.new) };
 }
 
 impl From<AllocError> for FetchFault {

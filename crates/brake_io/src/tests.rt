@@ -1,27 +1,70 @@
 //! The shelves and sinks, once each.
 
+use crate::whole::write_whole;
 use crate::*;
 use std::fs;
+use std::io::Write;
 use std::test::Fail;
+
+/// A writer that takes at most two bytes at a time, and no more than so many.
+#[derive(Drop)]
+struct Narrow {
+    taken: Vec<u8>,
+    room: usize,
+}
+
+impl Write for Narrow {
+    fn write(&mut self, bytes: &[u8]) -> std::io::Result<usize> {
+        let count = bytes
+            .len()
+            .min(2)
+            .min(self.room.saturating_sub(self.taken.len()));
+        self.taken.extend_from_slice(&bytes[..count])?;
+        Ok(count)
+    }
+
+    fn flush(&mut self) -> std::io::Result<()> {
+        Ok(())
+    }
+}
 
 #[test]
 fn files_of_the_folder(rt: HostRuntime) -> Result<(), Fail> {
     let alloc = rt.alloc();
     let mut shelf = DirShelf::new(&rt);
-    assert_eq!(rt; shelf.store("note", b"hello"), Ok(()));
-    assert_eq!(rt; fs::read(&rt, "note")?.as_slice(), b"hello".as_slice());
-    let bytes = shelf.fetch(alloc, "note", 5).ok().ok_or("a file")?;
-    assert_eq!(rt; bytes.as_slice(), b"hello".as_slice());
-    assert_eq!(rt;
-        shelf.fetch(alloc, "note", 4).err(),
-        Some(FetchFault::TooLong)
-    );
+    for (length, limit, fault) in [
+        (5, 5, None),
+        (6, 5, Some(FetchFault::TooLong)),
+        (65_536, 65_536, None),
+        (65_537, 65_536, Some(FetchFault::TooLong)),
+        (2_097_152, 1_073_741_824, None),
+    ] {
+        let bytes = vec![in alloc; b'x'; length]?;
+        assert_eq!(rt; shelf.store("note", &bytes), Ok(()));
+        assert_eq!(rt; fs::read(&rt, "note")?.as_slice(), bytes.as_slice());
+        match shelf.fetch(alloc, "note", limit) {
+            Ok(held) => assert_eq!(rt; held.as_slice(), bytes.as_slice()),
+            Err(other) => assert_eq!(rt; Some(other), fault),
+        }
+    }
     assert_eq!(rt;
         shelf.fetch(alloc, "none", 4).err(),
         Some(FetchFault::Failed)
     );
     assert_eq!(rt; shelf.store("none/note", b"hello"), Err(StoreFault::Failed));
     Ok(())
+}
+
+#[test]
+fn an_output_that_takes_part_of_a_piece(rt: HostRuntime) {
+    for (room, is_whole, text) in [(5, true, "hello"), (4, false, "hell"), (3, false, "hel")] {
+        let mut out = Narrow {
+            taken: Vec::new(rt.alloc()),
+            room,
+        };
+        assert_eq!(rt; write_whole(&mut out, b"hello"), is_whole);
+        assert_eq!(rt; out.taken.as_slice(), text.as_bytes());
+    }
 }
 
 #[test]

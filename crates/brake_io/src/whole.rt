@@ -18,6 +18,9 @@ pub fn read_whole<F: Read>(alloc: Global, from: &mut F, limit: u64) -> Result<Ve
     ensures bytes { IfOk result (λ bytes. IfSome (F.remaining from.old) (λ all. all ≡ bytes.items)) }
     ensures longer { IsErrOf result FetchFault.TooLong →
         IfSome (F.remaining from.old) (λ all. limit < length all) }
+    // It fails before it took more than the limit: what is too long is told as too long.
+    ensures failed { IsErrOf result FetchFault.Failed → (taken : List ℕ) × (length taken ≤ limit)
+        × Consumes (F.remaining from.old) (F.remaining from.new) taken }
     ensures taken { (taken : List ℕ) × (length taken ≤ limit + 1)
         × Consumes (F.remaining from.old) (F.remaining from.new) taken }
 {

@@ -2,7 +2,7 @@ use Rattle.std.proofs.Common.{arith, ◌≡◌, ℕ, Some, ap, ◌∙◌, refl}
 use Rattle.std.proofs.lemmas.Grind.{common_steps}
 use Rattle.std.proofs.lemmas.List.{take_min}
 use Rattle.brake_io.specs.Rose.{raised}
-use Rattle.brake_io.specs.SinkState.{FailurePlace, IsToFailAfter}
+use Rattle.brake_io.specs.MemSinkState.{FailurePlace, IsToFailAfter}
 use Rattle.brake_io.proofs.mem_sink.MemSinkSink.put.Goals as goal
 use Rattle.brake_io.proofs.mem_sink.MemSinkSink.put.Goals.{in-Ok, in-Err}
 
