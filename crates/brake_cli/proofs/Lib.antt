@@ -1,3 +1,1 @@
-pub mod Texts
-pub mod Fetches
-pub mod Ends
+pub mod Answering

@@ -1,7 +1,5 @@
-pub mod Words
-pub mod Refusals
-pub mod BlankSheet
-pub mod RunText
+pub mod FaultNumbers
 pub mod Stops
-pub mod Fetching
+pub mod BlankAnswer
+pub mod Commands
 pub mod Run

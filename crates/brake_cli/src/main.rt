@@ -3,17 +3,14 @@
 
 mod blank;
 mod brake;
-mod fetching;
+mod command;
 mod refusal;
-mod refusal_line;
-mod status;
 #[cfg(test)]
 mod tests;
-mod words;
 
 use brake::brake;
 use brake_io::{DirShelf, StdSink};
-use status::Status;
+use command_runner::Status;
 use std::alloc::AllocError;
 use std::env;
 use std::io::ErrorKind;

@@ -1,33 +1,50 @@
-//! The run of `blank` on an L section, over files in memory, and the lines of job refusals.
+//! The runs of `blank` that the documentation names, over files in memory, and runs in which the
+//! shelf or the sink fails.
 
 use crate::brake::brake;
-use crate::refusal::Refusal;
-use crate::refusal_line::refusal_line;
-use crate::status::Status;
-use allowance::AllowFault;
 use brake_io::{MemShelf, MemSink};
-use job_setup::JobFault;
+use command_runner::Status;
 use std::alloc::{AllocError, Global};
 use std::test::Fail;
-use unfolder::UnfoldFault;
 
 const PART: &str =
     "material = \"S235\"\nthickness = 2000\nradius = 2000\n[[face]]\nname = \"base\"\nwidth = 100000\nlength = 50000\n[[face]]\nname = \"leg\"\non = \"base\"\nside = \"N\"\nat = 0\nwidth = 100000\nlength = 30000\ndir = \"up\"\n";
 
 const TOOLS: &str = "[[allow]]\nmaterial = \"S235\"\nthickness = 2000\nradius = 2000\nk = 650\n";
 
+/// The tools file with its row twice.
+const TWO_ROWS: &str =
+    "[[allow]]\nmaterial = \"S235\"\nthickness = 2000\nradius = 2000\nk = 650\n[[allow]]\nmaterial = \"S235\"\nthickness = 2000\nradius = 2000\nk = 650\n";
+
 const SHEET: &str =
     "blank\nsize 100000 76162\nface 0 base 0 0 100000 48081\nface 1 leg 0 48081 100000 76162\nbend 1 0 48081 100000 48081 up\n";
 
-/// A shelf with a part's file and the tools file.
-fn shelf_with(alloc: Global, part: &[u8]) -> Result<MemShelf, AllocError> {
-    let mut shelf = MemShelf::new(alloc);
-    shelf.add("part", part)?;
-    shelf.add("tools", TOOLS.as_bytes())?;
-    Ok(shelf)
+/// A part whose faces 1 and 4 overlap in the blank.
+const OVERLAP: &str =
+    "material = \"S235\"\nthickness = 2000\nradius = 2000\n[[face]]\nname = \"f0\"\nwidth = 60000\nlength = 60000\n[[face]]\nname = \"f1\"\non = \"f0\"\nside = \"N\"\nat = 2000\nwidth = 56000\nlength = 40000\ndir = \"up\"\n[[face]]\nname = \"f2\"\non = \"f0\"\nside = \"E\"\nat = 2000\nwidth = 56000\nlength = 40000\ndir = \"up\"\n[[face]]\nname = \"f3\"\non = \"f2\"\nside = \"W\"\nat = 2000\nwidth = 38000\nlength = 60000\ndir = \"up\"\n[[face]]\nname = \"f4\"\non = \"f3\"\nside = \"W\"\nat = 20000\nwidth = 30000\nlength = 30000\ndir = \"up\"\n";
+
+/// A text with one piece of it replaced.
+fn changed(alloc: Global, text: &str, from: &str, to: &str) -> Result<Vec<u8>, AllocError> {
+    let Some((before, after)) = text.split_once(from) else {
+        return Vec::from_slice(alloc, text.as_bytes());
+    };
+    let mut bytes = Vec::from_slice(alloc, before.as_bytes())?;
+    bytes.extend_from_slice(to.as_bytes())?;
+    bytes.extend_from_slice(after.as_bytes())?;
+    Ok(bytes)
 }
 
-/// Runs `blank` over the part's file of this name.
+/// A text, made this long by a comment.
+fn padded(alloc: Global, text: &str, length: usize) -> Result<Vec<u8>, AllocError> {
+    let mut file = Vec::from_slice(alloc, text.as_bytes())?;
+    file.push(b'#')?;
+    for _ in file.len()..length {
+        file.push(b'x')?;
+    }
+    Ok(file)
+}
+
+/// Runs `blank` over the file `part` or another, and the tools file.
 fn run(
     alloc: Global,
     part: &str,
@@ -41,23 +58,112 @@ fn run(
     Ok(brake(alloc, &words, shelf, out))
 }
 
-/// The part's file, made this long by a comment.
-fn padded(alloc: Global, length: usize) -> Result<Vec<u8>, AllocError> {
-    let mut file = Vec::from_slice(alloc, PART.as_bytes())?;
-    file.push(b'#')?;
-    for _ in file.len()..length {
-        file.push(b'x')?;
+/// A shelf with a part's file and a tools file.
+fn shelf_with(alloc: Global, part: &[u8], tools: &str) -> Result<MemShelf, AllocError> {
+    let mut shelf = MemShelf::new(alloc);
+    shelf.add("part", part)?;
+    shelf.add("tools", tools.as_bytes())?;
+    Ok(shelf)
+}
+
+#[test]
+fn refusals_of_the_files(rt: HostRuntime) -> Result<(), Fail> {
+    for (part, from, to, tools, status, text) in [
+        (
+            PART,
+            "length = 30000",
+            "length = 1920",
+            TOOLS,
+            Status::Done,
+            "blank\nsize 100000 48082\n",
+        ),
+        (
+            PART,
+            "length = 30000",
+            "length = 1919",
+            TOOLS,
+            Status::Refused,
+            "refused job 2 1 1\n",
+        ),
+        (PART, "", "", TWO_ROWS, Status::Refused, "refused job 1 2\n"),
+        (PART, "", "", "", Status::Refused, "refused job 1 1\n"),
+        (OVERLAP, "", "", "", Status::Refused, "refused job 1 1\n"),
+        (
+            OVERLAP,
+            "",
+            "",
+            TOOLS,
+            Status::Refused,
+            "refused job 2 3 1 4\n",
+        ),
+        (
+            PART,
+            "thickness = 2000",
+            "thickness = 1501",
+            TOOLS,
+            Status::Refused,
+            "refused part 7\n",
+        ),
+        (
+            PART,
+            "0\nwidth = 100000",
+            "0\nwidth = 0",
+            TOOLS,
+            Status::Refused,
+            "refused part 5 1\n",
+        ),
+        (
+            PART,
+            "on = \"base\"",
+            "on = \"bas\"",
+            TOOLS,
+            Status::Refused,
+            "refused part 6 1\n",
+        ),
+        (
+            PART,
+            "material",
+            "= 1\nmaterial",
+            TOOLS,
+            Status::Refused,
+            "refused part 1\n",
+        ),
+        (
+            PART,
+            "width",
+            "colour = 1\nwidth",
+            TOOLS,
+            Status::Refused,
+            "refused part 3 1\n",
+        ),
+        (
+            PART,
+            "radius = 2000\n",
+            "",
+            TOOLS,
+            Status::Refused,
+            "refused part 2 0 3\n",
+        ),
+    ] {
+        let part = changed(rt.alloc(), part, from, to)?;
+        let mut shelf = shelf_with(rt.alloc(), &part, tools)?;
+        let mut out = MemSink::new(rt.alloc());
+        assert_eq!(rt; run(rt.alloc(), "part", &mut shelf, &mut out)?, status);
+        assert!(rt; out.bytes().starts_with(text.as_bytes()));
     }
-    Ok(file)
+    Ok(())
 }
 
 #[test]
 fn files_of_a_mebibyte_and_longer(rt: HostRuntime) -> Result<(), Fail> {
-    for (length, status, text) in [
-        (1_048_576, Status::Done, SHEET),
-        (1_048_577, Status::Refused, "refused long 1\n"),
+    for (part, tools, status, text) in [
+        (1_048_576, 0, Status::Done, SHEET),
+        (1_048_577, 0, Status::Refused, "refused long 1\n"),
+        (0, 1_048_577, Status::Refused, "refused long 2\n"),
     ] {
-        let mut shelf = shelf_with(rt.alloc(), &padded(rt.alloc(), length)?)?;
+        let mut shelf = MemShelf::new(rt.alloc());
+        shelf.add("part", &padded(rt.alloc(), PART, part)?)?;
+        shelf.add("tools", &padded(rt.alloc(), TOOLS, tools)?)?;
         let mut out = MemSink::new(rt.alloc());
         assert_eq!(rt; run(rt.alloc(), "part", &mut shelf, &mut out)?, status);
         assert_eq!(rt; out.bytes(), text.as_bytes());
@@ -66,67 +172,22 @@ fn files_of_a_mebibyte_and_longer(rt: HostRuntime) -> Result<(), Fail> {
 }
 
 #[test]
-fn a_file_that_is_not_held(rt: HostRuntime) -> Result<(), Fail> {
-    let mut shelf = shelf_with(rt.alloc(), PART.as_bytes())?;
-    let mut out = MemSink::new(rt.alloc());
-    assert_eq!(rt;
-        run(rt.alloc(), "missing", &mut shelf, &mut out)?,
-        Status::Fault
-    );
-    assert!(rt; out.bytes().is_empty());
-    Ok(())
-}
-
-#[test]
-fn each_shelf_call_failing_in_turn(rt: HostRuntime) -> Result<(), Fail> {
-    for (call, status, text) in [
-        (1, Status::Fault, ""),
-        (2, Status::Fault, ""),
-        (3, Status::Done, SHEET),
+fn each_call_failing_in_turn(rt: HostRuntime) -> Result<(), Fail> {
+    for (part, call, put, status, text) in [
+        ("missing", 0, 0, Status::Fault, ""),
+        ("part", 1, 0, Status::Fault, ""),
+        ("part", 2, 0, Status::Fault, ""),
+        ("part", 3, 0, Status::Done, SHEET),
+        ("part", 0, 1, Status::Fault, "blank\nsize"),
+        // The put after the text is the caller's own.
+        ("part", 0, 2, Status::Done, SHEET),
     ] {
-        let mut shelf = shelf_with(rt.alloc(), PART.as_bytes())?;
+        let mut shelf = shelf_with(rt.alloc(), PART.as_bytes(), TOOLS)?;
         shelf.fail_at(call)?;
         let mut out = MemSink::new(rt.alloc());
-        assert_eq!(rt; run(rt.alloc(), "part", &mut shelf, &mut out)?, status);
+        out.fail_at(put, 10);
+        assert_eq!(rt; run(rt.alloc(), part, &mut shelf, &mut out)?, status);
         assert_eq!(rt; out.bytes(), text.as_bytes());
-    }
-    Ok(())
-}
-
-#[test]
-fn a_sink_that_fails_in_the_sheet(rt: HostRuntime) -> Result<(), Fail> {
-    for taken in [0, 1, 10] {
-        let mut shelf = shelf_with(rt.alloc(), PART.as_bytes())?;
-        let mut out = MemSink::new(rt.alloc());
-        out.fail_at(1, taken);
-        assert_eq!(rt;
-            run(rt.alloc(), "part", &mut shelf, &mut out)?,
-            Status::Fault
-        );
-        assert_eq!(rt; out.bytes(), &SHEET.as_bytes()[..taken]);
-    }
-    Ok(())
-}
-
-#[test]
-fn the_lines_of_job_refusals(rt: HostRuntime) -> Result<(), Fail> {
-    for (fault, line) in [
-        (JobFault::Allow(AllowFault::TwoRows), "refused job 1 2\n"),
-        (
-            JobFault::Unfold(UnfoldFault::FlatOverlap { a: 1, b: 12 }),
-            "refused job 2 3 1 12\n",
-        ),
-        (JobFault::UnknownTool { stage: 0 }, "refused job 3 0\n"),
-        (JobFault::UnequalHeight { stage: 5 }, "refused job 4 5\n"),
-        (JobFault::StageOverlap { a: 0, b: 3 }, "refused job 5 0 3\n"),
-        (JobFault::OffBed { stage: 1 }, "refused job 6 1\n"),
-        (JobFault::NoStage, "refused job 7\n"),
-        (JobFault::StockShort { stage: 2 }, "refused job 8 2\n"),
-        (JobFault::NoLoad { stage: 3 }, "refused job 9 3\n"),
-        (JobFault::TwoLoads { stage: 4 }, "refused job 10 4\n"),
-    ] {
-        let written = refusal_line(rt.alloc(), Refusal::Job(fault))?;
-        assert_eq!(rt; written.as_slice(), line.as_bytes());
     }
     Ok(())
 }

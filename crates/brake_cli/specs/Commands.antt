@@ -1,0 +1,52 @@
+-- The commands: the forms of their words, and what they answer.
+use Rattle.std.specs.Prelude.{◌≡◌, ℕ, List, [], ◌∷◌, codes, Bool, Option, Some, None, if◌then◌else◌}
+use Rattle.command_runner.specs.declared.kind.Kind.{Kind}
+use Rattle.command_runner.specs.declared.kind.Kind.TheVariants.{Literal, Input, Certificate, Table, Output, NumberedOutput, Number}
+use Rattle.command_runner.specs.declared.kind.Keyword.TheVariants as word
+use Rattle.command_runner.specs.declared.status.Status.TheVariants as status
+use Rattle.command_runner.specs.Kinds.{is_form}
+use Rattle.command_runner.specs.Answers.{AnswerData, one_text}
+use Rattle.command_runner.specs.Ends.{Meaning}
+use Rattle.brake_cli.specs.declared.command.Command.{Command}
+use Rattle.brake_cli.specs.declared.command.Command.TheVariants.{Blank, Plan, PlanWithin, Check, CheckFiles, Trial, Why, Setups, Settle, SettleOver, Merge, Prove}
+use Rattle.brake_cli.specs.BlankAnswer.{blank_answer}
+
+-- the forms: the kinds of the words of each command
+abbrev pub form_of : Command → List Kind
+form_of Blank = Literal word.Blank ∷ Input ∷ Input ∷ []
+form_of Plan = Literal word.Plan ∷ Input ∷ Input ∷ Input ∷ Output ∷ []
+form_of PlanWithin = Literal word.Plan ∷ Input ∷ Input ∷ Input ∷ Output ∷ Literal word.Budget ∷ Number 1 4294967295 ∷ []
+form_of Check = Literal word.Check ∷ Certificate ∷ []
+form_of CheckFiles = Literal word.Check ∷ Certificate ∷ Input ∷ Input ∷ Input ∷ []
+form_of Trial = Literal word.Trial ∷ Number 0 4294967295 ∷ []
+form_of Why = Literal word.Why ∷ Input ∷ Input ∷ Input ∷ []
+form_of Setups = Literal word.Setups ∷ Input ∷ Input ∷ Input ∷ Input ∷ NumberedOutput ∷ []
+form_of Settle = Literal word.Settle ∷ Input ∷ Input ∷ Input ∷ Output ∷ Number 0 4095 ∷ Number 0 4095 ∷ []
+form_of SettleOver = Literal word.Settle ∷ Input ∷ Input ∷ Input ∷ Output ∷ Number 0 4095 ∷ Number 0 4095 ∷ Table ∷ []
+form_of Merge = Literal word.Merge ∷ Table ∷ Table ∷ Output ∷ []
+form_of Prove = Literal word.Prove ∷ Table ∷ []
+
+-- the forms of the words
+unfoldable pub usage_text : List ℕ
+usage_text = codes "usage: brake blank PART TOOLS\nusage: brake plan PART TOOLS MACHINE CERT [--budget N]\nusage: brake check CERT [PART TOOLS MACHINE]\nusage: brake trial N\nusage: brake why PART TOOLS MACHINE\nusage: brake setups PART TOOLS MACHINE SETUPS CERT\nusage: brake settle PART TOOLS MACHINE OUT LOW HIGH [BASE]\nusage: brake merge TABLE TABLE OUT\nusage: brake prove TABLE\n"
+
+-- the answer to words that have no form, and to those of a command that isn't built yet
+abbrev pub usage : AnswerData
+usage = one_text status.Usage usage_text
+
+-- what each command answers to its words and the contents of its files
+abbrev pub meaning_of : Command → Meaning
+meaning_of Blank words contents answer = answer ≡ blank_answer contents
+meaning_of _ words contents answer = answer ≡ usage
+
+-- the first of some commands whose form the words have
+abbrev pub first_of : List Command → List (List ℕ) → Option Command
+first_of [] words = None
+first_of (command ∷ commands) words = if is_form (form_of command) words then Some command else first_of commands words
+
+abbrev pub commands : List Command
+commands = Blank ∷ Plan ∷ PlanWithin ∷ Check ∷ CheckFiles ∷ Trial ∷ Why ∷ Setups ∷ Settle ∷ SettleOver ∷ Merge ∷ Prove ∷ []
+
+-- the command whose words these are; none where they have no form
+unfoldable pub command_of : List (List ℕ) → Option Command
+command_of words = first_of commands words

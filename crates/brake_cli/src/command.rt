@@ -1,0 +1,207 @@
+//! The commands: the forms of their words, and what they answer.
+ghost use Rattle.std.specs.Prelude.{◌≡◌, IfOk, IfSome, IsTrue, map, string_bytes};
+ghost use Rattle.command_runner.specs.Answers.{answer_data};
+ghost use Rattle.command_runner.specs.Kinds.{is_form};
+ghost use Rattle.brake_cli.specs.Commands.{form_of, meaning_of, usage_text, usage, first_of, command_of};
+
+use crate::blank;
+use command_runner::{Answer, Keyword, Kind, Status, is_form};
+use std::alloc::{AllocError, Global};
+
+/// A command, by the form of its words.
+#[derive(Clone, Copy, Debug, PartialEq, Eq)]
+pub enum Command {
+    Blank,
+    Plan,
+    /// `plan` with `--budget N`.
+    PlanWithin,
+    Check,
+    /// `check` with the files of a job.
+    CheckFiles,
+    Trial,
+    Why,
+    Setups,
+    Settle,
+    /// `settle` over the table BASE.
+    SettleOver,
+    Merge,
+    Prove,
+}
+
+/// All commands.
+const COMMANDS: [Command; 12] = [
+    Command::Blank,
+    Command::Plan,
+    Command::PlanWithin,
+    Command::Check,
+    Command::CheckFiles,
+    Command::Trial,
+    Command::Why,
+    Command::Setups,
+    Command::Settle,
+    Command::SettleOver,
+    Command::Merge,
+    Command::Prove,
+];
+
+/// The word that stands for `--budget`.
+const BUDGET: Kind = Kind::Literal(Keyword::Budget);
+
+/// A greatest number of settled keys.
+const COUNT: Kind = Kind::Number {
+    least: 1,
+    most: u32::MAX,
+};
+
+/// The number of a generated job.
+const SEED: Kind = Kind::Number {
+    least: 0,
+    most: u32::MAX,
+};
+
+/// A set of bends as a number.
+const MASK: Kind = Kind::Number {
+    least: 0,
+    most: 4095,
+};
+
+/// The forms of the words.
+const USAGE: &[u8] =
+    b"usage: brake blank PART TOOLS\nusage: brake plan PART TOOLS MACHINE CERT [--budget N]\nusage: brake check CERT [PART TOOLS MACHINE]\nusage: brake trial N\nusage: brake why PART TOOLS MACHINE\nusage: brake setups PART TOOLS MACHINE SETUPS CERT\nusage: brake settle PART TOOLS MACHINE OUT LOW HIGH [BASE]\nusage: brake merge TABLE TABLE OUT\nusage: brake prove TABLE\n";
+
+/// The answer to words that have no form, and to those of a command that isn't built yet.
+#[tactic(auto, unfolding(crate::specs::Commands::usage_text))]
+pub fn usage(alloc: Global) -> Result<Answer, AllocError>
+    ensures answer { IfOk result (λ answer. answer_data answer ≡ usage) }
+    ensures status { IfOk result (λ answer. answer.status ≡ Status.Usage) }
+{
+    Answer::one_text(alloc, Status::Usage, Vec::from_slice(alloc, USAGE)?)
+}
+
+impl Command {
+    /// The form of its words: the kind of each.
+    pub fn form(self) -> &'static [Kind]
+        ensures { result.now ≡ form_of self }
+    {
+        match self {
+            Command::Blank => &[Kind::Literal(Keyword::Blank), Kind::Input, Kind::Input],
+            Command::Plan => &[
+                Kind::Literal(Keyword::Plan),
+                Kind::Input,
+                Kind::Input,
+                Kind::Input,
+                Kind::Output,
+            ],
+            Command::PlanWithin => &[
+                Kind::Literal(Keyword::Plan),
+                Kind::Input,
+                Kind::Input,
+                Kind::Input,
+                Kind::Output,
+                BUDGET,
+                COUNT,
+            ],
+            Command::Check => &[Kind::Literal(Keyword::Check), Kind::Certificate],
+            Command::CheckFiles => &[
+                Kind::Literal(Keyword::Check),
+                Kind::Certificate,
+                Kind::Input,
+                Kind::Input,
+                Kind::Input,
+            ],
+            Command::Trial => &[Kind::Literal(Keyword::Trial), SEED],
+            Command::Why => &[
+                Kind::Literal(Keyword::Why),
+                Kind::Input,
+                Kind::Input,
+                Kind::Input,
+            ],
+            Command::Setups => &[
+                Kind::Literal(Keyword::Setups),
+                Kind::Input,
+                Kind::Input,
+                Kind::Input,
+                Kind::Input,
+                Kind::NumberedOutput,
+            ],
+            Command::Settle => &[
+                Kind::Literal(Keyword::Settle),
+                Kind::Input,
+                Kind::Input,
+                Kind::Input,
+                Kind::Output,
+                MASK,
+                MASK,
+            ],
+            Command::SettleOver => &[
+                Kind::Literal(Keyword::Settle),
+                Kind::Input,
+                Kind::Input,
+                Kind::Input,
+                Kind::Output,
+                MASK,
+                MASK,
+                Kind::Table,
+            ],
+            Command::Merge => &[
+                Kind::Literal(Keyword::Merge),
+                Kind::Table,
+                Kind::Table,
+                Kind::Output,
+            ],
+            Command::Prove => &[Kind::Literal(Keyword::Prove), Kind::Table],
+        }
+    }
+}
+
+impl command_runner::Command for Command {
+    ghost use Rattle.brake_cli.specs.Commands.{form_of, meaning_of};
+
+    ghost form = { form_of };
+
+    ghost meaning = { meaning_of };
+
+    fn kinds(&self) -> &'static [Kind] {
+        self.form()
+    }
+
+    fn answer(
+        &self,
+        alloc: Global,
+        words: &[String],
+        contents: &[Vec<u8>],
+    ) -> Result<Answer, AllocError> {
+        match self {
+            Command::Blank => blank::answer(alloc, contents),
+            _ => usage(alloc),
+        }
+    }
+}
+
+/// The first of some commands whose form the words have.
+fn first_of(commands: &[Command], words: &[String]) -> Option<Command>
+    ensures value { result ≡ first_of commands.now (map string_bytes words.now) }
+    ensures form { IfSome result (λ command.
+        IsTrue (is_form (form_of command) (map string_bytes words.now))) }
+{
+    match commands {
+        [] => None,
+        [command, commands @ ..] => {
+            if is_form(command.form(), words) {
+                Some(*command)
+            } else {
+                first_of(commands, words)
+            }
+        }
+    }
+}
+
+/// The command whose words these are. None exactly where they have no command's form.
+#[tactic(auto, unfolding(crate::specs::Commands::command_of))]
+pub fn read_words(words: &[String]) -> Option<Command>
+    ensures value { result ≡ command_of (map string_bytes words.now) }
+    ensures form { IfSome result (λ command.
+        IsTrue (is_form (form_of command) (map string_bytes words.now))) }
+{
+    first_of(&COMMANDS, words)
+}

@@ -1,0 +1,6 @@
+pub mod Texts
+pub mod Storing
+pub mod Putting
+pub mod Fetches
+pub mod Forms
+pub mod Told

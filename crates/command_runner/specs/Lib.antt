@@ -1,0 +1,6 @@
+pub mod Kinds
+pub mod Answers
+pub mod Fetching
+pub mod Stops
+pub mod Delivery
+pub mod Ends

@@ -1,0 +1,167 @@
+//! Fetching the files of a command.
+ghost use Rattle.std.specs.Prelude.{◌≡◌, ◌+◌, ◌≤◌, ◌<◌, ◌++◌, length, map, All, string_bytes, IfOk, IfErr, OnOk, IsErrOf};
+ghost use Rattle.brake_io.specs.Rose.{raised, Rose};
+ghost use Rattle.brake_io.specs.Meanings.{NoCountFalls, MayFailAt};
+ghost use Rattle.command_runner.specs.Fetching.{counted, fetched_word, file_words, word_at, file_of, names_of, IsContent, IsTooLong, IsFetched, OnlyFetches, HasCause};
+ghost use Rattle.command_runner.specs.Kinds.{limit_of};
+ghost use Rattle.command_runner.specs.Stops.{OnTooLong, OnFetched};
+
+use crate::kind::Kind;
+use brake_io::{FetchFault, Shelf};
+use std::alloc::{AllocError, AllocFailed, Global};
+
+/// A word that names a file that is fetched.
+#[derive(Clone, Copy, Debug, PartialEq, Eq)]
+pub struct FileWord {
+    /// Its number among the command's file words, from 1.
+    pub number: u8,
+    /// Its place in the list of words.
+    pub place: usize,
+    /// The greatest length that its file may have, in bytes.
+    pub limit: u64,
+}
+
+/// Why the files aren't fetched: the file of this file word is too long, reading failed, or memory
+/// ran out.
+#[derive(Clone, Copy, Debug, PartialEq, Eq)]
+pub enum Stop {
+    TooLong(u8),
+    Fault,
+    NoMemory,
+}
+
+impl From<AllocError> for Stop {
+    ghost use Rattle.std.specs.Prelude.{◌≡◌};
+    ghost use Rattle.command_runner.specs.declared.fetching.Stop.TheVariants.{NoMemory};
+
+    ghost from_gives = { λ _ stop. stop ≡ NoMemory };
+
+    fn from(_: AllocError) -> Self {
+        Stop::NoMemory
+    }
+}
+
+impl<T: Drop> From<AllocFailed<T>> for Stop {
+    ghost use Rattle.std.specs.Prelude.{◌≡◌};
+    ghost use Rattle.command_runner.specs.declared.fetching.Stop.TheVariants.{NoMemory};
+
+    ghost from_gives = { λ _ stop. stop ≡ NoMemory };
+
+    fn from(_: AllocFailed<T>) -> Self {
+        Stop::NoMemory
+    }
+}
+
+/// The number of file words, once there is a word of this kind.
+fn counted(number: u8, kind: Kind) -> u8
+    requires { number < 255 }
+    ensures { result ≡ counted number kind }
+{
+    if kind.is_file() { number + 1 } else { number }
+}
+
+/// Adds the word to those of the files that are fetched, if its file is.
+fn push_fetched(
+    files: &mut Vec<FileWord>,
+    place: usize,
+    number: u8,
+    kind: Kind,
+) -> Result<(), AllocError>
+    ensures { OnOk result
+        (files.new.items ≡ files.old.items ++ fetched_word place number (limit_of kind)) }
+{
+    match kind.limit() {
+        Some(limit) => {
+            files.push(FileWord {
+                number,
+                place,
+                limit,
+            })?;
+            Ok(())
+        }
+        None => Ok(()),
+    }
+}
+
+/// The words of the files that a form fetches.
+pub fn file_words(alloc: Global, kinds: &[Kind]) -> Result<Vec<FileWord>, AllocError>
+    requires { length kinds.now ≤ 16 }
+    ensures { IfOk result (λ files. files.items ≡ file_words kinds.now) }
+{
+    let mut files = Vec::new(alloc);
+    let mut number = 0;
+    for (place, kind) in kinds.iter().enumerate() {
+        number = counted(number, *kind);
+        push_fetched(&mut files, place, number, *kind)?;
+    }
+    Ok(files)
+}
+
+/// The word at a place.
+fn word_at(words: &[String], place: usize) -> &str
+    requires { place < length words.now }
+    ensures { result.now ≡ word_at (map string_bytes words.now) place }
+{
+    words[place].as_str()
+}
+
+/// The content of the file that a word names.
+fn fetch<H: Shelf>(
+    alloc: Global,
+    words: &[String],
+    file: FileWord,
+    shelf: &mut H,
+) -> Result<Vec<u8>, Stop>
+    requires { file.place < length words.now }
+    ensures content { (H.state shelf.new).content ≡ (H.state shelf.old).content }
+    ensures calls { (H.state shelf.new).calls ≡ raised (H.state shelf.old).calls }
+    ensures never_falls { NoCountFalls (H.state shelf.old) (H.state shelf.new) }
+    ensures read { IfOk result (λ bytes.
+        IsContent (H.state shelf.old) (file_of (map string_bytes words.now) file) bytes.items) }
+    ensures longs { IfOk result (λ _. (H.state shelf.new).longs ≡ (H.state shelf.old).longs) }
+    ensures too_long { IfErr result (λ stop. OnTooLong stop (λ number. (number ≡ file.number)
+        × IsTooLong (H.state shelf.old) (H.state shelf.new) (file_of (map string_bytes words.now) file))) }
+    ensures faults { ¬ IsErrOf result Stop.Fault →
+        (H.state shelf.new).faults ≡ (H.state shelf.old).faults }
+    ensures fault { IsErrOf result Stop.Fault →
+        Rose (H.state shelf.old).faults (H.state shelf.new).faults }
+    ensures cause { IsErrOf result Stop.Fault →
+        MayFailAt (word_at (map string_bytes words.now) file.place) (H.state shelf.old) (H.state shelf.new) }
+{
+    match shelf.fetch(alloc, word_at(words, file.place), file.limit) {
+        Ok(bytes) => Ok(bytes),
+        Err(FetchFault::Failed) => Err(Stop::Fault),
+        Err(FetchFault::TooLong) => Err(Stop::TooLong(file.number)),
+        Err(FetchFault::NoMemory) => Err(Stop::NoMemory),
+    }
+}
+
+/// The contents of the files that these words name, fetched in order up to the first that can't be
+/// had.
+pub fn fetch_all<H: Shelf>(
+    alloc: Global,
+    words: &[String],
+    files: &[FileWord],
+    shelf: &mut H,
+) -> Result<Vec<Vec<u8>>, Stop>
+    requires { All (λ file. file.place < length words.now) files.now }
+    ensures only { OnlyFetches (length files.now) (H.state shelf.old) (H.state shelf.new) }
+    ensures never_falls { NoCountFalls (H.state shelf.old) (H.state shelf.new) }
+    ensures fetched { OnFetched result (IsFetched (H.state shelf.old) (H.state shelf.new)
+        (map (file_of (map string_bytes words.now)) files.now)) }
+    ensures count { IfOk result (λ contents. length contents.items ≡ length files.now) }
+    ensures faults { ¬ IsErrOf result Stop.Fault →
+        (H.state shelf.new).faults ≡ (H.state shelf.old).faults }
+    ensures fault { IsErrOf result Stop.Fault →
+        Rose (H.state shelf.old).faults (H.state shelf.new).faults }
+    ensures cause { IsErrOf result Stop.Fault →
+        HasCause (names_of (map (file_of (map string_bytes words.now)) files.now))
+        (H.state shelf.old) (H.state shelf.new) }
+{
+    let mut contents = Vec::new(alloc);
+    for file in files {
+        let bytes = fetch(alloc, words, *file, shelf)?;
+        contents.push(bytes)?;
+    }
+    Ok(contents)
+}

@@ -1,0 +1,113 @@
+//! The run of a command.
+ghost use Rattle.std.specs.Prelude.{◌≡◌, ◌⊎◌, ◌≤◌, List, length, map, string_bytes, IsTrue, IfOk, IfErr, IsErrOf};
+ghost use Rattle.std.specs.Vec.{vec_items};
+ghost use Rattle.brake_io.specs.Rose.{Rose};
+ghost use Rattle.brake_io.specs.Meanings.{NoCountFalls};
+ghost use Rattle.command_runner.specs.declared.kind.Kind.{Kind};
+ghost use Rattle.command_runner.specs.Kinds.{is_form};
+ghost use Rattle.command_runner.specs.Answers.{answer_data};
+ghost use Rattle.command_runner.specs.Fetching.{file_words, files_of, names_of, OnlyFetches, HasCause};
+ghost use Rattle.command_runner.specs.Delivery.{IsCutShort, Outside};
+ghost use Rattle.command_runner.specs.Ends.{Meaning, IsAnswer, Ends, CountsFault, MayFault};
+
+use crate::answer::{Answer, refusal};
+use crate::delivery::deliver;
+use crate::fetching::{Stop, fetch_all, file_words};
+use crate::kind::Kind;
+use crate::status::Status;
+use brake_io::{Shelf, Sink};
+use std::alloc::{AllocError, Global};
+
+/// A command, with the form of its words and what it answers.
+pub trait Command {
+    /// The kinds of its words.
+    ghost form: { Self → List Kind };
+
+    /// What it answers to its words and the contents of its files. It may have several answers.
+    ghost meaning: { Self → Meaning };
+
+    /// The kinds of its words, at most 16.
+    fn kinds(&self) -> &'static [Kind]
+        ensures kinds { result.now ≡ form self.now }
+        ensures few { length result.now ≤ 16 };
+
+    /// An answer to words of its form and the contents of its files, in the order of their words.
+    fn answer(
+        &self,
+        alloc: Global,
+        words: &[String],
+        contents: &[Vec<u8>],
+    ) -> Result<Answer, AllocError>
+        requires form { IsTrue (is_form (form self.now) (map string_bytes words.now)) }
+        requires count { length contents.now ≡ length (file_words (form self.now)) }
+        ensures answer { IfOk result (λ answer. meaning self.now (map string_bytes words.now)
+            (map vec_items contents.now) (answer_data answer)) }
+        ensures status { IfOk result (λ answer. ¬ IsCutShort answer.status) };
+}
+
+/// Fetches the files of a command and asks it for its answer. A refusal is the status of a run that
+/// is cut short.
+fn answer_of<C: Command, H: Shelf>(
+    alloc: Global,
+    command: &C,
+    words: &[String],
+    shelf: &mut H,
+) -> Result<Answer, Status>
+    requires { IsTrue (is_form (C.form command.now) (map string_bytes words.now)) }
+    ensures only { OnlyFetches (length (files_of (C.form command.now) (map string_bytes words.now)))
+        (H.state shelf.old) (H.state shelf.new) }
+    ensures never_falls { NoCountFalls (H.state shelf.old) (H.state shelf.new) }
+    ensures ok { IfOk result (λ answer.
+        IsAnswer (C.form command.now) (C.meaning command.now) (map string_bytes words.now)
+        (H.state shelf.old) (H.state shelf.new) (answer_data answer)) }
+    ensures status { IfOk result (λ answer. ¬ IsCutShort answer.status) }
+    ensures err { IfErr result IsCutShort }
+    ensures fault { IsErrOf result Status.Fault →
+        Rose (H.state shelf.old).faults (H.state shelf.new).faults }
+    ensures cause { IsErrOf result Status.Fault →
+        HasCause (names_of (files_of (C.form command.now) (map string_bytes words.now)))
+        (H.state shelf.old) (H.state shelf.new) }
+{
+    let files = match file_words(alloc, command.kinds()) {
+        Ok(files) => files,
+        Err(_) => return Err(Status::NoMemory),
+    };
+    match fetch_all(alloc, words, files.as_slice(), shelf) {
+        Ok(contents) => match command.answer(alloc, words, contents.as_slice()) {
+            Ok(answer) => Ok(answer),
+            Err(_) => Err(Status::NoMemory),
+        },
+        Err(Stop::TooLong(number)) => match refusal(alloc, b"refused long", &[u16::from(number)]) {
+            Ok(answer) => Ok(answer),
+            Err(_) => Err(Status::NoMemory),
+        },
+        Err(Stop::Fault) => Err(Status::Fault),
+        Err(Stop::NoMemory) => Err(Status::NoMemory),
+    }
+}
+
+/// Runs a command: fetches its files in the order of their words, has it answer, stores the texts of
+/// its answer and then puts the others.
+pub fn run<C: Command, H: Shelf, K: Sink>(
+    alloc: Global,
+    command: &C,
+    words: &[String],
+    shelf: &mut H,
+    out: &mut K,
+) -> Status
+    requires { IsTrue (is_form (C.form command.now) (map string_bytes words.now)) }
+    ensures ends { Ends (C.form command.now) (C.meaning command.now) (map string_bytes words.now)
+        (record { shelf = H.state shelf.old; sink = K.state out.old })
+        (record { shelf = H.state shelf.new; sink = K.state out.new }) result }
+    ensures fault { result ≡ Status.Fault → CountsFault
+        (record { shelf = H.state shelf.old; sink = K.state out.old })
+        (record { shelf = H.state shelf.new; sink = K.state out.new }) }
+    ensures cause { result ≡ Status.Fault → MayFault (C.form command.now) (map string_bytes words.now)
+        (record { shelf = H.state shelf.old; sink = K.state out.old })
+        (record { shelf = H.state shelf.new; sink = K.state out.new }) }
+{
+    match answer_of(alloc, command, words, shelf) {
+        Ok(answer) => deliver(&answer, shelf, out),
+        Err(status) => status,
+    }
+}
