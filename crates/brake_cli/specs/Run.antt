@@ -3,7 +3,7 @@ use Rattle.std.specs.Prelude.{◌≡◌, ◌⊎◌, ℕ, List, [], Option, Some,
 use Rattle.brake_io.specs.Meanings.{Names, Puts}
 use Rattle.command_runner.specs.declared.kind.Kind.{Kind}
 use Rattle.command_runner.specs.declared.status.Status.{Status}
-use Rattle.command_runner.specs.Answers.{AnswerData, long_refused, joined}
+use Rattle.command_runner.specs.Answers.{AnswerData, long_refused, concatenation}
 use Rattle.command_runner.specs.Fetching.{files_of, fetched_over}
 use Rattle.command_runner.specs.Delivery.{IsCutShort, Outside}
 use Rattle.command_runner.specs.Ends.{Meaning, Ends}

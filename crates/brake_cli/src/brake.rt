@@ -1,7 +1,7 @@
 //! The top call.
 ghost use Rattle.std.specs.Prelude.{◌≡◌, ◌⊎◌, List, ℕ, [], map, string_bytes, Some, None, IfSome, IsSomeAnd};
 ghost use Rattle.brake_io.specs.Meanings.{Puts};
-ghost use Rattle.command_runner.specs.Answers.{joined};
+ghost use Rattle.command_runner.specs.Answers.{concatenation};
 ghost use Rattle.command_runner.specs.Delivery.{IsCutShort, Outside};
 ghost use Rattle.command_runner.specs.Ends.{Ends, CountsFault, MayFault};
 ghost use Rattle.brake_cli.specs.declared.command.Command.TheVariants.{Blank};
@@ -55,7 +55,7 @@ pub fn brake<H: Shelf, K: Sink>(
     ensures told { command_of (map string_bytes words.now) ≡ Some Blank →
         IfSome (H.state shelf.old).content (λ content. IsCutShort result
         ⊎ IsSomeAnd (told_blank content.held (map string_bytes words.now)) (λ answer.
-        (result ≡ answer.status) × Puts (K.state out.old) (K.state out.new) (joined answer.texts))) }
+        (result ≡ answer.status) × Puts (K.state out.old) (K.state out.new) (concatenation answer.texts))) }
 {
     match read_words(words) {
         Some(command) => run(alloc, &command, words, shelf, out),

@@ -26,8 +26,8 @@ abbrev pub answer_data : Answer → AnswerData
 answer_data a = record { stored = map stored_data a.stored.items; status = a.status; texts = map vec_items a.texts.items }
 
 -- the whole text of an answer
-abbrev pub joined : List (List ℕ) → List ℕ
-joined texts = flat_map (λ (text : List ℕ). text) texts
+abbrev pub concatenation : List (List ℕ) → List ℕ
+concatenation texts = flat_map (λ (text : List ℕ). text) texts
 
 -- an answer that stores nothing and puts one text
 abbrev pub one_text : Status → List ℕ → AnswerData

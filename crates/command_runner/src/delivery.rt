@@ -3,7 +3,7 @@ ghost use Rattle.std.specs.Prelude.{◌≡◌, ◌⊎◌, ◌≤◌, map, IsErrO
 ghost use Rattle.std.specs.Vec.{vec_items};
 ghost use Rattle.brake_io.specs.Rose.{Rose};
 ghost use Rattle.brake_io.specs.Meanings.{NoCountFalls, Puts, PutsPart};
-ghost use Rattle.command_runner.specs.Answers.{stored_data, answer_data, joined};
+ghost use Rattle.command_runner.specs.Answers.{stored_data, answer_data, concatenation};
 ghost use Rattle.command_runner.specs.Fetching.{HasDueCall};
 ghost use Rattle.command_runner.specs.Delivery.{IsCutShort, Outside, AreStored, AreStoredUpTo, Delivers};
 
@@ -33,9 +33,9 @@ fn store_all<H: Shelf>(stored: &[StoredText], shelf: &mut H) -> Result<(), Store
 
 /// Puts the texts in order, up to the first that can't be put.
 fn put_all<K: Sink>(texts: &[Vec<u8>], out: &mut K) -> Result<(), PutFault>
-    ensures ok { OnOk result (Puts (K.state out.old) (K.state out.new) (joined (map vec_items texts.now))) }
+    ensures ok { OnOk result (Puts (K.state out.old) (K.state out.new) (concatenation (map vec_items texts.now))) }
     ensures err { OnErr result
-        (PutsPart (K.state out.old) (K.state out.new) (joined (map vec_items texts.now))) }
+        (PutsPart (K.state out.old) (K.state out.new) (concatenation (map vec_items texts.now))) }
     ensures faults { OnOk result ((K.state out.new).faults ≡ (K.state out.old).faults) }
     ensures failed { IsErrOf result PutFault.Failed →
         Rose (K.state out.old).faults (K.state out.new).faults }

@@ -3,7 +3,7 @@ use Rattle.std.specs.Vec.{vec_items}
 use Rattle.std.proofs.KnownBytes.{Appends-nil}
 use Rattle.std.proofs.lemmas.List.{take_all}
 use Rattle.brake_io.specs.Meanings.{PutsPart}
-use Rattle.command_runner.specs.Answers.{joined}
+use Rattle.command_runner.specs.Answers.{concatenation}
 use Rattle.command_runner.proofs.Putting.{put_more, put_up_to}
 use Rattle.command_runner.proofs.delivery.put_all.Goals as goal
 
@@ -22,7 +22,7 @@ loop-text-preserved g c =
 pub returns-in_err-put-clause-err : goal.returns-in_err-put-clause-err
 returns-in_err-put-clause-err g c =
     let so_far = c.loop-text.invariant in
-    let part : PutsPart (g.K.Sink.state c.args.out.now) (g.K.Sink.state c.put.new.self) (joined (map vec_items c.args.texts.now)) =
+    let part : PutsPart (g.K.Sink.state c.args.out.now) (g.K.Sink.state c.put.new.self) (concatenation (map vec_items c.args.texts.now)) =
     put_up_to c.args.texts.now c.loop-text.text-index c.text-item.result c.as_slice.result.now (g.K.Sink.state c.args.out.now) (g.K.Sink.state c.loop-text.out) (g.K.Sink.state c.put.new.self)
     c.loop-text-test.true c.text-item.is c.as_slice.ensures.value so_far.put c.in_err-put.ensures.err in
     search (rules, part)
