@@ -24,7 +24,8 @@ use Rattle.unfolder.specs.Cores.{joint_of, z_axis, side_point, if_bent, core, li
 use Rattle.unfolder.specs.Blank.{BlankData, blank_of_part, flat_step}
 use Rattle.unfolder.specs.Design.{fold_sign, design_step, thick}
 use Rattle.unfolder.proofs.HingeLaws.{in_frame}
-use Rattle.unfolder.proofs.FoldLaws.{side_level, design_point, core_is_wide, core_is_long}
+use Rattle.unfolder.proofs.FlatMaps.{side_level}
+use Rattle.unfolder.proofs.FoldLaws.{design_point, core_is_wide, core_is_long}
 use Rattle.unfolder.proofs.PlaceLaws.{AreCores, place-bend}
 use Rattle.unfolder.proofs.Unfolded.{lines_of_blank}
 use Rattle.unfolder.proofs.ChainLemmas.{joint_of_part}

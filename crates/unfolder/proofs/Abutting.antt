@@ -23,7 +23,8 @@ use Rattle.unfolder.specs.Edges.IsOnEdge.{left, right, lower, upper}
 use Rattle.unfolder.specs.Fold.{printed_line}
 use Rattle.unfolder.proofs.ChainLemmas.{joint_of_part, to_root-bend}
 use Rattle.unfolder.proofs.HingeLaws.{in_frame}
-use Rattle.unfolder.proofs.FoldLaws.{flat_is_flat, side_level, side_point_is, flat_point, core_is_wide, core_is_long}
+use Rattle.unfolder.proofs.FlatMaps.{side_level, flat_is_flat}
+use Rattle.unfolder.proofs.FoldLaws.{side_point_is, flat_point, core_is_wide, core_is_long}
 use Rattle.unfolder.proofs.PlaceLaws.{AreCores, printed_line_is}
 use Rattle.unfolder.proofs.Edges.{edge_image}
 

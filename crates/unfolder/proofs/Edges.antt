@@ -13,7 +13,7 @@ use Rattle.unfolder.specs.Blank.{flat_image, line_image}
 use Rattle.unfolder.specs.Edges.{AreBetween, IsOnEdge}
 use Rattle.unfolder.specs.Edges.IsOnEdge.{left, right, lower, upper}
 use Rattle.unfolder.proofs.Quarters.{by_four, mapped_0, mapped_1, mapped_2, mapped_3}
-use Rattle.unfolder.proofs.FoldLaws.{IsFlatMap}
+use Rattle.unfolder.proofs.FlatMaps.{IsFlatMap}
 
 -- the rectangle through two corners, and a line with other ends
 abbrev through : V3 → V3 → FlatRect

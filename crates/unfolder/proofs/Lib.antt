@@ -9,6 +9,7 @@ pub mod Finding
 pub mod Extents
 pub mod Layouts
 pub mod HingeLaws
+pub mod FlatMaps
 pub mod FoldLaws
 pub mod PlaceLaws
 pub mod Unfolded
