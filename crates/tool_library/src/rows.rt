@@ -1,9 +1,10 @@
 //! The table of each kind of row of a tools file.
-ghost use Rattle.std.specs.Prelude.{◌≡◌, IfOk};
+ghost use Rattle.std.specs.Prelude.{◌≡◌, IfOk, IfSome, codes};
 ghost use Rattle.toml.specs.View.{table_view};
+ghost use Rattle.toml_fields.specs.Fields.{integer_at};
 ghost use Rattle.toml_fields.specs.Results.{Gives};
 ghost use Rattle.allowance.specs.AllowTable.{RowData, row_data, IsAllowRow, IsAllowFactor};
-ghost use Rattle.tool_library.specs.Tools.{PunchData, DieData, LoadData, punch_data, die_data, load_data, IsPunch, IsDie, IsLoad};
+ghost use Rattle.tool_library.specs.Tools.{PunchData, DieData, LoadData, punch_data, die_data, load_data, IsHeight, IsPunch, IsDie, IsLoad};
 ghost use Rattle.tool_library.specs.ToolsFile.{factor_of, allow_row_of, punch_of, die_of, load_row_of};
 
 use crate::bounds::{
@@ -64,6 +65,14 @@ fn allow_row_of(number: u16, table: &Table) -> Result<AllowRow, ToolFault>
     })
 }
 
+/// The height of a tool.
+fn height_at(table: &Table) -> Option<i64>
+    ensures value { result ≡ integer_at LEAST_HEIGHT GREATEST_HEIGHT (codes "height") (table_view table.now) }
+    ensures fit { IfSome result IsHeight }
+{
+    integer_at(table, "height", LEAST_HEIGHT, GREATEST_HEIGHT)
+}
+
 /// The punch of a table.
 #[tactic(auto, using(crate::proofs::Sizes::reading), unfolding(crate::specs::ToolsFile::punch_of))]
 fn punch_of(number: u16, table: &Table) -> Result<Punch, ToolFault>
@@ -71,9 +80,7 @@ fn punch_of(number: u16, table: &Table) -> Result<Punch, ToolFault>
     ensures fit { IfOk result (λ punch. IsPunch (punch_data punch)) }
 {
     let name = name_at(table, "name").ok_or(bad_field(number, 9))?;
-    let height = integer_at(table, "height", LEAST_HEIGHT, GREATEST_HEIGHT).ok_or(bad_field(
-        number, 10,
-    ))?;
+    let height = height_at(table).ok_or(bad_field(number, 10))?;
     let nose = integer_at(table, "nose", 0, height).ok_or(bad_field(number, 11))?;
     let body = rows_at(table, "body", 4).ok_or(bad_field(number, 12))?;
     let sections = sections_at(table, "sections").ok_or(bad_field(number, 13))?;
@@ -108,9 +115,7 @@ fn die_of(number: u16, table: &Table) -> Result<Die, ToolFault>
     ensures fit { IfOk result (λ die. IsDie (die_data die)) }
 {
     let name = name_at(table, "name").ok_or(bad_field(number, 14))?;
-    let height = integer_at(table, "height", LEAST_HEIGHT, GREATEST_HEIGHT).ok_or(bad_field(
-        number, 15,
-    ))?;
+    let height = height_at(table).ok_or(bad_field(number, 15))?;
     let v = opening_at(table, "v").ok_or(bad_field(number, 16))?;
     let least_flange = integer_at(table, "least_flange", 0, GREATEST_FLANGE).ok_or(bad_field(
         number, 17,
