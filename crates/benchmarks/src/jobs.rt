@@ -3,12 +3,10 @@ ghost use Rattle.std.specs.Prelude.{◌<◌, ◌≤◌, length};
 
 use crate::timing::nanoseconds;
 use anyhow::anyhow;
-use arrayvec::ArrayVec;
 use brake_base::Mask;
-use job_setup::{Job, Setup, Stage, group, meets_at};
+use job_setup::{Job, Setup, group, meets_at};
 use part_gen::made_job;
 use std::time::Instant;
-use tool_library::{Die, Punch};
 
 /// How many jobs are made.
 const JOBS: u32 = 1_000;
@@ -104,7 +102,7 @@ fn meetings_at(job: &Job, bend: u8) -> u32
 
 /// Times a copy of the setup, and a move of it out of a list and back.
 fn time_setup(rt: &HostRuntime, setup: &Setup) -> anyhow::Result<()> {
-    let mut setups = vec![in rt.alloc(); copied(setup)]?;
+    let mut setups = vec![in rt.alloc(); setup.copy()]?;
     let start = Instant::now(rt)?;
     let copies = sum_of_copies(setup);
     let middle = Instant::now(rt)?;
@@ -122,7 +120,7 @@ fn time_setup(rt: &HostRuntime, setup: &Setup) -> anyhow::Result<()> {
 fn sum_of_copies(setup: &Setup) -> i64 {
     let mut sum = 0i64;
     for _ in 0..COPIES {
-        sum = sum.wrapping_add(weight(&copied(setup)));
+        sum = sum.wrapping_add(weight(&setup.copy()));
     }
     sum
 }
@@ -144,79 +142,4 @@ fn sum_of_moves(setups: &mut Vec<Setup>) -> anyhow::Result<i64> {
         setups.push(setup)?;
     }
     Ok(sum)
-}
-
-/// A copy of the setup, item by item.
-fn copied(setup: &Setup) -> Setup {
-    let mut frames = ArrayVec::new();
-    let _ = frames.try_extend_from_slice(setup.frames.as_slice());
-    let mut upper = ArrayVec::new();
-    let _ = upper.try_extend_from_slice(setup.upper.as_slice());
-    let mut lower = ArrayVec::new();
-    let _ = lower.try_extend_from_slice(setup.lower.as_slice());
-    Setup {
-        bed: setup.bed,
-        frames,
-        upper,
-        lower,
-        uncovered: setup.uncovered,
-        gauge: setup.gauge,
-        cost: setup.cost,
-        stages: copied_stages(setup.stages.as_slice()),
-        gang: setup.gang,
-        force: setup.force,
-    }
-}
-
-/// Copies of the stages.
-fn copied_stages(stages: &[Stage]) -> ArrayVec<Stage, 6> {
-    let mut copies = ArrayVec::new();
-    for stage in stages {
-        let _ = copies.try_push(copied_stage(stage));
-    }
-    copies
-}
-
-/// A copy of the stage.
-fn copied_stage(stage: &Stage) -> Stage {
-    let mut pieces = ArrayVec::new();
-    let _ = pieces.try_extend_from_slice(stage.pieces.as_slice());
-    Stage {
-        punch: copied_punch(&stage.punch),
-        die: copied_die(&stage.die),
-        x0: stage.x0,
-        x1: stage.x1,
-        pieces,
-        load: stage.load,
-        limit: stage.limit,
-    }
-}
-
-/// A copy of a punch without sections.
-fn copied_punch(punch: &Punch) -> Punch {
-    let mut body = ArrayVec::new();
-    let _ = body.try_extend_from_slice(punch.body.as_slice());
-    Punch {
-        name: punch.name,
-        height: punch.height,
-        nose: punch.nose,
-        body,
-        sections: ArrayVec::new(),
-        limit: punch.limit,
-    }
-}
-
-/// A copy of a die without sections.
-fn copied_die(die: &Die) -> Die {
-    let mut body = ArrayVec::new();
-    let _ = body.try_extend_from_slice(die.body.as_slice());
-    Die {
-        name: die.name,
-        height: die.height,
-        v: die.v,
-        least_flange: die.least_flange,
-        body,
-        sections: ArrayVec::new(),
-        limit: die.limit,
-    }
 }

@@ -51,7 +51,7 @@ impl BendState {
         ensures mask { result.mask ≡ no_bends }
         ensures folds { result.folds ≡ [] }
     {
-        let shape = job.shape().copied();
+        let shape = job.shape().copy();
         let mask = Mask::empty();
         let places = place(&shape, mask);
         BendState {

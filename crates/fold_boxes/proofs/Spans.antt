@@ -16,33 +16,33 @@ use Rattle.unfolder.specs.Extent.{least, greatest}
 use Rattle.unfolder.specs.Fold.{dot, minus}
 use Rattle.fold_boxes.specs.Shapes.{ShapeData}
 use Rattle.fold_boxes.specs.Groups.{line_from, line_to}
-use Rattle.fold_boxes.specs.Spans.{joined, covered}
+use Rattle.fold_boxes.specs.Spans.{enclosing_range, range_of_lines}
 use Rattle.fold_boxes.proofs.Picked.{filter_more}
 
 -- a fold over a list with one item more
 fold_more : (h : ℤ → ℤ → ℤ) (f : ℕ → ℤ) (a : ℤ) (bs : List ℕ) (b : ℕ) → fold h a (map f (bs ++ b ∷ [])) ≡ h (fold h a (map f bs)) (f b)
 fold_more h f a bs b = ap (fold h a) (map-append f bs (b ∷ [])) ∙ fold-append h a (map f bs) (f b ∷ [])
 
-covered_more : (shape : ShapeData) (bs : List ℕ) (b : ℕ) → covered shape (bs ++ b ∷ []) ≡ Some (joined (covered shape bs) (line_from shape b, line_to shape b))
-covered_more shape [] b = refl
-covered_more shape (c ∷ cs) b = λ i. Some (fold_more int_min (line_from shape) (line_from shape c) cs b i, fold_more int_max (line_to shape) (line_to shape c) cs b i)
+range_of_more_lines : (shape : ShapeData) (bs : List ℕ) (b : ℕ) → range_of_lines shape (bs ++ b ∷ []) ≡ Some (enclosing_range (range_of_lines shape bs) (line_from shape b, line_to shape b))
+range_of_more_lines shape [] b = refl
+range_of_more_lines shape (c ∷ cs) b = λ i. Some (fold_more int_min (line_from shape) (line_from shape c) cs b i, fold_more int_max (line_to shape) (line_to shape c) cs b i)
 
 -- the bends of a set up to one more
 pub cover_next : (shape : ShapeData) (set : ℕ → Bool) (b : ℕ) → 0 < b → set b ≡ true
-    → covered shape (filter set (range_with_len 1 (b + 1 - 1))) ≡ Some (joined (covered shape (filter set (range_with_len 1 (b - 1)))) (line_from shape b, line_to shape b))
+    → range_of_lines shape (filter set (range_with_len 1 (b + 1 - 1))) ≡ Some (enclosing_range (range_of_lines shape (filter set (range_with_len 1 (b - 1)))) (line_from shape b, line_to shape b))
 cover_next shape set b some in_set =
     let same : b + 1 - 1 ≡ (b - 1) + 1 = omega arith in
     let more = filter_more set 1 (b - 1) b (omega arith) ∙ ap (λ t. filter set (range_with_len 1 (b - 1)) ++ cond t (b ∷ []) []) in_set in
-    ap (λ n. covered shape (filter set (range_with_len 1 n))) same ∙ ap (covered shape) more ∙ covered_more shape (filter set (range_with_len 1 (b - 1))) b
+    ap (λ n. range_of_lines shape (filter set (range_with_len 1 n))) same ∙ ap (range_of_lines shape) more ∙ range_of_more_lines shape (filter set (range_with_len 1 (b - 1))) b
 
 pub skip_next : (shape : ShapeData) (set : ℕ → Bool) (b : ℕ) → 0 < b → set b ≡ false
-    → covered shape (filter set (range_with_len 1 (b + 1 - 1))) ≡ covered shape (filter set (range_with_len 1 (b - 1)))
+    → range_of_lines shape (filter set (range_with_len 1 (b + 1 - 1))) ≡ range_of_lines shape (filter set (range_with_len 1 (b - 1)))
 skip_next shape set b some not_in =
     let same : b + 1 - 1 ≡ (b - 1) + 1 = omega arith in
     let more = filter_more set 1 (b - 1) b (omega arith) ∙ ap (λ t. filter set (range_with_len 1 (b - 1)) ++ cond t (b ∷ []) []) not_in in
-    ap (λ n. covered shape (filter set (range_with_len 1 n))) same ∙ ap (covered shape) more ∙ ap (covered shape) (append-nil (filter set (range_with_len 1 (b - 1))))
+    ap (λ n. range_of_lines shape (filter set (range_with_len 1 n))) same ∙ ap (range_of_lines shape) more ∙ ap (range_of_lines shape) (append-nil (filter set (range_with_len 1 (b - 1))))
 
-pub span_is : (shape : ShapeData) (bs : List ℕ) → unwrap_or (covered shape bs) (pos 0, pos 0) ≡ (least (map (line_from shape) bs), greatest (map (line_to shape) bs))
+pub span_is : (shape : ShapeData) (bs : List ℕ) → unwrap_or (range_of_lines shape bs) (pos 0, pos 0) ≡ (least (map (line_from shape) bs), greatest (map (line_to shape) bs))
 span_is shape [] = refl
 span_is shape (b ∷ bs) = refl
 

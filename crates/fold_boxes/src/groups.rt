@@ -2,7 +2,7 @@
 ghost use Rattle.std.specs.Prelude.{◌≡◌, ◌↔◌, ℕ, ◌<◌, length, IfSome, IsTrue};
 ghost use Rattle.brake_base.specs.Masks.{has, IsLeast};
 ghost use Rattle.fold_boxes.specs.Groups.{is_mate, same_joint, line_from, line_to, span};
-ghost use Rattle.fold_boxes.specs.Spans.{joined, IsNearRange};
+ghost use Rattle.fold_boxes.specs.Spans.{enclosing_range, IsNearRange};
 ghost use Rattle.fold_boxes.specs.Pose.{IsGroup};
 
 use crate::shape::Shape;
@@ -69,7 +69,7 @@ pub fn span(shape: &Shape, group: Mask) -> (i64, i64)
     let mut range = None;
     for bend in 1..shape.faces() {
         if group.contains(bend) {
-            range = Some(joined(range, line_range(shape, bend)));
+            range = Some(enclosing_range(range, line_range(shape, bend)));
         }
     }
     range.unwrap_or((0, 0))
@@ -89,8 +89,8 @@ fn line_range(shape: &Shape, bend: u8) -> (i64, i64)
 }
 
 /// The least range that holds both; the second alone, where there is no first.
-fn joined(first: Option<(i64, i64)>, second: (i64, i64)) -> (i64, i64)
-    ensures value { result ≡ joined first second }
+fn enclosing_range(first: Option<(i64, i64)>, second: (i64, i64)) -> (i64, i64)
+    ensures value { result ≡ enclosing_range first second }
     ensures near { IfSome first IsNearRange → IsNearRange second → IsNearRange result }
 {
     match first {

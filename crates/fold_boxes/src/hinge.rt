@@ -2,7 +2,7 @@
 ghost use Rattle.std.specs.Prelude.{◌≡◌, ◌<◌, ◌≤ℤ◌, ◌+ℤ◌, ◌*ℤ◌, pos, neg_ℤ, length, if◌then◌else◌};
 ghost use Rattle.brake_base.specs.Vectors.{IsWithin, vector, plus, times};
 ghost use Rattle.brake_base.specs.Turns.{turn_of, map_of};
-ghost use Rattle.brake_base.specs.Boxes.{IsBoxWithin, box_of};
+ghost use Rattle.brake_base.specs.Boxes.{IsBoxWithin};
 ghost use Rattle.part_file.specs.Part.{IsPart, IsSize, part_data, face_data, half_thickness, outward};
 ghost use Rattle.unfolder.specs.Near.{IsWithin as IsNear, IsLineWithin};
 ghost use Rattle.unfolder.specs.Cores.{parent_line, side_point};
@@ -10,7 +10,7 @@ ghost use Rattle.unfolder.specs.Blank.{side_matrix, flat_step};
 ghost use Rattle.unfolder.specs.Design.{design_step, fold_sign};
 ghost use Rattle.fold_boxes.specs.Hinges.{folded_matrix, column_over, IsHingeOf};
 
-use brake_base::{Box3, Place, Turn, V3};
+use brake_base::{Box3, Place, Turn, V3, box_of};
 use part_file::{Dir, Part, Side};
 use unfolder::BendLine;
 use unfolder::cores::{face_of, joint_of, side_point};
@@ -154,17 +154,17 @@ fn corner(side: Side, line: &BendLine, q: i64, tau: i64) -> Box3
         y: line.from.1,
         z: along_normal(line.dir, -tau),
     };
-    let (x, y) = beyond(side, line.to, q);
+    let (x, y) = point_beyond(side, line.to, q);
     let far_edge = V3 {
         x,
         y,
         z: along_normal(line.dir, q - tau),
     };
-    between(&near_edge, &far_edge)
+    box_of(&near_edge, &far_edge)
 }
 
 /// The point of the parent's plane that lies so far beyond another, out of a side.
-fn beyond(side: Side, point: (i64, i64), distance: i64) -> (i64, i64)
+fn point_beyond(side: Side, point: (i64, i64), distance: i64) -> (i64, i64)
     requires low { pos 0 ≤ℤ distance }
     requires high { distance ≤ℤ pos 100000 }
     requires near_x { IsNear 21000000 point.0 }
@@ -178,24 +178,6 @@ fn beyond(side: Side, point: (i64, i64), distance: i64) -> (i64, i64)
         Side::E => (point.0 + distance, point.1),
         Side::S => (point.0, point.1 - distance),
         Side::W => (point.0 - distance, point.1),
-    }
-}
-
-/// The least box that holds both points.
-fn between(u: &V3, v: &V3) -> Box3
-    ensures { result ≡ box_of u.now v.now }
-{
-    Box3 {
-        lo: V3 {
-            x: u.x.min(v.x),
-            y: u.y.min(v.y),
-            z: u.z.min(v.z),
-        },
-        hi: V3 {
-            x: u.x.max(v.x),
-            y: u.y.max(v.y),
-            z: u.z.max(v.z),
-        },
     }
 }
 

@@ -6,7 +6,7 @@ ghost use Rattle.fold_boxes.specs.Folded.{boxes_of, face_box, corner_box, IsNear
 ghost use Rattle.fold_boxes.specs.Corners.{CornersTouch};
 ghost use Rattle.fold_boxes.specs.Places.{ArePlaces};
 
-use crate::places::placed;
+use crate::places::place_faces;
 use crate::shape::Shape;
 use arrayvec::ArrayVec;
 use brake_base::{Box3, Mask, Place};
@@ -28,7 +28,7 @@ pub fn boxes(shape: &Shape, mask: Mask) -> ArrayVec<PartBox, 25>
     // The corner of each folded bend touches both cores that the bend joins.
     ensures corners { CornersTouch shape.now mask }
 {
-    let places = placed(shape, mask);
+    let places = place_faces(shape, mask);
     boxes_at(shape, mask, places.as_slice())
 }
 

@@ -21,11 +21,11 @@ pub fn place(shape: &Shape, mask: Mask) -> ArrayVec<Place, 13>
     // All coordinates lie within 1,000,000,000 micrometres of 0.
     ensures near { All (λ place. IsWithin 1000000000 place.at) result.items }
 {
-    placed(shape, mask)
+    place_faces(shape, mask)
 }
 
 /// The places of all faces, by their numbers.
-pub(crate) fn placed(shape: &Shape, mask: Mask) -> ArrayVec<Place, 13>
+pub(crate) fn place_faces(shape: &Shape, mask: Mask) -> ArrayVec<Place, 13>
     ensures each { ArePlaces shape.now mask result.items }
     ensures turns { All (λ place. place.turn < 24) result.items }
     ensures rules { IsShape shape.now }

@@ -12,7 +12,7 @@ ghost use Rattle.fold_boxes.specs.Posing.{IsNearShift};
 
 use crate::groups::span;
 use crate::hinge::{half_thickness, side_turn};
-use crate::places::placed;
+use crate::places::place_faces;
 use crate::shape::Shape;
 use brake_base::{Back, Mask, Place, Turn, V3};
 use part_file::{Dir, Joint};
@@ -26,7 +26,7 @@ pub fn attitude(shape: &Shape, mask: Mask, bend: u8, back: Back) -> Turn
     ensures turn { turn_of result ≡ attitude_turn shape.now mask bend back }
     ensures value { result ≡ attitude_of shape.now mask bend back }
 {
-    let places = placed(shape, mask);
+    let places = place_faces(shape, mask);
     let parent = &places.as_slice()[usize::from(shape.hinge(bend).parent)];
     pose_turn(&joint_of(shape.part(), bend), back, parent.turn)
 }

@@ -11,7 +11,7 @@ ghost use Rattle.fold_boxes.specs.Posing.{moved_box, IsNearShift, IsNearPoseBox}
 
 use crate::halves::{faces_beyond, half_of};
 use crate::part_boxes::{PartBox, boxes_at};
-use crate::places::{onto, placed};
+use crate::places::{onto, place_faces};
 use crate::pose_map::pose_map;
 use crate::posed_part::{Pose, PoseBox};
 use crate::shape::Shape;
@@ -33,7 +33,7 @@ pub fn pose(shape: &Shape, mask: Mask, group: Mask, back: Back, x0: i64, x1: i64
 {
     pose_from(
         shape,
-        placed(shape, mask).as_slice(),
+        place_faces(shape, mask).as_slice(),
         mask,
         group,
         back,

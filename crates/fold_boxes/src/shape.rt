@@ -49,15 +49,15 @@ impl Shape {
         ensures { result ≡ record { part = part_data part.now; q = q } }
     {
         Shape {
-            part: copied(part),
+            part: part.copy(),
             q,
             cores: cores(part, q),
             hinges: hinges(part, q),
         }
     }
 
-    /// A copy of the shape.
-    pub fn copied(&self) -> Shape
+    /// A copy of the shape. It takes no memory.
+    pub fn copy(&self) -> Shape
         ensures { result ≡ self.now }
     {
         let mut cores = ArrayVec::new();
@@ -65,7 +65,7 @@ impl Shape {
         let mut hinges = ArrayVec::new();
         let _ = hinges.try_extend_from_slice(self.hinges.as_slice());
         Shape {
-            part: copied(&self.part),
+            part: self.part.copy(),
             q: self.q,
             cores,
             hinges,
@@ -149,20 +149,6 @@ impl Shape {
                 z: tau,
             },
         }
-    }
-}
-
-/// A copy of the part.
-fn copied(part: &Part) -> Part
-    ensures { part_data result ≡ part_data part.now }
-{
-    let mut faces = ArrayVec::new();
-    let _ = faces.try_extend_from_slice(part.faces.as_slice());
-    Part {
-        material: part.material,
-        thickness: part.thickness,
-        radius: part.radius,
-        faces,
     }
 }
 

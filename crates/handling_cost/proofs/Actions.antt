@@ -8,11 +8,11 @@ use Rattle.brake_base.specs.declared.stroke.Action.{Action}
 use Rattle.brake_base.specs.Masks.{has}
 use Rattle.brake_base.proofs.Masks.{has_none}
 use Rattle.brake_base.proofs.MaskNumbers.{has_mask_of, has_none_above}
-use Rattle.job_setup.specs.Setup.{JobData}
+use Rattle.job_setup.specs.Setup.{JobData, bend_count}
 use Rattle.job_setup.specs.ValidJob.{IsJob}
-use Rattle.job_setup.specs.StrokeGroup.{in_group, group_of}
+use Rattle.job_setup.specs.StrokeGroup.{in_group, group_of, is_lead}
 use Rattle.job_setup.proofs.GroupMasks.{has_group_of, group_of_fits}
-use Rattle.handling_cost.specs.StepCost.{bend_count, is_lead, IsActionAt, IsFull, left, key_after}
+use Rattle.handling_cost.specs.StepCost.{IsActionAt, IsFull, left, key_after}
 use Rattle.handling_cost.specs.Bound.{leads_left}
 use Rattle.handling_cost.proofs.Counts.{one_more, fewer, none_pass, all_of_range, range_from_all, at_most_all}
 use Rattle.handling_cost.proofs.Mates.{grouped_back, grouped_flat, grouped_shared, grouped_range, grouped_self, regrouped}

@@ -7,12 +7,12 @@ use Rattle.brake_base.specs.declared.mask.Mask.{Mask}
 use Rattle.brake_base.specs.declared.stroke.Key.{Key}
 use Rattle.brake_base.specs.declared.stroke.Step.{Step}
 use Rattle.brake_base.specs.Masks.{has}
-use Rattle.job_setup.specs.Setup.{JobData}
+use Rattle.job_setup.specs.Setup.{JobData, bend_count, stage_count}
 use Rattle.job_setup.specs.ValidJob.{IsJob}
-use Rattle.job_setup.specs.StrokeGroup.{in_group}
+use Rattle.job_setup.specs.StrokeGroup.{in_group, is_lead}
 use Rattle.job_setup.specs.StageOf.{stage_of}
 use Rattle.job_setup.specs.Reasons.{meets}
-use Rattle.handling_cost.specs.StepCost.{bend_count, stage_count, is_lead, IsFull, key_after, distance, stage_cost, cost_to, cost_of}
+use Rattle.handling_cost.specs.StepCost.{IsFull, key_after, distance, stage_cost, cost_to, cost_of}
 use Rattle.handling_cost.specs.Plan.{IsRest, total}
 use Rattle.handling_cost.specs.Bound.{leads_left, meeting_stages, nearest, farthest, bound_of}
 use Rattle.handling_cost.proofs.Counts.{with_greatest}

@@ -20,11 +20,11 @@ use Rattle.unfolder.specs.Blank.{pairs_below}
 use Rattle.fold_boxes.specs.Shapes.{ShapeData}
 use Rattle.fold_boxes.specs.Pose.{attitude_of, attitude_turn, same_turn, turn_number}
 use Rattle.job_setup.specs.declared.fault.JobFault.TheVariants.{UnequalHeight, OffBed, NoStage}
-use Rattle.job_setup.specs.Setup.{StageData, JobData, shape_of}
+use Rattle.job_setup.specs.Setup.{StageData, JobData, shape_of, bend_count, stage_count}
 use Rattle.job_setup.specs.Places.{differs_from_first, is_overlap_of, is_off_bed, refuse_pair, places_fit}
 use Rattle.job_setup.specs.ValidJob.{IsJob}
 use Rattle.job_setup.specs.StrokeGroup.{in_group, group_of}
-use Rattle.handling_cost.specs.StepCost.{bend_count, stage_count, IsKeyOf, IsActionAt, IsFull, attitude_at, key_after}
+use Rattle.handling_cost.specs.StepCost.{IsKeyOf, IsActionAt, IsFull, attitude_at, key_after}
 use Rattle.handling_cost.specs.Plan.{start}
 use Rattle.handling_cost.proofs.Actions.{few_bends, has_zero, neither, group_bends}
 use Rattle.handling_cost.proofs.Mates.{grouped_range}
@@ -48,7 +48,7 @@ fit_some bed stages fits =
 
 -- a job has a stage, and at most 6
 pub some_stage : (job : JobData) → IsJob job → 1 ≤ stage_count job
-some_stage job is_job = fit_some job.setup.bed job.setup.stages is_job.setup.places
+some_stage job is_job = fit_some job.setup.bed job.setup.stages is_job.setup.stages.places
 
 pub start_ranged : (job : JobData) → 0 < stage_count job → IsKeyOf job start
 start_ranged job some = record { mask = pow_pos (bend_count job); attitude = omega arith; stage = some }

@@ -7,9 +7,9 @@ use Rattle.std.proofs.lemmas.List.{map-append}
 use Rattle.brake_base.specs.declared.mask.Mask.{Mask}
 use Rattle.brake_base.specs.Masks.{has, IsLeast}
 use Rattle.fold_boxes.proofs.Picked.{filter_more}
-use Rattle.job_setup.specs.Setup.{JobData}
-use Rattle.job_setup.specs.StrokeGroup.{in_group}
-use Rattle.handling_cost.specs.StepCost.{bend_count, is_lead, distance}
+use Rattle.job_setup.specs.Setup.{JobData, bend_count}
+use Rattle.job_setup.specs.StrokeGroup.{in_group, is_lead}
+use Rattle.handling_cost.specs.StepCost.{distance}
 use Rattle.handling_cost.specs.Bound.{nearest, greatest}
 use Rattle.handling_cost.specs.Nearest.{lesser, nearest_of_some}
 use Rattle.handling_cost.proofs.Mates.{grouped_self}

@@ -11,11 +11,10 @@ use Rattle.brake_base.specs.declared.mask.Mask.{Mask}
 use Rattle.brake_base.specs.declared.reason.Reason.{Reason}
 use Rattle.brake_base.specs.declared.reason.Reason.TheVariants.{Cover, Rest, Frame, Upper, Nose, Lower, SelfHit, NoGauge, Load}
 use Rattle.brake_base.specs.Masks.{has}
-use Rattle.job_setup.specs.Setup.{StageData, JobData}
+use Rattle.job_setup.specs.Setup.{StageData, JobData, bend_count}
 use Rattle.job_setup.specs.StrokeGroup.{in_group, group_of}
 use Rattle.job_setup.specs.StageOf.{stage_of}
 use Rattle.job_setup.specs.Reasons.{is_uncovered, lacks_rest, meets, side_in}
-use Rattle.handling_cost.specs.StepCost.{bend_count}
 use Rattle.handling_cost.specs.Plan.{IsReasonFor, IsGaugeFor, IsLegal}
 use Rattle.handling_cost.proofs.Actions.{group_bends}
 

@@ -10,8 +10,7 @@ use Rattle.part_file.specs.Part.{same_side}
 use Rattle.unfolder.specs.Cores.{joint_of}
 use Rattle.fold_boxes.specs.Shapes.{ShapeData}
 use Rattle.fold_boxes.specs.Groups.{same_direction, same_joint, is_mate}
-use Rattle.job_setup.specs.Setup.{JobData, shape_of}
-use Rattle.handling_cost.specs.StepCost.{bend_count}
+use Rattle.job_setup.specs.Setup.{JobData, shape_of, bend_count}
 
 side_is : (s t : Side) → same_side s t ≡ true → s ≡ t
 side_is N N e = refl

@@ -5,9 +5,9 @@ use Rattle.std.proofs.lemmas.Bool.Decides.{eqb_tells}
 use Rattle.std.proofs.lemmas.Nat.{mul-add-lt, same_from_place}
 use Rattle.brake_base.specs.declared.stroke.Key.{Key}
 use Rattle.brake_base.specs.declared.stroke.Step.{Step}
-use Rattle.job_setup.specs.Setup.{JobData}
+use Rattle.job_setup.specs.Setup.{JobData, bend_count, stage_count}
 use Rattle.job_setup.specs.ValidJob.{IsJob}
-use Rattle.handling_cost.specs.StepCost.{bend_count, stage_count, IsKeyOf, IsFull}
+use Rattle.handling_cost.specs.StepCost.{IsKeyOf, IsFull}
 use Rattle.handling_cost.specs.Plan.{start}
 use Rattle.handling_cost.specs.Reach.{Leads, IsReached, ReachIsAbove, nodes}
 use Rattle.handling_cost.proofs.Actions.{few_bends, next_is_nonempty}

@@ -10,12 +10,12 @@ use Rattle.brake_base.specs.Masks.{has}
 use Rattle.brake_base.specs.Turns.{Matrix}
 use Rattle.machine_file.specs.declared.machine.Costs.{Costs}
 use Rattle.machine_file.specs.Machine.{IsCosts}
-use Rattle.job_setup.specs.Setup.{JobData}
+use Rattle.job_setup.specs.Setup.{JobData, bend_count, stage_count}
 use Rattle.job_setup.specs.ValidJob.{IsJob}
-use Rattle.job_setup.specs.StrokeGroup.{in_group}
+use Rattle.job_setup.specs.StrokeGroup.{in_group, is_lead}
 use Rattle.job_setup.specs.StageOf.{stage_of}
 use Rattle.job_setup.specs.Reasons.{meets}
-use Rattle.handling_cost.specs.StepCost.{bend_count, stage_count, IsKeyOf, IsActionAt, is_lead, left, key_after, attitude_at, change, change_cost, distance, stage_cost, cost_to, cost_of}
+use Rattle.handling_cost.specs.StepCost.{IsKeyOf, IsActionAt, left, key_after, attitude_at, change, change_cost, distance, stage_cost, cost_to, cost_of}
 use Rattle.handling_cost.specs.Plan.{IsRest, total}
 use Rattle.handling_cost.specs.Bound.{leads_left, meeting_stages, nearest, farthest, bound_of}
 use Rattle.handling_cost.proofs.Counts.{with_greatest}
@@ -60,14 +60,14 @@ module _ (job : JobData) (is_job : IsJob job) where
   unfolding stage_cost
   stage_cost_small mask from to low high =
       pick_small (mask.0 == 0) 0 (job.setup.cost.stage * distance from to) 6000000 (omega arith)
-      (mul-le job.setup.cost.stage (distance from to) 1000000 6 (prices job.setup.cost is_job.setup.cost).stage (omega arith))
+      (mul-le job.setup.cost.stage (distance from to) 1000000 6 (prices job.setup.cost is_job.setup.rules.cost).stage (omega arith))
 
   pub cost_to_small : (key : Key) (attitude stage : ℕ) → key.stage ≤ 6 → stage ≤ 6 → cost_to job key attitude stage ≤ 8000000
   unfolding cost_to
   cost_to_small key attitude stage low high =
-      let turn = change_small job.setup.cost is_job.setup.cost (change key.attitude attitude) in
+      let turn = change_small job.setup.cost is_job.setup.rules.cost (change key.attitude attitude) in
       let way = stage_cost_small key.mask key.stage stage low high in
-      sum3 job.setup.cost.stroke (change_cost job.setup.cost (change key.attitude attitude)) (stage_cost job key.mask key.stage stage) (prices job.setup.cost is_job.setup.cost).stroke turn way
+      sum3 job.setup.cost.stroke (change_cost job.setup.cost (change key.attitude attitude)) (stage_cost job key.mask key.stage stage) (prices job.setup.cost is_job.setup.rules.cost).stroke turn way
     where
       sum3 : (a b c : ℕ) → a ≤ 1000000 → b ≤ 1000000 → c ≤ 6000000 → a + b + c ≤ 8000000
       sum3 a b c p q r = omega arith
@@ -75,7 +75,7 @@ module _ (job : JobData) (is_job : IsJob job) where
   -- no step costs more than this
   pub cost_small : (key : Key) (action : Action) → IsKeyOf job key → IsActionAt job key action → cost_of job key action ≤ 8000000
   cost_small key action in_range at =
-      cost_to_small key (attitude_at job key.mask action) action.stage (omega (arith, in_range.stage, is_job.setup.few_stages)) (omega (arith, at.stage, is_job.setup.few_stages))
+      cost_to_small key (attitude_at job key.mask action) action.stage (omega (arith, in_range.stage, is_job.setup.stages.few_stages)) (omega (arith, at.stage, is_job.setup.stages.few_stages))
 
   -- no rest costs more than this for each bend that is left
   pub total_small : (key : Key) (steps : List Step) → IsKeyOf job key → IsRest job key steps → total job key steps ≤ left job key * 8000000
@@ -93,14 +93,14 @@ module _ (job : JobData) (is_job : IsJob job) where
       let f = λ (b : ℕ). nearest from (meeting_stages job mask b) in
       let near : (b : ℕ) → f b ≤ 6 = λ b.
       let most = nearest_small (λ stage. meets job (in_group job (has mask) b) (stage_of job stage)) from (stage_count job) 0 (stage_count job) within (omega arith) in
-      omega (arith, most, is_job.setup.few_stages) in
+      omega (arith, most, is_job.setup.stages.few_stages) in
       let all = with_greatest (is_lead job mask) f 0 1 6 (omega arith) 1 (bend_count job) (λ b first last lead. let one = near b in omega (arith, one)) in
       omega (arith, all)
 
   pub bound_small : (key : Key) → IsKeyOf job key → bound_of job key ≤ 18000000
   unfolding bound_of
   bound_small key in_range =
-      let strokes = mul-le job.setup.cost.stroke (length (leads_left job key.mask)) 1000000 12 (prices job.setup.cost is_job.setup.cost).stroke (few_leads job is_job key.mask) in
+      let strokes = mul-le job.setup.cost.stroke (length (leads_left job key.mask)) 1000000 12 (prices job.setup.cost is_job.setup.rules.cost).stroke (few_leads job is_job key.mask) in
       let way = pick_small (key.mask.0 == 0) 0 (job.setup.cost.stage * farthest job key.mask key.stage) 6000000 (omega arith)
-      (mul-le job.setup.cost.stage (farthest job key.mask key.stage) 1000000 6 (prices job.setup.cost is_job.setup.cost).stage (farthest_small key.mask key.stage in_range.stage)) in
+      (mul-le job.setup.cost.stage (farthest job key.mask key.stage) 1000000 6 (prices job.setup.cost is_job.setup.rules.cost).stage (farthest_small key.mask key.stage in_range.stage)) in
       omega (arith, strokes, way)

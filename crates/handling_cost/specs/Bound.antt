@@ -6,11 +6,11 @@ use Rattle.brake_base.specs.declared.stroke.Key.{Key}
 use Rattle.brake_base.specs.declared.stroke.Action.{Action}
 use Rattle.brake_base.specs.Masks.{has}
 use Rattle.fold_boxes.specs.Groups.{members}
-use Rattle.job_setup.specs.Setup.{JobData, shape_of}
-use Rattle.job_setup.specs.StrokeGroup.{in_group}
+use Rattle.job_setup.specs.Setup.{JobData, shape_of, stage_count}
+use Rattle.job_setup.specs.StrokeGroup.{in_group, is_lead}
 use Rattle.job_setup.specs.StageOf.{stage_of}
 use Rattle.job_setup.specs.Reasons.{meets}
-use Rattle.handling_cost.specs.StepCost.{stage_count, is_lead, distance, key_after, cost_of}
+use Rattle.handling_cost.specs.StepCost.{distance, key_after, cost_of}
 
 -- the leads left: the bends of the strokes that may come next where the bends of the mask are folded
 abbrev pub leads_left : JobData → Mask → List ℕ

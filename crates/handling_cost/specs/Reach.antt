@@ -2,8 +2,8 @@
 use Rattle.std.specs.Prelude.{◌≡◌, ◌≢◌, ℕ, ◌+◌, ◌-◌, ◌*◌, ◌^◌, ◌<◌, ◌==◌, List, [], ◌∷◌, length, All, AllPairs, if◌then◌else◌}
 use Rattle.brake_base.specs.declared.stroke.Key.{Key}
 use Rattle.brake_base.specs.declared.stroke.Step.{Step}
-use Rattle.job_setup.specs.Setup.{JobData}
-use Rattle.handling_cost.specs.StepCost.{bend_count, stage_count, IsFull, key_after}
+use Rattle.job_setup.specs.Setup.{JobData, bend_count, stage_count}
+use Rattle.handling_cost.specs.StepCost.{IsFull, key_after}
 use Rattle.handling_cost.specs.Plan.{IsLegal, start}
 
 -- legal steps, the last one first, lead from the start to the key

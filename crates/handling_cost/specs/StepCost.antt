@@ -1,35 +1,22 @@
 -- What an action is at a key, what it costs, and where it leads. Costs are in tenths of a second.
-use Rattle.std.specs.Prelude.{◌≡◌, ℕ, ◌+◌, ◌-◌, ◌*◌, ◌^◌, ◌<◌, ◌≤◌, ◌==◌, nat_lt, pos, negsuc, Bool, true, not, ◌&&◌, IsTrue, length, if◌then◌else◌}
+use Rattle.std.specs.Prelude.{◌≡◌, ℕ, ◌+◌, ◌-◌, ◌*◌, ◌^◌, ◌<◌, ◌≤◌, ◌==◌, pos, negsuc, Bool, true, not, IsTrue, length, if◌then◌else◌}
 use Rattle.std.specs.Ordering.{int_eq}
-use Rattle.std.specs.List.{list_all}
 use Rattle.brake_base.specs.declared.mask.Mask.{Mask}
 use Rattle.brake_base.specs.declared.stroke.Key.{Key}
 use Rattle.brake_base.specs.declared.stroke.Action.{Action}
 use Rattle.brake_base.specs.Masks.{has, union}
 use Rattle.brake_base.specs.Turns.{Matrix, turn_of, multiply, transpose}
 use Rattle.machine_file.specs.declared.machine.Costs.{Costs}
-use Rattle.unfolder.specs.Blank.{bend_numbers}
 use Rattle.fold_boxes.specs.Groups.{members}
-use Rattle.job_setup.specs.Setup.{JobData, shape_of}
-use Rattle.job_setup.specs.StrokeGroup.{in_group, group_of}
+use Rattle.job_setup.specs.Setup.{JobData, shape_of, bend_count, stage_count}
+use Rattle.job_setup.specs.StrokeGroup.{group_of, is_lead}
 use Rattle.fold_boxes.specs.Pose.{attitude_of}
-
--- the numbers of bends and of stages
-abbrev pub bend_count : JobData → ℕ
-bend_count job = length job.part.faces - 1
-
-abbrev pub stage_count : JobData → ℕ
-stage_count job = length job.setup.stages
 
 -- the numbers of a key are in range
 pub record IsKeyOf (job : JobData) (key : Key) : Type 0 where
   pub mask : key.mask.0 < 2 ^ bend_count job
   pub attitude : key.attitude < 24
   pub stage : key.stage < stage_count job
-
--- the bend is the lead of a stroke where the bends of the mask are folded: it isn't folded, and no lesser bend is in its group
-unfoldable pub is_lead : JobData → Mask → ℕ → Bool
-is_lead job mask b = not (has mask b) && list_all (λ c. not (nat_lt c b && in_group job (has mask) b c)) (bend_numbers job.part.faces)
 
 -- the bend and the stage of an action are the job's
 pub record IsInRange (job : JobData) (action : Action) : Type 0 where

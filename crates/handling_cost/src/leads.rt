@@ -1,7 +1,8 @@
 //! The bends that may be bent next.
 ghost use Rattle.std.specs.Prelude.{◌≡◌, ◌↔◌, ◌<◌, ◌≤◌, IsTrue, length};
 ghost use Rattle.brake_base.specs.Masks.{IsLeast};
-ghost use Rattle.handling_cost.specs.StepCost.{is_lead, IsKeyOf, IsFull, IsInRange, IsActionAt};
+ghost use Rattle.job_setup.specs.StrokeGroup.{is_lead};
+ghost use Rattle.handling_cost.specs.StepCost.{IsKeyOf, IsFull, IsInRange, IsActionAt};
 
 use brake_base::{Action, Key, Mask};
 use job_setup::{Job, group};

@@ -64,30 +64,30 @@ profile_solid low high stage profile near fit bottom top = record {
 
 -- the first stage of a job
 pub first_is : (j : JobData) → IsJob j → 0 < length j.setup.stages → IsStage (stage_of j 0)
-first_is j fit some = fit.setup.stages 0 no_stage some
+first_is j fit some = fit.setup.stages.each 0 no_stage some
 
 punches_solid : (j : JobData) → IsJob j → All IsSolid (flat_map (λ stage. map (along_stage stage) stage.punch.body) j.setup.stages)
 punches_solid j fit = all_flat_map IsSolid (λ stage. map (along_stage stage) stage.punch.body) j.setup.stages (λ k d within.
     let stage = get_or j.setup.stages k d in
-    let punch = (fit.setup.stages k d within).punch in
+    let punch = (fit.setup.stages.each k d within).punch in
     All-map IsSolid (along_stage stage) stage.punch.body (λ i e inside. profile_solid (pos 0) stage.punch.height stage (get_or stage.punch.body i e) ((setup_near j fit).stages k d within) (punch.lists.each_box i e inside) (omega (arith, ints)) (omega (arith, ints, punch.sizes.height.top))))
 
 dies_solid : (j : JobData) → IsJob j → All IsSolid (flat_map (λ stage. map (along_stage stage) stage.die.body) j.setup.stages)
 dies_solid j fit = all_flat_map IsSolid (λ stage. map (along_stage stage) stage.die.body) j.setup.stages (λ k d within.
     let stage = get_or j.setup.stages k d in
-    let die = (fit.setup.stages k d within).die in
+    let die = (fit.setup.stages.each k d within).die in
     All-map IsSolid (along_stage stage) stage.die.body (λ i e inside. profile_solid (neg_ℤ stage.die.height) (pos 0) stage (get_or stage.die.body i e) ((setup_near j fit).stages k d within) (die.lists.each_box i e inside) (omega (arith, ints, die.sizes.height.top)) (omega (arith, ints))))
 
 pub upper_solid : (j : JobData) → IsJob j → 0 < length j.setup.stages → All IsSolid (upper_boxes j)
 upper_solid j fit some =
     let punch = (first_is j fit some).punch in
     All-append IsSolid (map (raised_box (stage_of j 0).punch.height) j.setup.upper) (flat_map (λ stage. map (along_stage stage) stage.punch.body) j.setup.stages)
-    (All-map IsSolid (raised_box (stage_of j 0).punch.height) j.setup.upper (λ k d within. raised_solid (pos 0) farthest (stage_of j 0).punch.height (get_or j.setup.upper k d) (fit.setup.upper k d within) (omega (arith, ints)) (omega (arith, ints)) (omega (arith, ints, punch.sizes.height.bottom)) punch.sizes.height.top))
+    (All-map IsSolid (raised_box (stage_of j 0).punch.height) j.setup.upper (λ k d within. raised_solid (pos 0) farthest (stage_of j 0).punch.height (get_or j.setup.upper k d) (fit.setup.fixtures.upper k d within) (omega (arith, ints)) (omega (arith, ints)) (omega (arith, ints, punch.sizes.height.bottom)) punch.sizes.height.top))
     (punches_solid j fit)
 
 pub lower_solid : (j : JobData) → IsJob j → 0 < length j.setup.stages → All IsSolid (lower_boxes j)
 lower_solid j fit some =
     let die = (first_is j fit some).die in
     All-append IsSolid (map (raised_box (neg_ℤ (stage_of j 0).die.height)) j.setup.lower) (flat_map (λ stage. map (along_stage stage) stage.die.body) j.setup.stages)
-    (All-map IsSolid (raised_box (neg_ℤ (stage_of j 0).die.height)) j.setup.lower (λ k d within. raised_solid (neg_ℤ farthest) (pos 0) (neg_ℤ (stage_of j 0).die.height) (get_or j.setup.lower k d) (fit.setup.lower k d within) (omega (arith, ints)) (omega (arith, ints)) (omega (arith, ints, die.sizes.height.top)) (omega (arith, ints, die.sizes.height.bottom))))
+    (All-map IsSolid (raised_box (neg_ℤ (stage_of j 0).die.height)) j.setup.lower (λ k d within. raised_solid (neg_ℤ farthest) (pos 0) (neg_ℤ (stage_of j 0).die.height) (get_or j.setup.lower k d) (fit.setup.fixtures.lower k d within) (omega (arith, ints)) (omega (arith, ints)) (omega (arith, ints, die.sizes.height.top)) (omega (arith, ints, die.sizes.height.bottom))))
     (dies_solid j fit)

@@ -7,7 +7,7 @@ use Rattle.tool_library.specs.Tools.{ToolsData}
 use Rattle.machine_file.specs.Machine.{MachineData}
 use Rattle.job_setup.specs.declared.fault.JobFault.{JobFault}
 use Rattle.job_setup.specs.Setup.{StageData}
-use Rattle.job_setup.specs.Stages.{stage_of}
+use Rattle.job_setup.specs.Stages.{stage_of_text}
 use Rattle.job_setup.specs.Places.{places_fit}
 use Rattle.job_setup.specs.Stock.{stock_suffices}
 use Rattle.job_setup.specs.Loads.{loads_fit}
@@ -34,7 +34,7 @@ ends_at_loads part tools machine stages one two = goes _ _ tt one ∙ goes _ _ t
 
 -- the refusals of a part with its half deduction, and its job
 abbrev pub AreStages : PartData → ToolsData → MachineData → Result (List StageData) JobFault → Type 0
-AreStages part tools machine given = each_from (stage_of part tools) 0 machine.stages ≡ given
+AreStages part tools machine given = each_from (stage_of_text part tools) 0 machine.stages ≡ given
 
 pub stops_at_blank : (part : PartData) (q : ℤ) (tools : ToolsData) (machine : MachineData) (e : JobFault) → unfolds part q ≡ Err e → job_with part q tools machine ≡ Err e
 unfolding job_with

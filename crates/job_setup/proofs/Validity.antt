@@ -7,22 +7,21 @@ use Rattle.std.specs.Result.{is_ok}
 use Rattle.std.proofs.lemmas.Bool.{false≢true}
 use Rattle.std.proofs.lemmas.Int.{ints, clamps}
 use Rattle.std.proofs.lemmas.List.Elements.{All-nil, All-cons}
-use Rattle.toml_fields.specs.Results.{each_from}
+use Rattle.toml_fields.specs.Results.{Gives, each_from}
 use Rattle.toml_fields.proofs.Bind.{bind_ok, ok_or_ok, ok_same}
 use Rattle.part_file.specs.Part.{PartData, IsPart, half_thickness}
 use Rattle.unfolder.specs.declared.blank.Blank.{Blank}
 use Rattle.unfolder.specs.declared.blank.UnfoldFault.{UnfoldFault}
-use Rattle.unfolder.specs.Blank.{BlankData, Gives, blank_of_part}
-use Rattle.tool_library.specs.Tools.{PunchData, DieData, LoadData, ToolsData, IsPunch, IsDie, IsLoad, IsTools}
-use Rattle.toml_fields.specs.Ranges.{IsWithin}
+use Rattle.unfolder.specs.Blank.{BlankData, blank_data, blank_of_part}
+use Rattle.tool_library.specs.declared.bounds.TheConstants.{GREATEST_LIMIT}
+use Rattle.tool_library.specs.Tools.{PunchData, DieData, LoadData, ToolsData, IsPunch, IsDie, IsLoad, IsLimit, IsTools}
 use Rattle.machine_file.specs.Machine.{StageTextData, MachineData, IsStageText, IsMachine}
 use Rattle.job_setup.specs.declared.fault.JobFault.TheVariants.{UnknownTool}
 use Rattle.fold_boxes.specs.Shapes.{IsShape}
 use Rattle.job_setup.specs.Setup.{StageData, SetupData, JobData}
 use Rattle.job_setup.specs.Loads.{is_load_for, load_of, stage_load}
-use Rattle.job_setup.specs.Stages.{punch_named, die_named, punch_shape, die_shape, least_limit, stage_with, stage_of}
-use Rattle.job_setup.specs.ValidJob.{IsStage, IsSetup, IsJob}
-use Rattle.job_setup.specs.SetupRules.{HasFixtures, HasRules, HasStages}
+use Rattle.job_setup.specs.Stages.{punch_named, die_named, punch_shape, die_shape, least_limit, stage_with, stage_of_text}
+use Rattle.job_setup.specs.ValidJob.{IsStage, IsStageLoad, IsSetup, IsJob}
 use Rattle.job_setup.specs.Places.{places_fit}
 use Rattle.job_setup.specs.JobOf.{setup_of}
 use Rattle.job_setup.proofs.Lists.{found_has}
@@ -41,19 +40,19 @@ die_is d fit = record {
   lists = record { few_boxes = fit.lists.few_boxes; each_box = fit.lists.each_box; few_sections = omega arith; each_section = λ k d within. absurd (omega arith) };
 }
 
-load_is : (part : PartData) (loads : List LoadData) (v : ℤ) → All IsLoad loads → IsWithin (pos 0) (pos 1000000) (stage_load part loads v)
+load_is : (part : PartData) (loads : List LoadData) (v : ℤ) → All IsLoad loads → IsStageLoad (stage_load part loads v)
 load_is part loads v all = by_found (find (is_load_for part v) loads) refl
   where
-    by_found : (found : Option LoadData) → find (is_load_for part v) loads ≡ found → IsWithin (pos 0) (pos 1000000) (load_of found)
+    by_found : (found : Option LoadData) → find (is_load_for part v) loads ≡ found → IsStageLoad (load_of found)
     by_found None is = record { bottom = omega (arith, ints); top = omega (arith, ints) }
     by_found (Some row) is =
         let fit : IsLoad row = found_has IsLoad (is_load_for part v) loads row all is in
         record { bottom = omega (arith, ints, fit.load.bottom); top = fit.load.top }
 
-limit_is : (a b : ℤ) → pos 0 ≤ℤ a → a ≤ℤ pos 1000000 → pos 0 ≤ℤ b → b ≤ℤ pos 1000000 → IsWithin (pos 0) (pos 1000000) (least_limit a b)
+limit_is : (a b : ℤ) → pos 0 ≤ℤ a → a ≤ℤ GREATEST_LIMIT → pos 0 ≤ℤ b → b ≤ℤ GREATEST_LIMIT → IsLimit (least_limit a b)
 limit_is a b a_low a_high b_low b_high = by_tests (int_eq a (pos 0)) (int_eq b (pos 0))
   where
-    by_tests : (no_a no_b : Bool) → IsWithin (pos 0) (pos 1000000) (if no_a then b else if no_b then a else int_min a b)
+    by_tests : (no_a no_b : Bool) → IsLimit (if no_a then b else if no_b then a else int_min a b)
     by_tests true no_b = record { bottom = b_low; top = b_high }
     by_tests false true = record { bottom = a_low; top = a_high }
     by_tests false false = record { bottom = omega (arith, ints, clamps, a_low, b_low); top = omega (arith, ints, clamps, a_high) }
@@ -76,8 +75,8 @@ stage_is part loads text punch die all fit punch_fit die_fit = record {
 }
 
 -- the stage that a text gives
-one_is : (part : PartData) (tools : ToolsData) → IsTools tools → (number : ℕ) (text : StageTextData) → IsStageText text → (stage : StageData) → stage_of part tools number text ≡ Ok stage → IsStage stage
-unfolding stage_of
+one_is : (part : PartData) (tools : ToolsData) → IsTools tools → (number : ℕ) (text : StageTextData) → IsStageText text → (stage : StageData) → stage_of_text part tools number text ≡ Ok stage → IsStage stage
+unfolding stage_of_text
 one_is part tools fit number text text_fit stage given =
     let punch = bind_ok (ok_or (punch_named tools.punches text.punch) (UnknownTool number)) _ stage given in
     let die = bind_ok (ok_or (die_named tools.dies text.die) (UnknownTool number)) _ stage punch.2 in
@@ -87,12 +86,12 @@ one_is part tools fit number text text_fit stage given =
     subst IsStage same (stage_is part tools.loads text punch.0 die.0 fit.loads text_fit punch_fit die_fit)
 
 -- all stages that a machine's texts give
-pub stages_are : (part : PartData) (tools : ToolsData) → IsTools tools → (number : ℕ) (texts : List StageTextData) → All IsStageText texts → (stages : List StageData) → each_from (stage_of part tools) number texts ≡ Ok stages → All IsStage stages
+pub stages_are : (part : PartData) (tools : ToolsData) → IsTools tools → (number : ℕ) (texts : List StageTextData) → All IsStageText texts → (stages : List StageData) → each_from (stage_of_text part tools) number texts ≡ Ok stages → All IsStage stages
 unfolding each_from
 stages_are part tools fit number [] texts_fit stages given = let same : [] ≡ stages = ok_same _ _ given in subst (All IsStage) same (All-nil IsStage)
 stages_are part tools fit number (text ∷ texts) texts_fit stages given =
-    let one = bind_ok (stage_of part tools number text) _ stages given in
-    let rest = bind_ok (each_from (stage_of part tools) (number + 1) texts) _ stages one.2 in
+    let one = bind_ok (stage_of_text part tools number text) _ stages given in
+    let rest = bind_ok (each_from (stage_of_text part tools) (number + 1) texts) _ stages one.2 in
     let one_fit : IsStage one.0 = one_is part tools fit number text (texts_fit 0 text (omega arith)) one.0 one.1 in
     let rest_fit : All IsStage rest.0 = stages_are part tools fit (number + 1) texts (λ k d within. texts_fit (suc k) d (omega arith)) rest.0 rest.1 in
     let same : one.0 ∷ rest.0 ≡ stages = ok_same _ _ rest.2 in
@@ -107,44 +106,18 @@ job_is part q machine stages part_fit q_low q_high unfolds fit stages_fit few pl
   q_high = q_high;
   unfolds = unfolds;
   setup = record {
-    bed = fit.bed;
-    frames = fit.frames;
-    few_frames = fit.few_frames;
-    upper = fit.upper;
-    few_upper = fit.few_upper;
-    lower = fit.lower;
-    few_lower = fit.few_lower;
-    uncovered = fit.uncovered;
-    gauge = fit.gauge;
-    cost = fit.cost;
-    stages = stages_fit;
-    few_stages = few;
-    places = places;
-    force = fit.force;
+    fixtures = record {
+      frames = fit.frames;
+      few_frames = fit.few_frames;
+      upper = fit.upper;
+      few_upper = fit.few_upper;
+      lower = fit.lower;
+      few_lower = fit.few_lower;
+    };
+    rules = record { bed = fit.bed; gauge = fit.gauge; cost = fit.cost; uncovered = fit.uncovered; force = fit.force };
+    stages = record { each = stages_fit; few_stages = few; places = places };
   };
 }
-
--- a setup from its parts
-pub setup_of_parts : (s : SetupData) → HasFixtures s → HasRules s → HasStages s → IsSetup s
-setup_of_parts s fixtures rules stages = record {
-  bed = rules.bed;
-  frames = fixtures.frames;
-  few_frames = fixtures.few_frames;
-  upper = fixtures.upper;
-  few_upper = fixtures.few_upper;
-  lower = fixtures.lower;
-  few_lower = fixtures.few_lower;
-  uncovered = rules.uncovered;
-  gauge = rules.gauge;
-  cost = rules.cost;
-  stages = stages.stages;
-  few_stages = stages.few_stages;
-  places = stages.places;
-  force = rules.force;
-}
-
-pub stages_of_setup : (s : SetupData) → IsSetup s → HasStages s
-stages_of_setup s fit = record { stages = fit.stages; few_stages = fit.few_stages; places = fit.places }
 
 -- a shape and a setup make a job
 pub job_of_parts : (part : PartData) (q : ℤ) (setup : SetupData) → IsShape (record { part = part; q = q }) → IsSetup setup → IsJob (record { part = part; q = q; setup = setup })
@@ -154,6 +127,6 @@ pub shape_of_job : (job : JobData) → IsJob job → IsShape (record { part = jo
 shape_of_job job fit = record { part = fit.part; q_low = fit.q_low; q_high = fit.q_high; unfolds = fit.unfolds }
 
 -- a part unfolds where its blank is given
-pub unfolds_where : (r : Result Blank UnfoldFault) (defined : Result BlankData UnfoldFault) (ok : Bool) → Gives r defined → ok ≡ is_ok r → (ok ≡ true → IsOk defined) × (IsOk defined → ok ≡ true)
+pub unfolds_where : (r : Result Blank UnfoldFault) (defined : Result BlankData UnfoldFault) (ok : Bool) → Gives blank_data r defined → ok ≡ is_ok r → (ok ≡ true → IsOk defined) × (IsOk defined → ok ≡ true)
 unfolds_where (Ok blank) defined ok given is = (λ _. ap is_ok given, λ _. is)
 unfolds_where (Err fault) defined ok given is = (λ t. absurd (false≢true (sym is ∙ t)), λ fit. absurd (false≢true (sym (ap is_ok given) ∙ fit)))

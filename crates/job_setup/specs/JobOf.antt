@@ -15,7 +15,7 @@ use Rattle.machine_file.specs.MachineFile.{machine_of}
 use Rattle.job_setup.specs.declared.fault.JobFault.{JobFault}
 use Rattle.job_setup.specs.declared.fault.JobFault.TheVariants.{Allow, Unfold}
 use Rattle.job_setup.specs.Setup.{StageData, SetupData, JobData}
-use Rattle.job_setup.specs.Stages.{stage_of}
+use Rattle.job_setup.specs.Stages.{stage_of_text}
 use Rattle.job_setup.specs.Places.{places_fit}
 use Rattle.job_setup.specs.Stock.{stock_suffices}
 use Rattle.job_setup.specs.Loads.{loads_fit}
@@ -55,7 +55,7 @@ stages_fit part tools machine stages = do
 unfoldable pub job_with : PartData → ℤ → ToolsData → MachineData → Result JobData JobFault
 job_with part q tools machine = do
   unfolded ← unfolds part q
-  stages ← each_from (stage_of part tools) 0 machine.stages
+  stages ← each_from (stage_of_text part tools) 0 machine.stages
   fitted ← stages_fit part tools machine stages
   Ok (record { part = part; q = q; setup = setup_of machine stages })
 

@@ -1,12 +1,10 @@
 pub mod Setup
-pub mod Results
 pub mod Stages
 pub mod Loads
 pub mod Stock
 pub mod StageStock
 pub mod Places
 pub mod ValidJob
-pub mod SetupRules
 pub mod JobOf
 pub mod StrokeGroup
 pub mod StageOf

@@ -1,5 +1,5 @@
 -- A setup of a machine, and a job, as numbers, lists and texts. Lengths are in micrometres.
-use Rattle.std.specs.Prelude.{ℤ, List, map, Bool}
+use Rattle.std.specs.Prelude.{ℕ, ◌-◌, ℤ, List, length, map, Bool}
 use Rattle.part_file.specs.Part.{PartData}
 use Rattle.tool_library.specs.Tools.{PunchData, DieData, punch_data, die_data}
 use Rattle.fold_boxes.specs.Shapes.{ShapeData}
@@ -37,6 +37,13 @@ pub record JobData : Type 0 where
   pub part : PartData
   pub q : ℤ
   pub setup : SetupData
+
+-- the number of bends, one for each face but face 0, and the number of stages
+abbrev pub bend_count : JobData → ℕ
+bend_count job = length job.part.faces - 1
+
+abbrev pub stage_count : JobData → ℕ
+stage_count job = length job.setup.stages
 
 -- the part of a job, with its half deduction
 abbrev pub shape_of : JobData → ShapeData

@@ -46,8 +46,8 @@ stage_with part loads text punch die = record {
 }
 
 -- the stage of a number, with the tools of its names
-unfoldable pub stage_of : PartData → ToolsData → ℕ → StageTextData → Result StageData JobFault
-stage_of part tools stage text = do
+unfoldable pub stage_of_text : PartData → ToolsData → ℕ → StageTextData → Result StageData JobFault
+stage_of_text part tools stage text = do
   punch ← ok_or (punch_named tools.punches text.punch) (UnknownTool stage)
   die ← ok_or (die_named tools.dies text.die) (UnknownTool stage)
   Ok (stage_with part tools.loads text punch die)

@@ -41,6 +41,16 @@ impl Job {
         }
     }
 
+    /// A copy of the job. It takes no memory.
+    pub fn copy(&self) -> Job
+        ensures value { result ≡ self.now }
+        ensures valid { IsJob self.now }
+    {
+        let shape = self.shape.copy();
+        let setup = self.setup.copy();
+        Job { shape, setup }
+    }
+
     /// The part.
     pub fn part(&self) -> &Part
         ensures value { part_data result.now ≡ self.now.part }

@@ -5,7 +5,7 @@ ghost use Rattle.allowance.specs.AllowTable.{half_deduction_in};
 ghost use Rattle.unfolder.specs.Blank.{blank_data, blank_of_part};
 ghost use Rattle.tool_library.specs.Tools.{tools_data, IsTools};
 ghost use Rattle.machine_file.specs.Machine.{machine_data, IsMachine};
-ghost use Rattle.job_setup.specs.Results.{Gives};
+ghost use Rattle.toml_fields.specs.Results.{Gives};
 ghost use Rattle.job_setup.specs.Setup.{stage_data, setup_data};
 ghost use Rattle.job_setup.specs.Places.{places_fit};
 ghost use Rattle.job_setup.specs.ValidJob.{IsJob};

@@ -1,7 +1,10 @@
 //! The setup of a machine. Lengths are in micrometres: x runs along the bed.
+ghost use Rattle.std.specs.Prelude.{◌≡◌, ◌≤◌, map, length};
+ghost use Rattle.job_setup.specs.Setup.{stage_data, setup_data};
 
 use arrayvec::ArrayVec;
 use brake_base::Name;
+use machine_file::bounds::{MOST_BOXES, MOST_FRAMES, MOST_PIECES, MOST_STAGES};
 use machine_file::{Costs, Fixed, GaugeRule};
 use tool_library::{Die, Punch};
 
@@ -15,7 +18,7 @@ pub struct Stage {
     pub die: Die,
     pub x0: i64,
     pub x1: i64,
-    pub pieces: ArrayVec<i64, 32>,
+    pub pieces: ArrayVec<i64, MOST_PIECES>,
     pub load: i64,
     pub limit: i64,
 }
@@ -55,13 +58,82 @@ impl Default for Stage {
 #[derive(Debug, Drop)]
 pub struct Setup {
     pub bed: (i64, i64),
-    pub frames: ArrayVec<(i64, i64), 4>,
-    pub upper: ArrayVec<Fixed, 16>,
-    pub lower: ArrayVec<Fixed, 16>,
+    pub frames: ArrayVec<(i64, i64), MOST_FRAMES>,
+    pub upper: ArrayVec<Fixed, MOST_BOXES>,
+    pub lower: ArrayVec<Fixed, MOST_BOXES>,
     pub uncovered: i64,
     pub gauge: GaugeRule,
     pub cost: Costs,
-    pub stages: ArrayVec<Stage, 6>,
+    pub stages: ArrayVec<Stage, MOST_STAGES>,
     pub gang: bool,
     pub force: i64,
+}
+
+/// A copy of the pieces.
+pub(crate) fn copy_pieces(pieces: &ArrayVec<i64, MOST_PIECES>) -> ArrayVec<i64, MOST_PIECES>
+    ensures { result.items ≡ pieces.now.items }
+{
+    let mut copy = ArrayVec::new();
+    let _ = copy.try_extend_from_slice(pieces.as_slice());
+    copy
+}
+
+impl Stage {
+    /// A copy of the stage. It takes no memory.
+    pub fn copy(&self) -> Stage
+        ensures { stage_data result ≡ stage_data self.now }
+    {
+        Stage {
+            punch: self.punch.copy(),
+            die: self.die.copy(),
+            x0: self.x0,
+            x1: self.x1,
+            pieces: copy_pieces(&self.pieces),
+            load: self.load,
+            limit: self.limit,
+        }
+    }
+}
+
+/// Copies of the stages.
+fn copy_stages(stages: &[Stage]) -> ArrayVec<Stage, MOST_STAGES>
+    requires { length stages.now ≤ MOST_STAGES }
+    ensures { map stage_data result.items ≡ map stage_data stages.now }
+{
+    let mut copies = ArrayVec::new();
+    for stage in stages {
+        copies.push(stage.copy());
+    }
+    copies
+}
+
+/// Copies of the boxes.
+fn copy_boxes(boxes: &ArrayVec<Fixed, MOST_BOXES>) -> ArrayVec<Fixed, MOST_BOXES>
+    ensures { result.items ≡ boxes.now.items }
+{
+    let mut copy = ArrayVec::new();
+    let _ = copy.try_extend_from_slice(boxes.as_slice());
+    copy
+}
+
+impl Setup {
+    /// A copy of the setup. It takes no memory.
+    pub fn copy(&self) -> Setup
+        ensures { setup_data result ≡ setup_data self.now }
+    {
+        let mut frames = ArrayVec::new();
+        let _ = frames.try_extend_from_slice(self.frames.as_slice());
+        Setup {
+            bed: self.bed,
+            frames,
+            upper: copy_boxes(&self.upper),
+            lower: copy_boxes(&self.lower),
+            uncovered: self.uncovered,
+            gauge: self.gauge,
+            cost: self.cost,
+            stages: copy_stages(self.stages.as_slice()),
+            gang: self.gang,
+            force: self.force,
+        }
+    }
 }

@@ -2,9 +2,9 @@
 ghost use Rattle.std.specs.Prelude.{◌≡◌, ◌<◌, ◌≤◌, ◌^◌, pos, ◌*ℤ◌, int_lt, unsigned_abs, not, ◌&&◌, ◌||◌, length};
 ghost use Rattle.std.specs.Ordering.{int_eq};
 ghost use Rattle.brake_base.specs.Masks.{has};
-ghost use Rattle.toml_fields.specs.Ranges.{IsWithin};
 ghost use Rattle.job_setup.specs.Setup.{stage_data, shape_of};
 ghost use Rattle.job_setup.specs.StageOf.{stage_of};
+ghost use Rattle.job_setup.specs.ValidJob.{IsStageLoad};
 ghost use Rattle.job_setup.specs.Reasons.{is_uncovered, lacks_rest, is_overloaded, lines_total};
 
 use crate::job::Job;
@@ -39,14 +39,14 @@ pub fn is_overloaded_at(job: &Job, group: Mask, stage: u8) -> bool
 }
 
 fn is_overloaded(job: &Job, group: Mask, stage: &Stage) -> bool
-    requires { IsWithin (pos 0) (pos 1000000) stage.now.load }
+    requires { IsStageLoad stage.now.load }
     ensures { result ≡ is_overloaded job.now (has group) (stage_data stage.now) }
 {
     stage.load != 0 && is_over_a_limit(job, group, stage)
 }
 
 fn is_over_a_limit(job: &Job, group: Mask, stage: &Stage) -> bool
-    requires { IsWithin (pos 0) (pos 1000000) stage.now.load }
+    requires { IsStageLoad stage.now.load }
     ensures { result ≡ ((not (int_eq stage.now.limit (pos 0)) && int_lt stage.now.limit stage.now.load) || (not (int_eq job.now.setup.force (pos 0)) && int_lt (pos 1000 *ℤ job.now.setup.force) (stage.now.load *ℤ lines_total (shape_of job.now) (has group)))) }
 {
     is_over_limit(stage) || is_over_force(job, group, stage)
@@ -61,7 +61,7 @@ fn is_over_limit(stage: &Stage) -> bool
 
 /// Whether the load over all lines is above the machine's force, which may have no limit.
 fn is_over_force(job: &Job, group: Mask, stage: &Stage) -> bool
-    requires { IsWithin (pos 0) (pos 1000000) stage.now.load }
+    requires { IsStageLoad stage.now.load }
     ensures { result ≡ (not (int_eq job.now.setup.force (pos 0)) && int_lt (pos 1000 *ℤ job.now.setup.force) (stage.now.load *ℤ lines_total (shape_of job.now) (has group))) }
 {
     has_force(job) && is_above_force(job, group, stage)
@@ -76,7 +76,7 @@ fn has_force(job: &Job) -> bool
 
 /// Whether the load over all lines is above that limit.
 fn is_above_force(job: &Job, group: Mask, stage: &Stage) -> bool
-    requires { IsWithin (pos 0) (pos 1000000) stage.now.load }
+    requires { IsStageLoad stage.now.load }
     ensures { result ≡ int_lt (pos 1000 *ℤ job.now.setup.force) (stage.now.load *ℤ lines_total (shape_of job.now) (has group)) }
 {
     let force = job.setup().force;

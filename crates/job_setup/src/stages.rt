@@ -1,20 +1,20 @@
 //! The stages of a machine with the tools of their names.
 ghost use Rattle.std.specs.Prelude.{◌≡◌, ◌≤◌, ◌<◌, pos, ◌≤ℤ◌, length, map, All, find, bytes_eq, option_map, IfOk};
-ghost use Rattle.toml_fields.specs.Results.{each_from};
+ghost use Rattle.toml_fields.specs.Results.{each_from, Gives};
 ghost use Rattle.part_file.specs.Part.{part_data};
 ghost use Rattle.tool_library.specs.Tools.{punch_data, die_data, load_data, tools_data};
-ghost use Rattle.toml_fields.specs.Ranges.{IsWithin};
-ghost use Rattle.machine_file.specs.Machine.{IsStageText, stage_text_data};
-ghost use Rattle.job_setup.specs.Results.{Gives};
+ghost use Rattle.machine_file.specs.declared.bounds.TheConstants.{MOST_PIECES};
+ghost use Rattle.machine_file.specs.Machine.{IsPiece, IsStageText, stage_text_data};
 ghost use Rattle.job_setup.specs.Setup.{stage_data};
-ghost use Rattle.job_setup.specs.Stages.{punch_named, die_named, punch_shape, die_shape, total, least_limit, stage_with, stage_of};
+ghost use Rattle.job_setup.specs.Stages.{punch_named, die_named, punch_shape, die_shape, total, least_limit, stage_with, stage_of_text};
 
 use crate::fault::JobFault;
 use crate::loads::stage_load;
-use crate::setup::Stage;
+use crate::setup::{Stage, copy_pieces};
 use arrayvec::ArrayVec;
 use brake_base::Name;
 use machine_file::StageText;
+use machine_file::bounds::MOST_STAGES;
 use part_file::Part;
 use tool_library::{Die, LoadRow, Punch, Tools};
 
@@ -79,19 +79,10 @@ fn die_shape(die: &Die) -> Die
     }
 }
 
-/// A copy of the pieces.
-fn copied(pieces: &ArrayVec<i64, 32>) -> ArrayVec<i64, 32>
-    ensures { result.items ≡ pieces.now.items }
-{
-    let mut copy = ArrayVec::new();
-    let _ = copy.try_extend_from_slice(pieces.as_slice());
-    copy
-}
-
 /// How long the pieces are together.
 pub(crate) fn total(pieces: &[i64]) -> i64
-    requires pieces { All (IsWithin (pos 1) (pos 10000000)) pieces.now }
-    requires few { length pieces.now ≤ 32 }
+    requires pieces { All IsPiece pieces.now }
+    requires few { length pieces.now ≤ MOST_PIECES }
     ensures value { result ≡ total pieces.now }
     ensures low { pos 0 ≤ℤ result }
     ensures high { result ≤ℤ pos 320000000 }
@@ -126,17 +117,17 @@ fn stage_with(part: &Part, loads: &[LoadRow], text: &StageText, punch: &Punch, d
         die: die_shape(die),
         x0: text.at,
         x1: text.at + total(text.pieces.as_slice()),
-        pieces: copied(&text.pieces),
+        pieces: copy_pieces(&text.pieces),
         load: stage_load(part, loads, die),
         limit: least_limit(punch.limit, die.limit),
     }
 }
 
 /// The stage of a number, with copies of the tools of its names.
-#[tactic(auto, using(crate::proofs::Lists::seen), unfolding(crate::specs::Stages::stage_of))]
-fn stage_of(part: &Part, tools: &Tools, stage: u8, text: &StageText) -> Result<Stage, JobFault>
+#[tactic(auto, using(crate::proofs::Lists::seen), unfolding(crate::specs::Stages::stage_of_text))]
+fn stage_of_text(part: &Part, tools: &Tools, stage: u8, text: &StageText) -> Result<Stage, JobFault>
     requires { IsStageText (stage_text_data text.now) }
-    ensures { Gives stage_data result (stage_of (part_data part.now) (tools_data tools.now) stage (stage_text_data text.now)) }
+    ensures { Gives stage_data result (stage_of_text (part_data part.now) (tools_data tools.now) stage (stage_text_data text.now)) }
 {
     let Some(punch) = punch_named(&tools.punches, &text.punch) else {
         return Err(JobFault::UnknownTool { stage });
@@ -152,15 +143,15 @@ pub(crate) fn stages_of(
     part: &Part,
     tools: &Tools,
     texts: &[StageText],
-) -> Result<ArrayVec<Stage, 6>, JobFault>
+) -> Result<ArrayVec<Stage, MOST_STAGES>, JobFault>
     requires texts { All IsStageText (map stage_text_data texts.now) }
-    requires few { length texts.now ≤ 6 }
-    ensures value { Gives (λ stages. map stage_data stages.items) result (each_from (stage_of (part_data part.now) (tools_data tools.now)) 0 (map stage_text_data texts.now)) }
-    ensures few { IfOk result (λ stages. length stages.items ≤ 6) }
+    requires few { length texts.now ≤ MOST_STAGES }
+    ensures value { Gives (λ stages. map stage_data stages.items) result (each_from (stage_of_text (part_data part.now) (tools_data tools.now)) 0 (map stage_text_data texts.now)) }
+    ensures few { IfOk result (λ stages. length stages.items ≤ MOST_STAGES) }
 {
     let mut stages = ArrayVec::new();
     for text in texts {
-        let stage = stage_of(part, tools, stages.len() as u8, text)?;
+        let stage = stage_of_text(part, tools, stages.len() as u8, text)?;
         stages.push(stage);
     }
     Ok(stages)

@@ -2,28 +2,30 @@
 ghost use Rattle.std.specs.Prelude.{◌≡◌, ◌↔◌, ◌<◌, ◌≤◌, ◌≤ℤ◌, ◌+ℤ◌, pos, neg_ℤ, IsTrue, IsOk, All, [], length, map, Ok};
 ghost use Rattle.part_file.specs.Part.{IsPart, part_data, half_thickness};
 ghost use Rattle.unfolder.specs.Blank.{blank_of_part};
-ghost use Rattle.tool_library.specs.Tools.{IsPunch, IsDie, punch_data, die_data};
+ghost use Rattle.tool_library.specs.Tools.{IsPunch, IsDie, IsLimit, punch_data, die_data};
 ghost use Rattle.fold_boxes.specs.Shapes.{IsShape};
 ghost use Rattle.toml_fields.specs.Ranges.{IsWithin};
-ghost use Rattle.machine_file.specs.Machine.{farthest, IsBedRange, IsFixed};
+ghost use Rattle.machine_file.specs.declared.bounds.TheConstants.{MOST_STAGES};
+ghost use Rattle.machine_file.specs.Machine.{farthest, IsBedRange, IsFixed, IsPiece};
 ghost use Rattle.job_setup.specs.Setup.{stage_data, setup_data};
 ghost use Rattle.job_setup.specs.Stages.{total};
 ghost use Rattle.job_setup.specs.Places.{places_fit};
-ghost use Rattle.job_setup.specs.ValidJob.{IsStage, IsSetup, IsJobFrom};
-ghost use Rattle.job_setup.specs.SetupRules.{HasFixtures, HasRules, HasStages};
+ghost use Rattle.job_setup.specs.ValidJob.{IsStage, IsStageLoad, IsSetup, IsJobFrom, HasFixtures, HasRules, HasStages};
 
 use crate::job::Job;
 use crate::places::check_places;
 use crate::setup::{Setup, Stage};
 use crate::stages::total;
+use allowance::GREATEST_HALF_DEDUCTION;
+use machine_file::bounds::{
+    FARTHEST, GREATEST_FORCE, GREATEST_PIECE, GREATEST_UNCOVERED, LEAST_PIECE,
+};
 use machine_file::{Fixed, are_within, is_bed_range};
 use part_file::Part;
 use toml_fields::is_within;
+use tool_library::bounds::{GREATEST_LIMIT, GREATEST_LOAD};
 use tool_library::{Die, Punch};
 use unfolder::unfold;
-
-/// The greatest distance of a coordinate from 0, in micrometres: 20 m.
-const FARTHEST: i64 = 20_000_000;
 
 /// Whether the punch keeps to its rules and has neither sections nor a limit.
 fn is_bare_punch(punch: &Punch) -> bool
@@ -41,9 +43,9 @@ fn is_bare_die(die: &Die) -> bool
 
 /// Whether there are pieces, each of a length that the shop can have.
 fn are_pieces(pieces: &[i64]) -> bool
-    ensures { IsTrue result ↔ ((0 < length pieces.now) × All (IsWithin (pos 1) (pos 10000000)) pieces.now) }
+    ensures { IsTrue result ↔ ((0 < length pieces.now) × All IsPiece pieces.now) }
 {
-    !pieces.is_empty() && are_within(pieces, 1, 10_000_000)
+    !pieces.is_empty() && are_within(pieces, LEAST_PIECE, GREATEST_PIECE)
 }
 
 /// Whether the stage begins where it may.
@@ -55,7 +57,7 @@ fn begins_near(stage: &Stage) -> bool
 
 /// Whether the stage ends where its pieces end.
 fn is_as_long_as_its_pieces(stage: &Stage) -> bool
-    requires pieces { All (IsWithin (pos 1) (pos 10000000)) stage.now.pieces.items }
+    requires pieces { All IsPiece stage.now.pieces.items }
     requires begins { IsWithin (neg_ℤ farthest) farthest stage.now.x0 }
     ensures { IsTrue result ↔ (stage.now.x1 ≡ stage.now.x0 +ℤ total stage.now.pieces.items) }
 {
@@ -64,9 +66,9 @@ fn is_as_long_as_its_pieces(stage: &Stage) -> bool
 
 /// Whether the load and the limit are in range.
 fn is_loadable(stage: &Stage) -> bool
-    ensures { IsTrue result ↔ (IsWithin (pos 0) (pos 1000000) stage.now.load × IsWithin (pos 0) (pos 1000000) stage.now.limit) }
+    ensures { IsTrue result ↔ (IsStageLoad stage.now.load × IsLimit stage.now.limit) }
 {
-    is_within(stage.load, 0, 1_000_000) && is_within(stage.limit, 0, 1_000_000)
+    is_within(stage.load, 0, GREATEST_LOAD) && is_within(stage.limit, 0, GREATEST_LIMIT)
 }
 
 impl Stage {
@@ -109,9 +111,9 @@ fn are_fixtures(setup: &Setup) -> bool
 
 /// Whether what may be uncovered and the force are in range.
 fn are_limits(setup: &Setup) -> bool
-    ensures { IsTrue result ↔ (IsWithin (pos 0) (pos 1000000) setup.now.uncovered × IsWithin (pos 0) (pos 100000000) setup.now.force) }
+    ensures { IsTrue result ↔ (IsWithin (pos 0) GREATEST_UNCOVERED setup.now.uncovered × IsWithin (pos 0) GREATEST_FORCE setup.now.force) }
 {
-    is_within(setup.uncovered, 0, 1_000_000) && is_within(setup.force, 0, 100_000_000)
+    is_within(setup.uncovered, 0, GREATEST_UNCOVERED) && is_within(setup.force, 0, GREATEST_FORCE)
 }
 
 /// Whether the bed, the backgauge and the machine's numbers are in range.
@@ -130,7 +132,7 @@ fn are_valid(stages: &[Stage]) -> bool
 
 /// Whether the stages are equally high, apart, on the bed, and at least one.
 fn are_placed(bed: &(i64, i64), stages: &[Stage]) -> bool
-    requires { length stages.now ≤ 6 }
+    requires { length stages.now ≤ MOST_STAGES }
     ensures { IsTrue result ↔ (places_fit bed.now (map stage_data stages.now) ≡ Ok tt) }
 {
     check_places(bed, stages).is_ok()
@@ -155,9 +157,9 @@ impl Setup {
 
 /// Whether q is from half of the thickness to 100,000 micrometres.
 fn is_deduction(part: &Part, q: i64) -> bool
-    ensures { IsTrue result ↔ (half_thickness (part_data part.now) ≤ℤ q × q ≤ℤ pos 100000) }
+    ensures { IsTrue result ↔ (half_thickness (part_data part.now) ≤ℤ q × q ≤ℤ GREATEST_HALF_DEDUCTION) }
 {
-    part.thickness / 2 <= q && q <= 100_000
+    part.thickness / 2 <= q && q <= GREATEST_HALF_DEDUCTION
 }
 
 /// Whether the part unfolds with this half deduction.

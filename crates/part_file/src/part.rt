@@ -78,4 +78,18 @@ impl Part {
         let faces = self.faces.as_slice();
         is_sheet(self) && !faces.is_empty() && are_faces(faces)
     }
+
+    /// A copy of the part. It takes no memory.
+    pub fn copy(&self) -> Part
+        ensures { part_data result ≡ part_data self.now }
+    {
+        let mut faces = ArrayVec::new();
+        let _ = faces.try_extend_from_slice(self.faces.as_slice());
+        Part {
+            material: self.material,
+            thickness: self.thickness,
+            radius: self.radius,
+            faces,
+        }
+    }
 }

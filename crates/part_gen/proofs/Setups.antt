@@ -121,18 +121,24 @@ is_gauge_rule = record {
 pub is_setup : IsSetup common_setup
 unfolding common_setup places_fit
 is_setup = record {
-  bed = record { order = omega (arith, ints); bottom = omega (arith, ints); top = omega (arith, ints) };
-  frames = All-nil IsBedRange;
-  few_frames = omega arith;
-  upper = alone (IsFixed (pos 0) farthest) beam is_beam;
-  few_upper = omega arith;
-  lower = alone (IsFixed (neg_ℤ farthest) (pos 0)) bed_box is_bed_box;
-  few_lower = omega arith;
-  uncovered = record { bottom = omega (arith, ints); top = omega (arith, ints) };
-  gauge = is_gauge_rule;
-  cost = record { stroke = omega arith; quarter = omega arith; half = omega arith; flip = omega arith; roll = omega arith; stage = omega arith };
-  stages = All-cons IsStage stage_a (stage_b ∷ []) is_stage_a (alone IsStage stage_b is_stage_b);
-  few_stages = omega arith;
-  places = refl;
-  force = record { bottom = omega (arith, ints); top = omega (arith, ints) };
+  fixtures = record {
+    frames = All-nil IsBedRange;
+    few_frames = omega arith;
+    upper = alone (IsFixed (pos 0) farthest) beam is_beam;
+    few_upper = omega arith;
+    lower = alone (IsFixed (neg_ℤ farthest) (pos 0)) bed_box is_bed_box;
+    few_lower = omega arith;
+  };
+  rules = record {
+    bed = record { order = omega (arith, ints); bottom = omega (arith, ints); top = omega (arith, ints) };
+    gauge = is_gauge_rule;
+    cost = record { stroke = omega arith; quarter = omega arith; half = omega arith; flip = omega arith; roll = omega arith; stage = omega arith };
+    uncovered = record { bottom = omega (arith, ints); top = omega (arith, ints) };
+    force = record { bottom = omega (arith, ints); top = omega (arith, ints) };
+  };
+  stages = record {
+    each = All-cons IsStage stage_a (stage_b ∷ []) is_stage_a (alone IsStage stage_b is_stage_b);
+    few_stages = omega arith;
+    places = refl;
+  };
 }

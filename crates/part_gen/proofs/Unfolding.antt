@@ -11,7 +11,8 @@ use Rattle.toml_fields.specs.Fields.{is_name}
 use Rattle.part_file.specs.Part.{FaceData, PartData, joint_at, IsPart}
 use Rattle.unfolder.specs.declared.blank.UnfoldFault.TheVariants.{CoreTooSmall, BendOffFace}
 use Rattle.unfolder.specs.Cores.{core, is_too_small, is_off_face}
-use Rattle.unfolder.specs.Blank.{flat_face, bend_numbers, pairs_below, is_overlap, no_flat_face, is_overlap_in, cores_of, flat_faces, bend_lines, refused, flat_overlap, blank_of_part}
+use Rattle.toml_fields.specs.Results.{refuse_found}
+use Rattle.unfolder.specs.Blank.{flat_face, bend_numbers, pairs_below, is_overlap, no_flat_face, is_overlap_in, cores_of, flat_faces, bend_lines, flat_overlap, blank_of_part}
 use Rattle.unfolder.specs.Tables.{no_rect}
 use Rattle.unfolder.proofs.Finding.{find_none, find_flat_none, find-map, position_none}
 use Rattle.unfolder.proofs.Layouts.{core_at, gives_blank}
@@ -88,9 +89,9 @@ none_off s faces roles flanged = find_none (is_off_face faces s.q) 1 (length fac
 
 pub unfolds : (s : Sizes) (part : PartData) (roles : List Role) → IsFlanged s part.faces roles → IsOk (blank_of_part part s.q)
 unfolds s part roles flanged =
-    let cores = ap (refused CoreTooSmall) (no_small s part.faces roles flanged) in
-    let lines = ap (refused BendOffFace) (none_off s part.faces roles flanged) in
-    let pairs = ap (refused flat_overlap) (no_pair s part.faces roles flanged) in
+    let cores = ap (λ o. refuse_found o CoreTooSmall) (no_small s part.faces roles flanged) in
+    let lines = ap (λ o. refuse_found o BendOffFace) (none_off s part.faces roles flanged) in
+    let pairs = ap (λ o. refuse_found o flat_overlap) (no_pair s part.faces roles flanged) in
     let blank = gives_blank part s.q (flat_faces part.faces s.q) (bend_lines part.faces s.q) (sym cores) (sym lines) (sym pairs) refl refl in
     subst IsOk (sym blank) refl
 

@@ -1,5 +1,5 @@
 //! The tools of a shop. Lengths are in micrometres, loads and limits in newtons per millimetre.
-ghost use Rattle.std.specs.Prelude.{◌↔◌, pos, neg_ℤ, ◌≤ℤ◌, IsTrue};
+ghost use Rattle.std.specs.Prelude.{◌≡◌, ◌↔◌, pos, neg_ℤ, ◌≤ℤ◌, IsTrue};
 ghost use Rattle.toml_fields.specs.Ranges.{IsWithin};
 ghost use Rattle.tool_library.specs.Tools.{punch_data, die_data, IsHeight, IsLimit, IsFlange, IsOpening, HasPunchSizes, HasDieSizes, HasLists, IsPunch, IsDie};
 
@@ -107,6 +107,24 @@ impl Punch {
     {
         is_punch_body(&self.body, self.height) && are_in_range(&self.sections)
     }
+
+    /// A copy of the punch. It takes no memory.
+    pub fn copy(&self) -> Punch
+        ensures { punch_data result ≡ punch_data self.now }
+    {
+        let mut body = ArrayVec::new();
+        let _ = body.try_extend_from_slice(self.body.as_slice());
+        let mut sections = ArrayVec::new();
+        let _ = sections.try_extend_from_slice(self.sections.as_slice());
+        Punch {
+            name: self.name,
+            height: self.height,
+            nose: self.nose,
+            body,
+            sections,
+            limit: self.limit,
+        }
+    }
 }
 
 impl Die {
@@ -140,5 +158,24 @@ impl Die {
             ↔ HasLists (neg_ℤ self.now.height) (pos 0) self.now.body.items self.now.sections.items }
     {
         is_die_body(&self.body, self.height) && are_in_range(&self.sections)
+    }
+
+    /// A copy of the die. It takes no memory.
+    pub fn copy(&self) -> Die
+        ensures { die_data result ≡ die_data self.now }
+    {
+        let mut body = ArrayVec::new();
+        let _ = body.try_extend_from_slice(self.body.as_slice());
+        let mut sections = ArrayVec::new();
+        let _ = sections.try_extend_from_slice(self.sections.as_slice());
+        Die {
+            name: self.name,
+            height: self.height,
+            v: self.v,
+            least_flange: self.least_flange,
+            body,
+            sections,
+            limit: self.limit,
+        }
     }
 }

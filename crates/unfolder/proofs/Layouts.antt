@@ -13,7 +13,8 @@ use Rattle.unfolder.specs.declared.blank.UnfoldFault.{UnfoldFault}
 use Rattle.unfolder.specs.declared.blank.UnfoldFault.TheVariants.{CoreTooSmall, BendOffFace}
 use Rattle.unfolder.specs.declared.frame.Frame.{Frame}
 use Rattle.unfolder.specs.Cores.{joint_of, core, is_too_small, is_off_edge, is_off_face, parent_line}
-use Rattle.unfolder.specs.Blank.{BlankData, flat, flat_image, quarter_turns_to, flat_face, line_image, bend_line, bend_numbers, pairs_below, is_overlap_in, cores_of, flat_faces, bend_lines, refused, flat_overlap, blank_of_part, Gives}
+use Rattle.toml_fields.specs.Results.{Gives, refuse_found}
+use Rattle.unfolder.specs.Blank.{BlankData, blank_data, flat, flat_image, quarter_turns_to, flat_face, line_image, bend_line, bend_numbers, pairs_below, is_overlap_in, cores_of, flat_faces, bend_lines, flat_overlap, blank_of_part}
 use Rattle.unfolder.specs.Frames.{AreFrames}
 use Rattle.unfolder.specs.Tables.{no_rect, no_line, no_frame, is_off_edge_in, laid_face, laid_line}
 use Rattle.unfolder.proofs.Finding.{find_same}
@@ -21,24 +22,24 @@ use Rattle.unfolder.proofs.Quarters.{by_four}
 use Rattle.unfolder.proofs.ChainLemmas.{joint_of_part}
 
 -- ---- the steps of the definition
-pub stops_at_cores : (part : PartData) (q : ℤ) (fault : UnfoldFault) → Err fault ≡ refused CoreTooSmall (position is_too_small (cores_of part.faces q)) → blank_of_part part q ≡ Err fault
+pub stops_at_cores : (part : PartData) (q : ℤ) (fault : UnfoldFault) → Err fault ≡ refuse_found (position is_too_small (cores_of part.faces q)) CoreTooSmall → blank_of_part part q ≡ Err fault
 unfolding blank_of_part
 stops_at_cores part q fault first = rw (← first)
 
-pub stops_at_lines : (part : PartData) (q : ℤ) (fault : UnfoldFault) → Ok tt ≡ refused CoreTooSmall (position is_too_small (cores_of part.faces q))
-    → Err fault ≡ refused BendOffFace (find (is_off_face part.faces q) (bend_numbers part.faces)) → blank_of_part part q ≡ Err fault
+pub stops_at_lines : (part : PartData) (q : ℤ) (fault : UnfoldFault) → Ok tt ≡ refuse_found (position is_too_small (cores_of part.faces q)) CoreTooSmall
+    → Err fault ≡ refuse_found (find (is_off_face part.faces q) (bend_numbers part.faces)) BendOffFace → blank_of_part part q ≡ Err fault
 unfolding blank_of_part
 stops_at_lines part q fault first second = rw (← first, ← second)
 
-pub stops_at_overlaps : (part : PartData) (q : ℤ) (fault : UnfoldFault) → Ok tt ≡ refused CoreTooSmall (position is_too_small (cores_of part.faces q))
-    → Ok tt ≡ refused BendOffFace (find (is_off_face part.faces q) (bend_numbers part.faces))
-    → Err fault ≡ refused flat_overlap (find (is_overlap_in (flat_faces part.faces q)) (pairs_below (length part.faces))) → blank_of_part part q ≡ Err fault
+pub stops_at_overlaps : (part : PartData) (q : ℤ) (fault : UnfoldFault) → Ok tt ≡ refuse_found (position is_too_small (cores_of part.faces q)) CoreTooSmall
+    → Ok tt ≡ refuse_found (find (is_off_face part.faces q) (bend_numbers part.faces)) BendOffFace
+    → Err fault ≡ refuse_found (find (is_overlap_in (flat_faces part.faces q)) (pairs_below (length part.faces))) flat_overlap → blank_of_part part q ≡ Err fault
 unfolding blank_of_part
 stops_at_overlaps part q fault first second third = rw (← first, ← second, ← third)
 
-pub gives_blank : (part : PartData) (q : ℤ) (faces : List FlatFace) (bends : List BendLine) → Ok tt ≡ refused CoreTooSmall (position is_too_small (cores_of part.faces q))
-    → Ok tt ≡ refused BendOffFace (find (is_off_face part.faces q) (bend_numbers part.faces))
-    → Ok tt ≡ refused flat_overlap (find (is_overlap_in (flat_faces part.faces q)) (pairs_below (length part.faces)))
+pub gives_blank : (part : PartData) (q : ℤ) (faces : List FlatFace) (bends : List BendLine) → Ok tt ≡ refuse_found (position is_too_small (cores_of part.faces q)) CoreTooSmall
+    → Ok tt ≡ refuse_found (find (is_off_face part.faces q) (bend_numbers part.faces)) BendOffFace
+    → Ok tt ≡ refuse_found (find (is_overlap_in (flat_faces part.faces q)) (pairs_below (length part.faces))) flat_overlap
     → faces ≡ flat_faces part.faces q → bends ≡ bend_lines part.faces q → blank_of_part part q ≡ Ok (record { faces = faces; bends = bends })
 unfolding blank_of_part
 gives_blank part q faces bends first second third faces_are bends_are = rw (← first, ← second, ← third, faces_are, bends_are)
@@ -89,5 +90,5 @@ bend_lines_are p part q lines frames lines_are are count =
     let some = part.some_face in
     map_same (laid_line p.faces frames lines) (bend_line p.faces q) 1 (length p.faces - 1) (λ b low high. laid_line_is p part q lines frames b lines_are are count low (omega arith))
 
-pub gives_fault : (result : Result Blank UnfoldFault) (defined : Result BlankData UnfoldFault) (fault : UnfoldFault) → result ≡ Err fault → defined ≡ Err fault → Gives result defined
-gives_fault result defined fault answered is = subst (λ r. Gives r defined) (sym answered) is
+pub gives_fault : (result : Result Blank UnfoldFault) (defined : Result BlankData UnfoldFault) (fault : UnfoldFault) → result ≡ Err fault → defined ≡ Err fault → Gives blank_data result defined
+gives_fault result defined fault answered is = subst (λ r. Gives blank_data r defined) (sym answered) is

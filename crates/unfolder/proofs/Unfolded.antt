@@ -8,7 +8,8 @@ use Rattle.std.proofs.lemmas.List.FromFn.{length-map-range_with_len}
 use Rattle.part_file.specs.Part.{PartData, FaceData}
 use Rattle.unfolder.specs.declared.blank.UnfoldFault.TheVariants.{CoreTooSmall, BendOffFace}
 use Rattle.unfolder.specs.Cores.{core, is_too_small, is_off_face}
-use Rattle.unfolder.specs.Blank.{BlankData, bend_numbers, cores_of, refused, blank_of_part}
+use Rattle.toml_fields.specs.Results.{refuse_found}
+use Rattle.unfolder.specs.Blank.{BlankData, bend_numbers, cores_of, blank_of_part}
 use Rattle.unfolder.specs.Tables.{no_rect}
 use Rattle.unfolder.proofs.Layouts.{core_at, stops_at_cores, stops_at_lines}
 use Rattle.unfolder.proofs.PlaceLaws.{AreCores}
@@ -24,10 +25,10 @@ none_passes p (x ∷ xs) i k d none inside = by_test (p x) k none inside refl (�
     by_test false (suc j) clash below here rest = rest j clash (omega arith)
 
 -- with no core refused, all fit
-pub cores_fit : (faces : List FaceData) (q : ℤ) → Ok tt ≡ refused CoreTooSmall (position is_too_small (cores_of faces q)) → AreCores faces q
+pub cores_fit : (faces : List FaceData) (q : ℤ) → Ok tt ≡ refuse_found (position is_too_small (cores_of faces q)) CoreTooSmall → AreCores faces q
 cores_fit faces q passed = by_place (position is_too_small (cores_of faces q)) refl passed
   where
-    by_place : (found : Option ℕ) → position is_too_small (cores_of faces q) ≡ found → Ok tt ≡ refused CoreTooSmall found → AreCores faces q
+    by_place : (found : Option ℕ) → position is_too_small (cores_of faces q) ≡ found → Ok tt ≡ refuse_found found CoreTooSmall → AreCores faces q
     by_place (Some f) e clash = absurd (let c = clash in cc)
     by_place None e none = record {
       fits = λ f inside. ap is_too_small (sym (core_at faces q (cores_of faces q) f refl inside))
@@ -47,10 +48,10 @@ none_from test a (suc n) none k low high = by_test (test a) refl none (none_from
     ]
 
 -- with no bend refused, each line is within its parent's core edge
-pub lines_kept : (faces : List FaceData) (q : ℤ) → Ok tt ≡ refused BendOffFace (find (is_off_face faces q) (bend_numbers faces)) → (b : ℕ) → 0 < b → b < length faces → is_off_face faces q b ≡ false
+pub lines_kept : (faces : List FaceData) (q : ℤ) → Ok tt ≡ refuse_found (find (is_off_face faces q) (bend_numbers faces)) BendOffFace → (b : ℕ) → 0 < b → b < length faces → is_off_face faces q b ≡ false
 lines_kept faces q passed = by_place (find (is_off_face faces q) (bend_numbers faces)) refl passed
   where
-    by_place : (found : Option ℕ) → find (is_off_face faces q) (bend_numbers faces) ≡ found → Ok tt ≡ refused BendOffFace found → (b : ℕ) → 0 < b → b < length faces → is_off_face faces q b ≡ false
+    by_place : (found : Option ℕ) → find (is_off_face faces q) (bend_numbers faces) ≡ found → Ok tt ≡ refuse_found found BendOffFace → (b : ℕ) → 0 < b → b < length faces → is_off_face faces q b ≡ false
     by_place (Some f) e clash = absurd (let c = clash in cc)
     by_place None e none = λ b some inside. none_from (is_off_face faces q) 1 (length faces - 1) e b (omega arith) (omega arith)
 
@@ -59,14 +60,14 @@ pub cores_of_blank : (part : PartData) (q : ℤ) (blank : BlankData) → blank_o
 cores_of_blank part q blank given = by_place (position is_too_small (cores_of part.faces q)) refl
   where
     by_place : (found : Option ℕ) → position is_too_small (cores_of part.faces q) ≡ found → AreCores part.faces q
-    by_place (Some f) e = absurd (let clash = sym given ∙ stops_at_cores part q (CoreTooSmall f) (sym (ap (refused CoreTooSmall) e)) in cc)
-    by_place None e = cores_fit part.faces q (sym (ap (refused CoreTooSmall) e))
+    by_place (Some f) e = absurd (let clash = sym given ∙ stops_at_cores part q (CoreTooSmall f) (sym (ap (λ o. refuse_found o CoreTooSmall) e)) in cc)
+    by_place None e = cores_fit part.faces q (sym (ap (λ o. refuse_found o CoreTooSmall) e))
 
 -- and the line of each bend is within its parent's core edge
 pub lines_of_blank : (part : PartData) (q : ℤ) (blank : BlankData) → blank_of_part part q ≡ Ok blank → (b : ℕ) → 0 < b → b < length part.faces → is_off_face part.faces q b ≡ false
 lines_of_blank part q blank given = by_place (position is_too_small (cores_of part.faces q)) (find (is_off_face part.faces q) (bend_numbers part.faces)) refl refl
   where
     by_place : (small : Option ℕ) (off : Option ℕ) → position is_too_small (cores_of part.faces q) ≡ small → find (is_off_face part.faces q) (bend_numbers part.faces) ≡ off → (b : ℕ) → 0 < b → b < length part.faces → is_off_face part.faces q b ≡ false
-    by_place (Some f) off e g = absurd (let clash = sym given ∙ stops_at_cores part q (CoreTooSmall f) (sym (ap (refused CoreTooSmall) e)) in cc)
-    by_place None (Some b) e g = absurd (let clash = sym given ∙ stops_at_lines part q (BendOffFace b) (sym (ap (refused CoreTooSmall) e)) (sym (ap (refused BendOffFace) g)) in cc)
-    by_place None None e g = lines_kept part.faces q (sym (ap (refused BendOffFace) g))
+    by_place (Some f) off e g = absurd (let clash = sym given ∙ stops_at_cores part q (CoreTooSmall f) (sym (ap (λ o. refuse_found o CoreTooSmall) e)) in cc)
+    by_place None (Some b) e g = absurd (let clash = sym given ∙ stops_at_lines part q (BendOffFace b) (sym (ap (λ o. refuse_found o CoreTooSmall) e)) (sym (ap (λ o. refuse_found o BendOffFace) g)) in cc)
+    by_place None None e g = lines_kept part.faces q (sym (ap (λ o. refuse_found o BendOffFace) g))

@@ -1,10 +1,11 @@
 -- The blank of a part: the cores of its faces laid flat, side by side, with the bend lines.
-use Rattle.std.specs.Prelude.{◌≡◌, ℕ, ◌+◌, ◌-◌, ℤ, pos, ◌*ℤ◌, int_lt, Bool, ◌&&◌, List, map, flat_map, find, position, slice_index_or, length, Option, Some, None, Result, Ok, Err, if◌then◌else◌}
+use Rattle.std.specs.Prelude.{◌≡◌, ℕ, ◌+◌, ◌-◌, ℤ, pos, ◌*ℤ◌, int_lt, Bool, ◌&&◌, List, map, flat_map, find, position, slice_index_or, length, Result, Ok, if◌then◌else◌}
 use Rattle.std.specs.Int.{int_min, int_max}
 use Rattle.std.specs.List.{range_with_len}
 use Rattle.brake_base.specs.declared.space.V3.{V3}
 use Rattle.brake_base.specs.Vectors.{vector}
 use Rattle.brake_base.specs.Turns.{Matrix, Map, mapped}
+use Rattle.toml_fields.specs.Results.{◌>>=◌, refuse_found}
 use Rattle.part_file.specs.declared.part.Side.{Side}
 use Rattle.part_file.specs.Part.{FaceData, PartData, face_at, along, outward}
 use Rattle.unfolder.specs.declared.blank.FlatRect.{FlatRect}
@@ -110,28 +111,13 @@ flat_faces faces q = map (flat_face faces q) (face_numbers faces)
 abbrev pub bend_lines : List FaceData → ℤ → List BendLine
 bend_lines faces q = map (bend_line faces q) (bend_numbers faces)
 
-infixl 10 ◌>>=◌
-abbrev pub ◌>>=◌ : {A B : Type 0} → Result A UnfoldFault → (A → Result B UnfoldFault) → Result B UnfoldFault
-(Ok x) >>= f = f x
-(Err e) >>= f = Err e
-
--- a refusal of what was found, if anything was
-abbrev pub refused : {A : Type 0} → (A → UnfoldFault) → Option A → Result (Unit {0}) UnfoldFault
-refused fault None = Ok tt
-refused fault (Some x) = Err (fault x)
-
 abbrev pub flat_overlap : ℕ × ℕ → UnfoldFault
 flat_overlap pair = FlatOverlap pair.0 pair.1
 
 -- the blank of a part with half deduction q, or the first refusal
 unfoldable pub blank_of_part : PartData → ℤ → Result BlankData UnfoldFault
 blank_of_part part q = do
-  _ ← refused CoreTooSmall (position is_too_small (cores_of part.faces q))
-  _ ← refused BendOffFace (find (is_off_face part.faces q) (bend_numbers part.faces))
-  _ ← refused flat_overlap (find (is_overlap_in (flat_faces part.faces q)) (pairs_below (length part.faces)))
+  _ ← refuse_found (position is_too_small (cores_of part.faces q)) CoreTooSmall
+  _ ← refuse_found (find (is_off_face part.faces q) (bend_numbers part.faces)) BendOffFace
+  _ ← refuse_found (find (is_overlap_in (flat_faces part.faces q)) (pairs_below (length part.faces))) flat_overlap
   Ok (record { faces = flat_faces part.faces q; bends = bend_lines part.faces q })
-
--- what `unfold` answers is what the definition gives
-abbrev pub Gives : Result Blank UnfoldFault → Result BlankData UnfoldFault → Type 0
-Gives (Ok blank) defined = defined ≡ Ok (blank_data blank)
-Gives (Err fault) defined = defined ≡ Err fault

@@ -89,7 +89,7 @@ impl Frame {
 }
 
 /// The quarter turns that take x to the direction of a side.
-fn side_turn(side: Side) -> u8
+fn quarter_turns_of(side: Side) -> u8
     ensures value { quarter_turns result ≡ side_matrix side }
     ensures few { result < 4 }
 {
@@ -114,7 +114,7 @@ fn frame_on_parent(part: &Part, q: i64, bend: u8) -> Frame
     let parent = face_of(part, joint.on);
     let (x, y) = side_point(joint.side, parent, joint.at, 2 * q);
     Frame {
-        turn: side_turn(joint.side),
+        turn: quarter_turns_of(joint.side),
         x,
         y,
     }

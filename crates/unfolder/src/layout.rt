@@ -3,7 +3,8 @@ ghost use Rattle.std.specs.Prelude.{◌≡◌, ◌+◌, ◌≤◌, ◌≤ℤ◌,
 ghost use Rattle.std.specs.List.{range_with_len};
 ghost use Rattle.part_file.specs.Part.{IsPart, part_data, half_thickness};
 ghost use Rattle.unfolder.specs.Near.{IsRectWithin, IsLineWithin};
-ghost use Rattle.unfolder.specs.Blank.{Gives, blank_data, blank_of_part, bend_numbers};
+ghost use Rattle.toml_fields.specs.Results.{Gives};
+ghost use Rattle.unfolder.specs.Blank.{blank_data, blank_of_part, bend_numbers};
 ghost use Rattle.unfolder.specs.Edges.{AbutsAtLines};
 ghost use Rattle.unfolder.specs.Extent.{IsNearBlank, IsNearRect, IsNearLine};
 ghost use Rattle.unfolder.specs.Fold.{FoldsBack};
@@ -24,7 +25,7 @@ pub fn unfold(part: &Part, q: i64) -> Result<Blank, UnfoldFault>
     requires part { IsPart (part_data part.now) }
     requires q_low { half_thickness (part_data part.now) ≤ℤ q }
     requires q_high { q ≤ℤ pos 100000 }
-    ensures value { Gives result (blank_of_part (part_data part.now) q) }
+    ensures value { Gives blank_data result (blank_of_part (part_data part.now) q) }
     ensures faces { IfOk result (λ blank. length blank.faces.items ≡ length part.now.faces.items) }
     ensures bends { IfOk result (λ blank. length blank.bends.items + 1 ≡ length part.now.faces.items) }
 

@@ -5,7 +5,8 @@ ghost use Rattle.part_file.specs.Part.{IsPart, part_data};
 ghost use Rattle.unfolder.specs.Near.{IsRectWithin};
 ghost use Rattle.unfolder.specs.Cores.{is_too_small, holds, is_off_edge};
 ghost use Rattle.unfolder.specs.Tables.{is_off_edge_in};
-ghost use Rattle.unfolder.specs.Blank.{bend_numbers, is_overlap_in_x, is_overlap_in_y, is_overlap, is_overlap_in, pairs_below, refused, flat_overlap};
+ghost use Rattle.toml_fields.specs.Results.{refuse_found};
+ghost use Rattle.unfolder.specs.Blank.{bend_numbers, is_overlap_in_x, is_overlap_in_y, is_overlap, is_overlap_in, pairs_below, flat_overlap};
 
 use crate::blank::{BendLine, FlatFace, FlatRect, UnfoldFault};
 use crate::cores::{face_count, joint_of};
@@ -41,7 +42,7 @@ fn first_too_small(cores: &[FlatRect]) -> Option<u8>
 pub(crate) fn check_cores(cores: &[FlatRect]) -> Result<(), UnfoldFault>
     requires within { All (IsRectWithin 21000000) cores.now }
     requires few { length cores.now ≤ 13 }
-    ensures { result ≡ refused UnfoldFault.CoreTooSmall (position is_too_small cores.now) }
+    ensures { result ≡ refuse_found (position is_too_small cores.now) UnfoldFault.CoreTooSmall }
 {
     match first_too_small(cores) {
         Some(face) => Err(UnfoldFault::CoreTooSmall { face }),
@@ -92,7 +93,7 @@ pub(crate) fn check_lines(
     requires part { IsPart (part_data part.now) }
     requires cores { length cores.now ≡ length part.now.faces.items }
     requires lines { length lines.now + 1 ≡ length part.now.faces.items }
-    ensures { result ≡ refused UnfoldFault.BendOffFace (find (is_off_edge_in (part_data part.now).faces cores.now lines.now) (bend_numbers (part_data part.now).faces)) }
+    ensures { result ≡ refuse_found (find (is_off_edge_in (part_data part.now).faces cores.now lines.now) (bend_numbers (part_data part.now).faces)) UnfoldFault.BendOffFace }
 {
     match first_off_face(part, cores, lines) {
         Some(bend) => Err(UnfoldFault::BendOffFace { bend }),
@@ -152,7 +153,7 @@ fn first_overlap(faces: &[FlatFace]) -> Option<(u8, u8)>
 /// Refuses the first two faces that overlap.
 pub(crate) fn check_overlaps(faces: &[FlatFace]) -> Result<(), UnfoldFault>
     requires { length faces.now ≤ 13 }
-    ensures { result ≡ refused flat_overlap (find (is_overlap_in faces.now) (pairs_below (length faces.now))) }
+    ensures { result ≡ refuse_found (find (is_overlap_in faces.now) (pairs_below (length faces.now))) flat_overlap }
 {
     match first_overlap(faces) {
         Some((a, b)) => Err(UnfoldFault::FlatOverlap { a, b }),

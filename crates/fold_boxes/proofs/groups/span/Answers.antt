@@ -1,7 +1,7 @@
 use Rattle.std.proofs.Common.{◌∙◌, ◌<◌, ap, sym, subst, Option, Some, ℤ, arith}
 use Rattle.std.specs.Prelude.{IfSome}
 use Rattle.brake_base.specs.Masks.{has}
-use Rattle.fold_boxes.specs.Spans.{joined, IsNearRange}
+use Rattle.fold_boxes.specs.Spans.{enclosing_range, IsNearRange}
 use Rattle.fold_boxes.proofs.Spans.{cover_next, skip_next}
 use Rattle.fold_boxes.proofs.groups.span.Goals.{then-contains, else-contains}
 use Rattle.fold_boxes.proofs.groups.span.Goals as goal
@@ -16,8 +16,8 @@ loop-bend-preserved c =
       | then-contains w ↦
           let tested = sym c.contains.ensures ∙ w.if-contains.true in
           record {
-            value = w.range-is ∙ ap Some (w.joined.ensures.value ∙ (λ i. joined (c.loop-bend.invariant.value i) (w.line_range.ensures.from i, w.line_range.ensures.to i))) ∙ sym (cover_next shape set bend some tested);
-            near = subst (λ (r : Option (ℤ × ℤ)). IfSome r IsNearRange) (sym w.range-is) (w.joined.ensures.near c.loop-bend.invariant.near w.line_range.ensures.near);
+            value = w.range-is ∙ ap Some (w.enclosing_range.ensures.value ∙ (λ i. enclosing_range (c.loop-bend.invariant.value i) (w.line_range.ensures.from i, w.line_range.ensures.to i))) ∙ sym (cover_next shape set bend some tested);
+            near = subst (λ (r : Option (ℤ × ℤ)). IfSome r IsNearRange) (sym w.range-is) (w.enclosing_range.ensures.near c.loop-bend.invariant.near w.line_range.ensures.near);
           }
       | else-contains w ↦
           let tested = sym c.contains.ensures ∙ w.if-contains.false in

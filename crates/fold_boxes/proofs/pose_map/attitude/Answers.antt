@@ -17,8 +17,8 @@ returns-clause-turn c =
     let back = c.args.back in
     let kept = c.hinge.result.now in
     let place = c.index-as_slice-from.result in
-    let inside : kept.parent < length c.placed-places.result.items = omega (arith, c.requires.bend, c.hinge.ensures.earlier, c.placed-places.ensures.count) in
-    let read = read_place shape mask c.placed-places.result.items c.as_slice.result.now c.from.result kept.parent place c.placed-places.ensures.each c.as_slice.ensures.value c.from.ensures inside in
+    let inside : kept.parent < length c.place_faces-places.result.items = omega (arith, c.requires.bend, c.hinge.ensures.earlier, c.place_faces-places.ensures.count) in
+    let read = read_place shape mask c.place_faces-places.result.items c.as_slice.result.now c.from.result kept.parent place c.place_faces-places.ensures.each c.as_slice.ensures.value c.from.ensures inside in
     let is = c.index-as_slice-from.is in
     let parent : turn_of place.turn ≡ (parent_place shape mask bend).turn =
     ap (λ p. turn_of p.turn) is ∙ ap (λ (m : Map). m.turn) read.map ∙ ap (λ on. (place_of shape mask on).turn) c.hinge.ensures.value.parent in

@@ -7,15 +7,15 @@ use Rattle.handling_cost.proofs.costs.cost_to.Goals as goal
 pub overflow_add-result : goal.overflow_add-result
 overflow_add-result c =
     let costs = ap (λ (s : SetupData). s.cost.stroke) c.setup.ensures.value in
-    let stroke = (prices c.args.job.now.setup.cost c.setup.ensures.valid.setup.cost).stroke in
-    let turn : c.change_cost.result ≤ 1000000 = rw (c.change_cost.ensures, ap (λ (s : SetupData). s.cost) c.setup.ensures.value) (change_small c.args.job.now.setup.cost c.setup.ensures.valid.setup.cost (change c.args.key.now.attitude c.args.attitude)) in
+    let stroke = (prices c.args.job.now.setup.cost c.setup.ensures.valid.setup.rules.cost).stroke in
+    let turn : c.change_cost.result ≤ 1000000 = rw (c.change_cost.ensures, ap (λ (s : SetupData). s.cost) c.setup.ensures.value) (change_small c.args.job.now.setup.cost c.setup.ensures.valid.setup.rules.cost (change c.args.key.now.attitude c.args.attitude)) in
     omega (arith, costs, stroke, turn)
 
 pub overflow_add-result-2 : goal.overflow_add-result-2
 overflow_add-result-2 c =
     let costs = ap (λ (s : SetupData). s.cost.stroke) c.setup.ensures.value in
-    let stroke = (prices c.args.job.now.setup.cost c.setup.ensures.valid.setup.cost).stroke in
-    let turn : c.change_cost.result ≤ 1000000 = rw (c.change_cost.ensures, ap (λ (s : SetupData). s.cost) c.setup.ensures.value) (change_small c.args.job.now.setup.cost c.setup.ensures.valid.setup.cost (change c.args.key.now.attitude c.args.attitude)) in
+    let stroke = (prices c.args.job.now.setup.cost c.setup.ensures.valid.setup.rules.cost).stroke in
+    let turn : c.change_cost.result ≤ 1000000 = rw (c.change_cost.ensures, ap (λ (s : SetupData). s.cost) c.setup.ensures.value) (change_small c.args.job.now.setup.cost c.setup.ensures.valid.setup.rules.cost (change c.args.key.now.attitude c.args.attitude)) in
     let way = c.stage_cost.ensures.small in
     omega (arith, costs, stroke, turn, way)
 
@@ -29,7 +29,7 @@ returns-clause-value c =
 pub returns-clause-small : goal.returns-clause-small
 returns-clause-small c =
     let costs = ap (λ (s : SetupData). s.cost.stroke) c.setup.ensures.value in
-    let stroke = (prices c.args.job.now.setup.cost c.setup.ensures.valid.setup.cost).stroke in
-    let turn : c.change_cost.result ≤ 1000000 = rw (c.change_cost.ensures, ap (λ (s : SetupData). s.cost) c.setup.ensures.value) (change_small c.args.job.now.setup.cost c.setup.ensures.valid.setup.cost (change c.args.key.now.attitude c.args.attitude)) in
+    let stroke = (prices c.args.job.now.setup.cost c.setup.ensures.valid.setup.rules.cost).stroke in
+    let turn : c.change_cost.result ≤ 1000000 = rw (c.change_cost.ensures, ap (λ (s : SetupData). s.cost) c.setup.ensures.value) (change_small c.args.job.now.setup.cost c.setup.ensures.valid.setup.rules.cost (change c.args.key.now.attitude c.args.attitude)) in
     let way = c.stage_cost.ensures.small in
     omega (arith, costs, stroke, turn, way)

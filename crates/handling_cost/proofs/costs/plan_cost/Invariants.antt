@@ -1,7 +1,8 @@
 -- The cost so far and that of the steps left are the cost of all, and the steps left are actions at the key so far.
 use Rattle.std.proofs.Common.{◌≡◌, ◌+◌, ◌*◌, ◌≤◌, ◌<◌, drop}
 use Rattle.job_setup.specs.ValidJob.{IsJob}
-use Rattle.handling_cost.specs.StepCost.{stage_count, IsKeyOf, left}
+use Rattle.job_setup.specs.Setup.{stage_count}
+use Rattle.handling_cost.specs.StepCost.{IsKeyOf, left}
 use Rattle.handling_cost.specs.Plan.{start, total, AreActions}
 use Rattle.handling_cost.proofs.costs.plan_cost.Given as goal
 

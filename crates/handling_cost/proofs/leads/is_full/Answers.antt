@@ -1,6 +1,6 @@
 use Rattle.std.proofs.Common.{◌≡◌, ◌∙◌, ℕ, ◌-◌, ◌^◌, ap, sym, arith}
 use Rattle.std.proofs.lemmas.Bool.{eqb-true, eq-eqb}
-use Rattle.handling_cost.specs.StepCost.{bend_count}
+use Rattle.job_setup.specs.Setup.{bend_count}
 use Rattle.handling_cost.proofs.Keys.{full_from_number, number_of_full}
 use Rattle.handling_cost.proofs.leads.is_full.Goals as goal
 

@@ -2,7 +2,8 @@ use Rattle.std.proofs.Common.{◌≡◌, ◌∙◌, ℕ, ◌-◌, ◌<◌, ap, s
 use Rattle.std.specs.Prelude.{max}
 use Rattle.std.specs.List.{range_with_len}
 use Rattle.fold_boxes.specs.Shapes.{ShapeData}
-use Rattle.handling_cost.specs.StepCost.{bend_count, is_lead}
+use Rattle.job_setup.specs.Setup.{bend_count}
+use Rattle.job_setup.specs.StrokeGroup.{is_lead}
 use Rattle.handling_cost.specs.Bound.{greatest, nearest, meeting_stages, farthest}
 use Rattle.handling_cost.proofs.LeadTests.{greatest_next, leads_skip}
 use Rattle.handling_cost.proofs.Small.{farthest_small}

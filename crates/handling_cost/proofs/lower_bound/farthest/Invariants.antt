@@ -1,6 +1,6 @@
 use Rattle.std.proofs.Common.{◌≡◌, ◌-◌, map, filter}
 use Rattle.std.specs.List.{range_with_len}
-use Rattle.handling_cost.specs.StepCost.{is_lead}
+use Rattle.job_setup.specs.StrokeGroup.{is_lead}
 use Rattle.handling_cost.specs.Bound.{greatest, nearest, meeting_stages}
 use Rattle.handling_cost.proofs.lower_bound.farthest.Given as goal
 

@@ -1,7 +1,8 @@
 use Rattle.std.proofs.Common.{◌≡◌, ◌∙◌, ℕ, ◌+◌, ◌-◌, ◌<◌, ap, sym, length, filter, arith}
 use Rattle.std.specs.List.{range_with_len}
 use Rattle.fold_boxes.specs.Shapes.{ShapeData}
-use Rattle.handling_cost.specs.StepCost.{bend_count, is_lead}
+use Rattle.job_setup.specs.Setup.{bend_count}
+use Rattle.job_setup.specs.StrokeGroup.{is_lead}
 use Rattle.handling_cost.proofs.Counts.{at_most_all}
 use Rattle.handling_cost.proofs.LeadTests.{count_next, leads_skip}
 use Rattle.handling_cost.proofs.lower_bound.leads_left.Goals.{then-is_lead, else-is_lead}

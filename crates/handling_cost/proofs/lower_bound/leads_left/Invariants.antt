@@ -1,6 +1,6 @@
 use Rattle.std.proofs.Common.{◌≡◌, ◌-◌, length, filter}
 use Rattle.std.specs.List.{range_with_len}
-use Rattle.handling_cost.specs.StepCost.{is_lead}
+use Rattle.job_setup.specs.StrokeGroup.{is_lead}
 use Rattle.handling_cost.proofs.lower_bound.leads_left.Given as goal
 
 abbrev pub invariant-loop-bend : goal.invariant-loop-bend

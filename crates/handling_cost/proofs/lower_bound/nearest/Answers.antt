@@ -5,7 +5,7 @@ use Rattle.brake_base.specs.Masks.{has}
 use Rattle.job_setup.specs.StrokeGroup.{in_group}
 use Rattle.job_setup.specs.StageOf.{stage_of}
 use Rattle.job_setup.specs.Reasons.{meets}
-use Rattle.handling_cost.specs.StepCost.{stage_count}
+use Rattle.job_setup.specs.Setup.{stage_count}
 use Rattle.handling_cost.specs.Bound.{nearest}
 use Rattle.handling_cost.specs.Nearest.{lesser}
 use Rattle.handling_cost.proofs.LeadTests.{nearest_next, nearest_skip, nearest_or_none}

@@ -10,7 +10,7 @@ use Rattle.job_setup.specs.Near.{IsNearBox}
 use Rattle.job_setup.proofs.obstacle.lower_group.Goals as goal
 
 pub half_opening-half_opening-requires : goal.half_opening-half_opening-requires
-half_opening-half_opening-requires c = subst (λ (s : StageData). IsDie s.die) (sym c.stage_at.ensures.value) (c.part.ensures.valid.setup.stages c.args.stage no_stage c.requires.stage).die
+half_opening-half_opening-requires c = subst (λ (s : StageData). IsDie s.die) (sym c.stage_at.ensures.value) (c.part.ensures.valid.setup.stages.each c.args.stage no_stage c.requires.stage).die
 
 pub lower_obstacles-requires-clause-near : goal.lower_obstacles-requires-clause-near
 lower_obstacles-requires-clause-near c = subst (λ (xs : List Fixed). All IsNearBox xs) (sym c.as_slice.ensures.value) c.lower_boxes-boxes.ensures.near

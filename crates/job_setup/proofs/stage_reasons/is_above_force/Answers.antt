@@ -9,7 +9,7 @@ use Rattle.job_setup.proofs.stage_reasons.is_above_force.Goals as goal
 pub returns : goal.returns
 returns c =
     let job = c.args.job.now in
-    let force = c.setup.ensures.valid.setup.force in
+    let force = c.setup.ensures.valid.setup.rules.force in
     let same = ap (λ (s : SetupData). s.force) c.setup.ensures.value in
     let limit : to_z w64 (of_z w64 (pos 1000 *ℤ to_z w64 (of_z w64 c.setup.result.now.force))) ≡ pos 1000 *ℤ job.setup.force = omega (arith, ints, same, force.bottom, force.top) in
     let fits : FitsSigned w64 c.force_of.result = search rules in

@@ -24,7 +24,7 @@ returns c =
       die = die_data c.die_shape.result;
       x0 = c.args.text.now.at;
       x1 = c.args.text.now.at +ℤ c.total.result;
-      pieces = c.copied.result.items;
+      pieces = c.copy_pieces.result.items;
       load = c.stage_load.result;
       limit = c.least_limit.result;
     }) (stage_with (part_data c.args.part.now) (map load_data c.args.loads.now) (stage_text_data c.args.text.now) (punch_data c.args.punch.now) (die_data c.args.die.now)) = λ i. record {
@@ -32,7 +32,7 @@ returns c =
       die = c.die_shape.ensures i;
       x0 = c.args.text.now.at;
       x1 = c.args.text.now.at +ℤ long i;
-      pieces = c.copied.ensures i;
+      pieces = c.copy_pieces.ensures i;
       load = c.stage_load.ensures i;
       limit = limit i;
     } in

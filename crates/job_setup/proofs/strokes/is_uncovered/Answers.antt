@@ -13,7 +13,7 @@ overflow_sub-result c =
 pub overflow_add-result : goal.overflow_add-result
 overflow_add-result c =
     let near = c.requires in
-    let few = c.setup.ensures.valid.setup.uncovered in
+    let few = c.setup.ensures.valid.setup.rules.uncovered in
     let uncovered = ap (λ (s : SetupData). s.uncovered) c.setup.ensures.value in
     omega (arith, ints, near.x0.0, near.x0.1, near.x1.0, near.x1.1, uncovered, few.bottom, few.top)
 
@@ -28,7 +28,7 @@ returns c =
     let near = c.requires in
     let stage = c.args.stage.now in
     let job = c.args.job.now in
-    let few = c.setup.ensures.valid.setup.uncovered in
+    let few = c.setup.ensures.valid.setup.rules.uncovered in
     let uncovered = ap (λ (s : SetupData). s.uncovered) c.setup.ensures.value in
     let from = c.span-from.ensures.near.from in
     let to = c.span-from.ensures.near.to in

@@ -16,4 +16,4 @@ returns-clause-value c =
     let a_fits : SFits w64 c.side_point-x.result.0 = search rules in
     let b_fits : SFits w64 c.side_point-x.result.1 = search rules in
     let point : vector c.side_point-x.result.0 c.side_point-x.result.1 (pos 0) ≡ side_point joint.side (face_data c.face_of-parent.result.now) joint.at (pos 2 *ℤ c.args.q) = simp to_z-of_z at c.side_point-x.ensures.value in
-    simp to_z-of_z (flat_step_is faces c.args.q c.args.bend joint _ _ _ _ c.joint_of-joint.ensures.value c.face_of-parent.ensures.value c.side_turn.ensures.value point)
+    simp to_z-of_z (flat_step_is faces c.args.q c.args.bend joint _ _ _ _ c.joint_of-joint.ensures.value c.face_of-parent.ensures.value c.quarter_turns_of.ensures.value point)

@@ -9,7 +9,8 @@ use Rattle.unfolder.specs.declared.blank.FlatRect.{FlatRect}
 use Rattle.unfolder.specs.declared.blank.UnfoldFault.TheVariants.{CoreTooSmall, BendOffFace}
 use Rattle.unfolder.specs.Near.{IsRectWithin, IsLineWithin}
 use Rattle.unfolder.specs.Cores.{is_too_small, is_off_face, parent_line}
-use Rattle.unfolder.specs.Blank.{cores_of, flat_face, flat_faces, bend_lines, bend_numbers, refused, flat_overlap, is_overlap_in, pairs_below}
+use Rattle.toml_fields.specs.Results.{refuse_found}
+use Rattle.unfolder.specs.Blank.{cores_of, flat_face, flat_faces, bend_lines, bend_numbers, flat_overlap, is_overlap_in, pairs_below}
 use Rattle.unfolder.specs.Frames.{AreFrames}
 use Rattle.unfolder.proofs.Layouts.{stops_at_cores, stops_at_lines, stops_at_overlaps, gives_blank, gives_fault, off_edges_are, flat_faces_are, bend_lines_are}
 use Rattle.unfolder.proofs.PlaceLaws.{folds_back}
@@ -29,7 +30,7 @@ returns-in_err-check_cores-clause-value c =
     let faces = map face_data c.args.part.now.faces.items in
     let part = part_data c.args.part.now in
     let cores_are : c.as_slice.result.now ≡ cores_of faces c.args.q = c.as_slice.ensures.value ∙ (simp to_z-of_z at c.cores-cores.ensures.value) in
-    let first : Err c.in_err-check_cores.field-0.0 ≡ refused CoreTooSmall (position is_too_small (cores_of faces c.args.q)) = c.in_err-check_cores.ensures ∙ ap (λ (rs : List FlatRect). refused CoreTooSmall (position is_too_small rs)) cores_are in
+    let first : Err c.in_err-check_cores.field-0.0 ≡ refuse_found (position is_too_small (cores_of faces c.args.q)) CoreTooSmall = c.in_err-check_cores.ensures ∙ ap (λ (rs : List FlatRect). refuse_found (position is_too_small rs) CoreTooSmall) cores_are in
     let answer = err_from_is_err_and c.from_residual.result c.from_residual.ensures.1 in
     gives_fault _ _ c.in_err-check_cores.field-0.0 (answer.1 ∙ ap Err answer.2) (stops_at_cores part c.args.q _ first)
 
@@ -40,8 +41,8 @@ returns-in_err-check_lines-clause-value c =
     let part = part_data c.args.part.now in
     let cores_are : c.cores-cores.result.items ≡ cores_of faces c.args.q = simp to_z-of_z at c.cores-cores.ensures.value in
     let lines_are : c.parent_lines-lines.result.items ≡ map (parent_line faces c.args.q) (bend_numbers faces) = simp to_z-of_z at c.parent_lines-lines.ensures.value in
-    let first : Ok tt ≡ refused CoreTooSmall (position is_too_small (cores_of faces c.args.q)) = c.in_ok-check_cores.ensures ∙ ap (λ (rs : List FlatRect). refused CoreTooSmall (position is_too_small rs)) (c.as_slice.ensures.value ∙ cores_are) in
-    let second : Err c.in_err-check_lines.field-0.0 ≡ refused BendOffFace (find (is_off_face faces c.args.q) (bend_numbers faces)) = c.in_err-check_lines.ensures ∙ ap (refused BendOffFace) (off_edges_are part c.requires.part c.args.q _ _ (c.as_slice-2.ensures.value ∙ cores_are) (c.as_slice-3.ensures.value ∙ lines_are)) in
+    let first : Ok tt ≡ refuse_found (position is_too_small (cores_of faces c.args.q)) CoreTooSmall = c.in_ok-check_cores.ensures ∙ ap (λ (rs : List FlatRect). refuse_found (position is_too_small rs) CoreTooSmall) (c.as_slice.ensures.value ∙ cores_are) in
+    let second : Err c.in_err-check_lines.field-0.0 ≡ refuse_found (find (is_off_face faces c.args.q) (bend_numbers faces)) BendOffFace = c.in_err-check_lines.ensures ∙ ap (λ o. refuse_found o BendOffFace) (off_edges_are part c.requires.part c.args.q _ _ (c.as_slice-2.ensures.value ∙ cores_are) (c.as_slice-3.ensures.value ∙ lines_are)) in
     let answer = err_from_is_err_and c.from_residual-in_err-check_lines.result c.from_residual-in_err-check_lines.ensures.1 in
     gives_fault _ _ c.in_err-check_lines.field-0.0 (answer.1 ∙ ap Err answer.2) (stops_at_lines part c.args.q _ first second)
 
@@ -53,15 +54,15 @@ returns-in_err-check_overlaps-clause-value c =
     let part = part_data c.args.part.now in
     let cores_are : c.cores-cores.result.items ≡ cores_of faces c.args.q = simp to_z-of_z at c.cores-cores.ensures.value in
     let lines_are : c.parent_lines-lines.result.items ≡ map (parent_line faces c.args.q) (bend_numbers faces) = simp to_z-of_z at c.parent_lines-lines.ensures.value in
-    let first : Ok tt ≡ refused CoreTooSmall (position is_too_small (cores_of faces c.args.q)) = c.in_ok-check_cores.ensures ∙ ap (λ (rs : List FlatRect). refused CoreTooSmall (position is_too_small rs)) (c.as_slice.ensures.value ∙ cores_are) in
-    let second : Ok tt ≡ refused BendOffFace (find (is_off_face faces c.args.q) (bend_numbers faces)) = c.in_ok-check_lines.ensures ∙ ap (refused BendOffFace) (off_edges_are part c.requires.part c.args.q _ _ (c.as_slice-2.ensures.value ∙ cores_are) (c.as_slice-3.ensures.value ∙ lines_are)) in
+    let first : Ok tt ≡ refuse_found (position is_too_small (cores_of faces c.args.q)) CoreTooSmall = c.in_ok-check_cores.ensures ∙ ap (λ (rs : List FlatRect). refuse_found (position is_too_small rs) CoreTooSmall) (c.as_slice.ensures.value ∙ cores_are) in
+    let second : Ok tt ≡ refuse_found (find (is_off_face faces c.args.q) (bend_numbers faces)) BendOffFace = c.in_ok-check_lines.ensures ∙ ap (λ o. refuse_found o BendOffFace) (off_edges_are part c.requires.part c.args.q _ _ (c.as_slice-2.ensures.value ∙ cores_are) (c.as_slice-3.ensures.value ∙ lines_are)) in
     let frames_are : AreFrames faces c.args.q c.as_slice-5.result.now = subst (AreFrames faces c.args.q) (sym c.as_slice-5.ensures.value) (simp to_z-of_z at c.frames-frames.ensures.each) in
     let long = length-map items face_data in
     let frame_count : length c.as_slice-5.result.now ≡ length faces = ap length c.as_slice-5.ensures.value ∙ c.frames-frames.ensures.count ∙ sym long in
     let core_count : length c.as_slice-4.result.now ≡ length faces = ap length c.as_slice-4.ensures.value ∙ c.cores-cores.ensures.count ∙ sym long in
     let faces_are : c.as_slice-6.result.now ≡ flat_faces faces c.args.q = c.as_slice-6.ensures.value ∙ c.flat_faces-faces.ensures.value ∙ flat_faces_are part c.args.q _ _ _ (c.as_slice-4.ensures.value ∙ cores_are) frames_are frame_count core_count in
     let face_total : length c.as_slice-6.result.now ≡ length faces = ap length faces_are ∙ length-map-range_with_len (flat_face faces c.args.q) 0 (length faces) in
-    let third : Err c.in_err-check_overlaps.field-0.0 ≡ refused flat_overlap (find (is_overlap_in (flat_faces faces c.args.q)) (pairs_below (length faces))) = c.in_err-check_overlaps.ensures ∙ (λ i. refused flat_overlap (find (is_overlap_in (faces_are i)) (pairs_below (face_total i)))) in
+    let third : Err c.in_err-check_overlaps.field-0.0 ≡ refuse_found (find (is_overlap_in (flat_faces faces c.args.q)) (pairs_below (length faces))) flat_overlap = c.in_err-check_overlaps.ensures ∙ (λ i. refuse_found (find (is_overlap_in (faces_are i)) (pairs_below (face_total i))) flat_overlap) in
     let answer = err_from_is_err_and c.from_residual-in_err-check_overlaps.result c.from_residual-in_err-check_overlaps.ensures.1 in
     gives_fault _ _ c.in_err-check_overlaps.field-0.0 (answer.1 ∙ ap Err answer.2) (stops_at_overlaps part c.args.q _ first second third)
 
@@ -73,8 +74,8 @@ returns-clause-value c =
     let part = part_data c.args.part.now in
     let cores_are : c.cores-cores.result.items ≡ cores_of faces c.args.q = simp to_z-of_z at c.cores-cores.ensures.value in
     let lines_are : c.parent_lines-lines.result.items ≡ map (parent_line faces c.args.q) (bend_numbers faces) = simp to_z-of_z at c.parent_lines-lines.ensures.value in
-    let first : Ok tt ≡ refused CoreTooSmall (position is_too_small (cores_of faces c.args.q)) = c.in_ok-check_cores.ensures ∙ ap (λ (rs : List FlatRect). refused CoreTooSmall (position is_too_small rs)) (c.as_slice.ensures.value ∙ cores_are) in
-    let second : Ok tt ≡ refused BendOffFace (find (is_off_face faces c.args.q) (bend_numbers faces)) = c.in_ok-check_lines.ensures ∙ ap (refused BendOffFace) (off_edges_are part c.requires.part c.args.q _ _ (c.as_slice-2.ensures.value ∙ cores_are) (c.as_slice-3.ensures.value ∙ lines_are)) in
+    let first : Ok tt ≡ refuse_found (position is_too_small (cores_of faces c.args.q)) CoreTooSmall = c.in_ok-check_cores.ensures ∙ ap (λ (rs : List FlatRect). refuse_found (position is_too_small rs) CoreTooSmall) (c.as_slice.ensures.value ∙ cores_are) in
+    let second : Ok tt ≡ refuse_found (find (is_off_face faces c.args.q) (bend_numbers faces)) BendOffFace = c.in_ok-check_lines.ensures ∙ ap (λ o. refuse_found o BendOffFace) (off_edges_are part c.requires.part c.args.q _ _ (c.as_slice-2.ensures.value ∙ cores_are) (c.as_slice-3.ensures.value ∙ lines_are)) in
     let long = length-map items face_data in
     let all_frames : AreFrames faces c.args.q c.frames-frames.result.items = simp to_z-of_z at c.frames-frames.ensures.each in
     let frames_are : AreFrames faces c.args.q c.as_slice-5.result.now = subst (AreFrames faces c.args.q) (sym c.as_slice-5.ensures.value) all_frames in
@@ -83,7 +84,7 @@ returns-clause-value c =
     let faces_are : c.flat_faces-faces.result.items ≡ flat_faces faces c.args.q = c.flat_faces-faces.ensures.value ∙ flat_faces_are part c.args.q _ _ _ (c.as_slice-4.ensures.value ∙ cores_are) frames_are frame_count core_count in
     let seen_are = c.as_slice-6.ensures.value ∙ faces_are in
     let face_total : length c.as_slice-6.result.now ≡ length faces = ap length seen_are ∙ length-map-range_with_len (flat_face faces c.args.q) 0 (length faces) in
-    let third : Ok tt ≡ refused flat_overlap (find (is_overlap_in (flat_faces faces c.args.q)) (pairs_below (length faces))) = c.in_ok-check_overlaps.ensures ∙ (λ i. refused flat_overlap (find (is_overlap_in (seen_are i)) (pairs_below (face_total i)))) in
+    let third : Ok tt ≡ refuse_found (find (is_overlap_in (flat_faces faces c.args.q)) (pairs_below (length faces))) flat_overlap = c.in_ok-check_overlaps.ensures ∙ (λ i. refuse_found (find (is_overlap_in (seen_are i)) (pairs_below (face_total i))) flat_overlap) in
     let frames_are-2 : AreFrames faces c.args.q c.as_slice-7.result.now = subst (AreFrames faces c.args.q) (sym c.as_slice-7.ensures.value) all_frames in
     let frame_count-2 : length c.as_slice-7.result.now ≡ length faces = ap length c.as_slice-7.ensures.value ∙ c.frames-frames.ensures.count ∙ sym long in
     let bends_are : c.bend_lines.result.items ≡ bend_lines faces c.args.q = c.bend_lines.ensures.value ∙ bend_lines_are part c.requires.part c.args.q _ _ (c.as_slice-8.ensures.value ∙ lines_are) frames_are-2 frame_count-2 in
@@ -96,7 +97,7 @@ returns-clause-folds_back c =
     let faces = map face_data items in
     let part = part_data c.args.part.now in
     let cores_are : c.as_slice.result.now ≡ cores_of faces c.args.q = c.as_slice.ensures.value ∙ (simp to_z-of_z at c.cores-cores.ensures.value) in
-    let first : Ok tt ≡ refused CoreTooSmall (position is_too_small (cores_of faces c.args.q)) = c.in_ok-check_cores.ensures ∙ ap (λ (rs : List FlatRect). refused CoreTooSmall (position is_too_small rs)) cores_are in
+    let first : Ok tt ≡ refuse_found (position is_too_small (cores_of faces c.args.q)) CoreTooSmall = c.in_ok-check_cores.ensures ∙ ap (λ (rs : List FlatRect). refuse_found (position is_too_small rs) CoreTooSmall) cores_are in
     let lines_are : c.parent_lines-lines.result.items ≡ map (parent_line faces c.args.q) (bend_numbers faces) = simp to_z-of_z at c.parent_lines-lines.ensures.value in
     let all_frames : AreFrames faces c.args.q c.frames-frames.result.items = simp to_z-of_z at c.frames-frames.ensures.each in
     let frames_are : AreFrames faces c.args.q c.as_slice-7.result.now = subst (AreFrames faces c.args.q) (sym c.as_slice-7.ensures.value) all_frames in
@@ -111,9 +112,9 @@ returns-clause-abuts c =
     let faces = map face_data items in
     let part = part_data c.args.part.now in
     let cores_are : c.as_slice.result.now ≡ cores_of faces c.args.q = c.as_slice.ensures.value ∙ (simp to_z-of_z at c.cores-cores.ensures.value) in
-    let first : Ok tt ≡ refused CoreTooSmall (position is_too_small (cores_of faces c.args.q)) = c.in_ok-check_cores.ensures ∙ ap (λ (rs : List FlatRect). refused CoreTooSmall (position is_too_small rs)) cores_are in
+    let first : Ok tt ≡ refuse_found (position is_too_small (cores_of faces c.args.q)) CoreTooSmall = c.in_ok-check_cores.ensures ∙ ap (λ (rs : List FlatRect). refuse_found (position is_too_small rs) CoreTooSmall) cores_are in
     let lines_are : c.parent_lines-lines.result.items ≡ map (parent_line faces c.args.q) (bend_numbers faces) = simp to_z-of_z at c.parent_lines-lines.ensures.value in
-    let second : Ok tt ≡ refused BendOffFace (find (is_off_face faces c.args.q) (bend_numbers faces)) = c.in_ok-check_lines.ensures ∙ ap (refused BendOffFace) (off_edges_are part c.requires.part c.args.q _ _ (c.as_slice-2.ensures.value ∙ (simp to_z-of_z at c.cores-cores.ensures.value)) (c.as_slice-3.ensures.value ∙ lines_are)) in
+    let second : Ok tt ≡ refuse_found (find (is_off_face faces c.args.q) (bend_numbers faces)) BendOffFace = c.in_ok-check_lines.ensures ∙ ap (λ o. refuse_found o BendOffFace) (off_edges_are part c.requires.part c.args.q _ _ (c.as_slice-2.ensures.value ∙ (simp to_z-of_z at c.cores-cores.ensures.value)) (c.as_slice-3.ensures.value ∙ lines_are)) in
     let all_frames : AreFrames faces c.args.q c.frames-frames.result.items = simp to_z-of_z at c.frames-frames.ensures.each in
     let frames_are : AreFrames faces c.args.q c.as_slice-7.result.now = subst (AreFrames faces c.args.q) (sym c.as_slice-7.ensures.value) all_frames in
     let frame_count : length c.as_slice-7.result.now ≡ length faces = ap length c.as_slice-7.ensures.value ∙ c.frames-frames.ensures.count ∙ sym (length-map items face_data) in

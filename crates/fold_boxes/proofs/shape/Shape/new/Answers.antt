@@ -19,4 +19,4 @@ invariant_of-result c =
       hinge_count = c.hinges.ensures.count ∙ sym (length-map c.args.part.now.faces.items face_data);
       hinges_are = simp to_z-of_z at c.hinges.ensures.each;
     } in
-    subst (λ (s : ShapeData). Keeps s c.cores.result.items c.hinges.result.items) (λ i. record { part = sym c.copied.ensures i; q = sym (to_z-of_z w64 q q_fits) i }) kept
+    subst (λ (s : ShapeData). Keeps s c.cores.result.items c.hinges.result.items) (λ i. record { part = sym c.copy.ensures i; q = sym (to_z-of_z w64 q q_fits) i }) kept

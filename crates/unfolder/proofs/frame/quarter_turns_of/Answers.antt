@@ -1,5 +1,5 @@
 use Rattle.brake_base.specs.Turns.{apply, multiply}
-use Rattle.unfolder.proofs.frame.side_turn.Goals as goal
+use Rattle.unfolder.proofs.frame.quarter_turns_of.Goals as goal
 
 pub returns-in-E-clause-value : goal.returns-in-E-clause-value
 unfolding apply multiply

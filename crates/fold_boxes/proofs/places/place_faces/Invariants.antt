@@ -2,7 +2,7 @@ use Rattle.std.proofs.Common.{◌≡◌, ◌<◌, length}
 use Rattle.std.specs.Prelude.{All}
 use Rattle.brake_base.specs.declared.space.Place.{Place}
 use Rattle.fold_boxes.specs.Places.{ArePlaces}
-use Rattle.fold_boxes.proofs.places.placed.Given as goal
+use Rattle.fold_boxes.proofs.places.place_faces.Given as goal
 
 abbrev pub invariant-loop-bend : goal.invariant-loop-bend
 invariant-loop-bend l = record {

@@ -4,7 +4,7 @@ use Rattle.brake_base.specs.declared.space.Place.{Place}
 use Rattle.unfolder.proofs.Listing.{all_pushed}
 use Rattle.fold_boxes.specs.Places.{IsPlaceOf}
 use Rattle.fold_boxes.proofs.Folding.{read_place, push_place, root_place}
-use Rattle.fold_boxes.proofs.places.placed.Goals as goal
+use Rattle.fold_boxes.proofs.places.place_faces.Goals as goal
 
 abbrev IsTurned : Place → Type 0
 IsTurned place = place.turn < 24

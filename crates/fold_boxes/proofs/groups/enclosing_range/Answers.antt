@@ -2,7 +2,7 @@ use Rattle.std.proofs.Common.{ℤ, Option, subst, arith}
 use Rattle.std.specs.Prelude.{IfSome}
 use Rattle.std.proofs.lemmas.Int.{ints, clamps}
 use Rattle.fold_boxes.specs.Spans.{IsNearRange}
-use Rattle.fold_boxes.proofs.groups.joined.Goals as goal
+use Rattle.fold_boxes.proofs.groups.enclosing_range.Goals as goal
 
 pub returns-in-Some-clause-near : goal.returns-in-Some-clause-near
 returns-in-Some-clause-near c = λ one second.
