@@ -1,4 +1,4 @@
--- The decimal of a number is read as this number.
+-- The decimal of a number is read as this number: what `put_number` writes, `signed` reads.
 use Rattle.std.proofs.Common.{◌≡◌, ℕ, zero, suc, ◌^◌, ◌<◌, ◌≤◌, ◌==◌, true, false, List, length, get_or, ℤ, pos, negsuc, Some, ap, refl, decimal, arith}
 use Rattle.std.specs.Prelude.{unsigned_abs, slice_index}
 use Rattle.std.specs.Fmt.{signed_decimal}

@@ -1,7 +1,6 @@
 //! Words and numbers behind a text.
-ghost use Rattle.std.specs.Prelude.{◌≡◌, ◌^◌, ◌<◌, ◌++◌, OnOk, OnErr, Some, unsigned_abs};
+ghost use Rattle.std.specs.Prelude.{◌≡◌, ◌++◌, OnOk, OnErr};
 ghost use Rattle.std.specs.Fmt.{signed_decimal};
-ghost use Rattle.brake_text.specs.Numbers.{signed_of};
 
 use itoa::Buffer;
 use std::alloc::AllocError;
@@ -19,8 +18,6 @@ pub fn put_word(out: &mut Vec<u8>, word: &[u8]) -> Result<(), AllocError>
 pub fn put_number(out: &mut Vec<u8>, value: i64) -> Result<(), AllocError>
     ensures ok { OnOk result (out.new.items ≡ out.old.items ++ signed_decimal value) }
     ensures err { OnErr result (out.new.items ≡ out.old.items) }
-    // `signed` reads it back.
-    ensures read_back { unsigned_abs value < 10 ^ 18 → signed_of (signed_decimal value) ≡ Some value }
 {
     let mut buffer = Buffer::new();
     out.extend_from_slice(buffer.format(value).as_bytes())
