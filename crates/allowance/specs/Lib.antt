@@ -1,2 +1,3 @@
 pub mod HalfDeduction
 pub mod AllowTable
+pub mod FaultNumbers

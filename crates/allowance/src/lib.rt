@@ -3,6 +3,7 @@
 
 mod bounds;
 mod deduction;
+mod fault_numbers;
 mod table;
 
 pub use bounds::{

@@ -12,3 +12,4 @@ pub mod Obstacles
 pub mod Reasons
 pub mod LegalGauge
 pub mod Near
+pub mod FaultNumbers

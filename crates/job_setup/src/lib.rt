@@ -2,6 +2,7 @@
 #![tactic(auto)]
 
 mod fault;
+mod fault_numbers;
 mod job;
 mod loads;
 mod making;

@@ -4,6 +4,7 @@
 pub mod bounds;
 mod boxes;
 mod fault;
+mod fault_numbers;
 mod machine;
 mod reader;
 mod stages;

@@ -2,3 +2,4 @@ pub mod Part
 pub mod Rules
 pub mod Rows
 pub mod PartFile
+pub mod FaultNumbers

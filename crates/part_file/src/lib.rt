@@ -4,6 +4,7 @@
 mod bounds;
 mod faces;
 mod fault;
+mod fault_numbers;
 mod part;
 mod reader;
 mod rows;

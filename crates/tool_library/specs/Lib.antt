@@ -1,3 +1,4 @@
 pub mod Tools
 pub mod Names
 pub mod ToolsFile
+pub mod FaultNumbers

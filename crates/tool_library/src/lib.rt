@@ -3,6 +3,7 @@
 
 pub mod bounds;
 mod fault;
+mod fault_numbers;
 mod lists;
 mod names;
 mod opening;

@@ -9,3 +9,4 @@ pub mod Around
 pub mod Fold
 pub mod Frames
 pub mod Edges
+pub mod FaultNumbers

@@ -4,6 +4,7 @@
 mod blank;
 mod bounds;
 pub mod cores;
+mod fault_numbers;
 mod frame;
 mod layout;
 mod refusals;
