@@ -1,5 +1,6 @@
 -- The commands: the forms of their words, and what they answer.
-use Rattle.std.specs.Prelude.{◌≡◌, ℕ, List, [], ◌∷◌, codes, Bool, Option, Some, None, if◌then◌else◌}
+use Rattle.std.specs.Prelude.{◌≡◌, ℕ, List, [], ◌∷◌, ◌++◌, codes, Bool, Option, Some, None, if◌then◌else◌}
+use Rattle.std.specs.List.{flat_map}
 use Rattle.command_runner.specs.declared.kind.Kind.{Kind}
 use Rattle.command_runner.specs.declared.kind.Kind.TheVariants.{Literal, Input, Certificate, Table, Output, NumberedOutput, Number}
 use Rattle.command_runner.specs.declared.kind.Keyword.TheVariants as word
@@ -26,9 +27,26 @@ form_of SettleOver = Literal word.Settle ∷ Input ∷ Input ∷ Input ∷ Outpu
 form_of Merge = Literal word.Merge ∷ Table ∷ Table ∷ Output ∷ []
 form_of Prove = Literal word.Prove ∷ Table ∷ []
 
--- the forms of the words
+-- the lines of the usage text: the forms of the words
+abbrev pub usage_lines : List (List ℕ)
+usage_lines =
+    codes "usage: brake blank PART TOOLS" ∷
+    codes "usage: brake plan PART TOOLS MACHINE CERT [--budget N]" ∷
+    codes "usage: brake check CERT [PART TOOLS MACHINE]" ∷
+    codes "usage: brake trial N" ∷
+    codes "usage: brake why PART TOOLS MACHINE" ∷
+    codes "usage: brake setups PART TOOLS MACHINE SETUPS CERT" ∷
+    codes "usage: brake settle PART TOOLS MACHINE OUT LOW HIGH [BASE]" ∷
+    codes "usage: brake merge TABLE TABLE OUT" ∷
+    codes "usage: brake prove TABLE" ∷
+    []
+
+-- a line ends with a line feed
+unfoldable pub ended_line : List ℕ → List ℕ
+ended_line line = line ++ codes "\n"
+
 unfoldable pub usage_text : List ℕ
-usage_text = codes "usage: brake blank PART TOOLS\nusage: brake plan PART TOOLS MACHINE CERT [--budget N]\nusage: brake check CERT [PART TOOLS MACHINE]\nusage: brake trial N\nusage: brake why PART TOOLS MACHINE\nusage: brake setups PART TOOLS MACHINE SETUPS CERT\nusage: brake settle PART TOOLS MACHINE OUT LOW HIGH [BASE]\nusage: brake merge TABLE TABLE OUT\nusage: brake prove TABLE\n"
+usage_text = flat_map ended_line usage_lines
 
 -- the answer to words that have no form, and to those of a command that isn't built yet
 abbrev pub usage : AnswerData

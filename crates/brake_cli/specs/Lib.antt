@@ -3,3 +3,4 @@ pub mod Stops
 pub mod BlankAnswer
 pub mod Commands
 pub mod Run
+pub mod Words

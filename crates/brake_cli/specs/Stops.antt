@@ -5,8 +5,10 @@ use Rattle.part_file.specs.declared.fault.PartFault.{PartFault}
 use Rattle.part_file.specs.declared.fault.PartFault.TheVariants as part
 use Rattle.tool_library.specs.declared.fault.ToolFault.{ToolFault}
 use Rattle.tool_library.specs.declared.fault.ToolFault.TheVariants as tool
+use Rattle.machine_file.specs.declared.fault.MachineFault.{MachineFault}
+use Rattle.machine_file.specs.declared.fault.MachineFault.TheVariants as machine
 use Rattle.job_setup.specs.declared.fault.JobFault.{JobFault}
-use Rattle.job_setup.specs.JobOf.{FileFault, part_refused, tools_refused, job_refused}
+use Rattle.job_setup.specs.JobOf.{FileFault, part_refused, tools_refused, machine_refused, job_refused}
 use Rattle.brake_cli.specs.declared.refusal.Refusal.{Refusal}
 use Rattle.brake_cli.specs.declared.refusal.Refusal.TheVariants as refusal
 use Rattle.brake_cli.specs.declared.refusal.Stop.{Stop}
@@ -16,6 +18,7 @@ use Rattle.brake_cli.specs.declared.refusal.Stop.TheVariants.{Refused, NoMemory}
 abbrev pub refusal_data : Refusal → FileFault
 refusal_data (refusal.Part fault) = part_refused fault
 refusal_data (refusal.Tools fault) = tools_refused fault
+refusal_data (refusal.Machine fault) = machine_refused fault
 refusal_data (refusal.Job fault) = job_refused fault
 
 -- the stop that a refusal of each step is
@@ -26,6 +29,10 @@ of_part fault = Refused (refusal.Part fault)
 abbrev pub of_tools : ToolFault → Stop
 of_tools tool.NoMemory = NoMemory
 of_tools fault = Refused (refusal.Tools fault)
+
+abbrev pub of_machine : MachineFault → Stop
+of_machine machine.NoMemory = NoMemory
+of_machine fault = Refused (refusal.Machine fault)
 
 abbrev pub of_job : JobFault → Stop
 of_job fault = Refused (refusal.Job fault)

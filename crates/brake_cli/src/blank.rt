@@ -17,7 +17,7 @@ use unfolder::unfold;
 
 /// The blank sheet of a part's file and a tools file, or the first refusal: of the part, of the
 /// tools, of the deduction, of the blank.
-#[tactic(auto, unfolding(job_setup::specs::JobOf::blank_in, job_setup::specs::JobOf::blank_of, crate::specs::BlankAnswer::blank_sheet_of))]
+#[tactic(auto, using(setup_sheet::proofs::Bounds::blank_is_bounded), unfolding(job_setup::specs::JobOf::blank_in, job_setup::specs::JobOf::blank_of, crate::specs::BlankAnswer::blank_sheet_of))]
 fn blank_sheet_of(alloc: Global, part: &[u8], tools: &[u8]) -> Result<Vec<u8>, Stop>
     ensures { Reads result (blank_sheet_of part.now tools.now) }
 {

@@ -8,7 +8,8 @@ ghost use Rattle.brake_cli.specs.declared.command.Command.TheVariants.{Blank};
 ghost use Rattle.brake_cli.specs.Commands.{command_of};
 ghost use Rattle.brake_cli.specs.Run.{form_for, meaning_for, RunEnds, told_blank};
 
-use crate::command::{read_words, usage};
+use crate::command::read_words;
+use crate::usage::usage;
 use brake_io::{Shelf, Sink};
 use command_runner::{Status, deliver, run};
 use std::alloc::Global;

@@ -2,10 +2,11 @@
 ghost use Rattle.std.specs.Prelude.{◌≡◌, IfOk, IfSome, IsTrue, map, string_bytes};
 ghost use Rattle.command_runner.specs.Answers.{answer_data};
 ghost use Rattle.command_runner.specs.Kinds.{is_form};
-ghost use Rattle.brake_cli.specs.Commands.{form_of, meaning_of, usage_text, usage, first_of, command_of};
+ghost use Rattle.brake_cli.specs.Commands.{form_of, meaning_of, first_of, command_of};
 
 use crate::blank;
-use command_runner::{Answer, Keyword, Kind, Status, is_form};
+use crate::usage::usage;
+use command_runner::{Answer, Keyword, Kind, is_form};
 use std::alloc::{AllocError, Global};
 
 /// A command, by the form of its words.
@@ -64,19 +65,6 @@ const MASK: Kind = Kind::Number {
     least: 0,
     most: 4095,
 };
-
-/// The forms of the words.
-const USAGE: &[u8] =
-    b"usage: brake blank PART TOOLS\nusage: brake plan PART TOOLS MACHINE CERT [--budget N]\nusage: brake check CERT [PART TOOLS MACHINE]\nusage: brake trial N\nusage: brake why PART TOOLS MACHINE\nusage: brake setups PART TOOLS MACHINE SETUPS CERT\nusage: brake settle PART TOOLS MACHINE OUT LOW HIGH [BASE]\nusage: brake merge TABLE TABLE OUT\nusage: brake prove TABLE\n";
-
-/// The answer to words that have no form, and to those of a command that isn't built yet.
-#[tactic(auto, unfolding(crate::specs::Commands::usage_text))]
-pub fn usage(alloc: Global) -> Result<Answer, AllocError>
-    ensures answer { IfOk result (λ answer. answer_data answer ≡ usage) }
-    ensures status { IfOk result (λ answer. answer.status ≡ Status.Usage) }
-{
-    Answer::one_text(alloc, Status::Usage, Vec::from_slice(alloc, USAGE)?)
-}
 
 impl Command {
     /// The form of its words: the kind of each.

@@ -23,6 +23,9 @@ const SHEET: &str =
 const OVERLAP: &str =
     "material = \"S235\"\nthickness = 2000\nradius = 2000\n[[face]]\nname = \"f0\"\nwidth = 60000\nlength = 60000\n[[face]]\nname = \"f1\"\non = \"f0\"\nside = \"N\"\nat = 2000\nwidth = 56000\nlength = 40000\ndir = \"up\"\n[[face]]\nname = \"f2\"\non = \"f0\"\nside = \"E\"\nat = 2000\nwidth = 56000\nlength = 40000\ndir = \"up\"\n[[face]]\nname = \"f3\"\non = \"f2\"\nside = \"W\"\nat = 2000\nwidth = 38000\nlength = 60000\ndir = \"up\"\n[[face]]\nname = \"f4\"\non = \"f3\"\nside = \"W\"\nat = 20000\nwidth = 30000\nlength = 30000\ndir = \"up\"\n";
 
+const USAGE: &str =
+    "usage: brake blank PART TOOLS\nusage: brake plan PART TOOLS MACHINE CERT [--budget N]\nusage: brake check CERT [PART TOOLS MACHINE]\nusage: brake trial N\nusage: brake why PART TOOLS MACHINE\nusage: brake setups PART TOOLS MACHINE SETUPS CERT\nusage: brake settle PART TOOLS MACHINE OUT LOW HIGH [BASE]\nusage: brake merge TABLE TABLE OUT\nusage: brake prove TABLE\n";
+
 /// A text with one piece of it replaced.
 fn changed(alloc: Global, text: &str, from: &str, to: &str) -> Result<Vec<u8>, AllocError> {
     let Some((before, after)) = text.split_once(from) else {
@@ -40,6 +43,24 @@ fn padded(alloc: Global, text: &str, length: usize) -> Result<Vec<u8>, AllocErro
     file.push(b'#')?;
     for _ in file.len()..length {
         file.push(b'x')?;
+    }
+    Ok(file)
+}
+
+/// A part of these faces, each on the side N of the one before.
+fn chain(alloc: Global, names: &str) -> Result<Vec<u8>, AllocError> {
+    let mut file = Vec::from_slice(
+        alloc,
+        b"material = \"S235\"\nthickness = 2000\nradius = 2000\n",
+    )?;
+    for (i, name) in names.as_bytes().iter().enumerate() {
+        file.extend_from_slice(b"[[face]]\nwidth = 100000\nlength = 30000\nname = \"")?;
+        file.push(*name)?;
+        if i > 0 {
+            file.extend_from_slice(b"\"\nside = \"N\"\nat = 0\ndir = \"up\"\non = \"")?;
+            file.push(names.as_bytes()[i - 1])?;
+        }
+        file.extend_from_slice(b"\"\n")?;
     }
     Ok(file)
 }
@@ -122,6 +143,14 @@ fn refusals_of_the_files(rt: HostRuntime) -> Result<(), Fail> {
         ),
         (
             PART,
+            "name = \"leg\"",
+            "name = \"base\"",
+            TOOLS,
+            Status::Refused,
+            "refused part 8 1\n",
+        ),
+        (
+            PART,
             "material",
             "= 1\nmaterial",
             TOOLS,
@@ -151,6 +180,35 @@ fn refusals_of_the_files(rt: HostRuntime) -> Result<(), Fail> {
         assert_eq!(rt; run(rt.alloc(), "part", &mut shelf, &mut out)?, status);
         assert!(rt; out.bytes().starts_with(text.as_bytes()));
     }
+    Ok(())
+}
+
+#[test]
+fn thirteen_and_fourteen_faces(rt: HostRuntime) -> Result<(), Fail> {
+    for (names, status, text) in [
+        (
+            "abcdefghijklm",
+            Status::Done,
+            "blank\nsize 100000 343944\nface 0 a ",
+        ),
+        ("abcdefghijklmn", Status::Refused, "refused part 4\n"),
+    ] {
+        let part = chain(rt.alloc(), names)?;
+        let mut shelf = shelf_with(rt.alloc(), &part, TOOLS)?;
+        let mut out = MemSink::new(rt.alloc());
+        assert_eq!(rt; run(rt.alloc(), "part", &mut shelf, &mut out)?, status);
+        assert!(rt; out.bytes().starts_with(text.as_bytes()));
+    }
+    Ok(())
+}
+
+#[test]
+fn the_usage_text(rt: HostRuntime) -> Result<(), Fail> {
+    let mut shelf = MemShelf::new(rt.alloc());
+    let mut out = MemSink::new(rt.alloc());
+    let status = brake(rt.alloc(), &[], &mut shelf, &mut out);
+    assert_eq!(rt; status, Status::Usage);
+    assert_eq!(rt; out.bytes(), USAGE.as_bytes());
     Ok(())
 }
 

@@ -1,12 +1,12 @@
 -- The file words of a form, and words that have it.
-use Rattle.std.proofs.Common.{◌≡◌, ℕ, suc, ◌+◌, ◌<◌, ◌≤◌, Bool, true, false, List, [], ◌∷◌, ◌++◌, length, map, get_or, drop, string_bytes, String, Global, Option, Some, None, All, IsTrue, if◌then◌else◌, refl, sym, ap, ◌∙◌, append_assoc, append-nil, add-one, drop-cons, drop_of_length-le, arith}
+use Rattle.std.proofs.Common.{◌≡◌, ℕ, zero, suc, ◌+◌, ◌<◌, ◌≤◌, Bool, true, false, List, [], ◌∷◌, ◌++◌, length, map, get_or, drop, string_bytes, String, Global, Option, Some, None, All, IsTrue, if◌then◌else◌, refl, sym, ap, ◌∙◌, append_assoc, append-nil, add-one, drop-cons, drop_of_length-le, arith}
 use Rattle.std.proofs.lemmas.Bool.{and_parts, false≢true}
 use Rattle.std.proofs.lemmas.List.{length-map}
 use Rattle.std.proofs.lemmas.List.Elements.{All-nil, All-cons, All-append}
 use Rattle.command_runner.specs.declared.kind.Kind.{Kind}
 use Rattle.command_runner.specs.declared.fetching.FileWord.{FileWord}
 use Rattle.command_runner.specs.Kinds.{limit_of, is_file, is_of_kind, are_of_kinds, are_apart, is_form}
-use Rattle.command_runner.specs.Fetching.{counted, fetched_word, file_words_after, file_words}
+use Rattle.command_runner.specs.Fetching.{counted, fetched_word, file_words_after, file_words, word_at}
 
 few_more : (t : Bool) (number place : ℕ) → number ≤ place → (if t then number + 1 else number) ≤ place + 1
 few_more true number place few = omega (arith, few)
@@ -59,3 +59,19 @@ form_places kinds words form =
     let are : are_of_kinds kinds (map string_bytes words) ≡ true = (and_parts (are_of_kinds kinds (map string_bytes words)) (are_apart kinds (map string_bytes words) kinds (map string_bytes words)) form).0 in
     let long : length kinds ≡ length words = same_length kinds (map string_bytes words) are ∙ length-map words string_bytes in
     places_below (length words) 0 0 kinds (omega (arith, long))
+
+-- words of a form are as many as its kinds
+pub form_length : (kinds : List Kind) (words : List (String Global)) → IsTrue (is_form kinds (map string_bytes words)) → length words ≡ length kinds
+form_length kinds words form =
+    let are : are_of_kinds kinds (map string_bytes words) ≡ true = (and_parts (are_of_kinds kinds (map string_bytes words)) (are_apart kinds (map string_bytes words) kinds (map string_bytes words)) form).0 in
+    sym (same_length kinds (map string_bytes words) are ∙ length-map words string_bytes)
+
+kind_at : (kinds : List Kind) (words : List (List ℕ)) (place : ℕ) (d : Kind) → are_of_kinds kinds words ≡ true → place < length kinds → is_of_kind (get_or kinds place d) (word_at words place) ≡ true
+kind_at [] words place d are within = absurd (omega (arith, within))
+kind_at (kind ∷ kinds) [] place d are within = absurd (false≢true are)
+kind_at (kind ∷ kinds) (word ∷ words) zero d are within = (and_parts (is_of_kind kind word) (are_of_kinds kinds words) are).0
+kind_at (kind ∷ kinds) (word ∷ words) (suc place) d are within = kind_at kinds words place d (and_parts (is_of_kind kind word) (are_of_kinds kinds words) are).1 (omega (arith, within))
+
+-- each word of a form is of the kind at its place, so that a number is in its range
+pub form_kind : (kinds : List Kind) (words : List (List ℕ)) (place : ℕ) (d : Kind) → IsTrue (is_form kinds words) → place < length kinds → is_of_kind (get_or kinds place d) (word_at words place) ≡ true
+form_kind kinds words place d form within = kind_at kinds words place d (and_parts (are_of_kinds kinds words) (are_apart kinds words kinds words) form).0 within

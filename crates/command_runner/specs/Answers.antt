@@ -44,6 +44,10 @@ fields numbers = flat_map field numbers
 unfoldable pub refusal_line : List ℕ → List ℕ → List ℕ
 refusal_line what numbers = what ++ fields numbers ++ codes "\n"
 
+-- the answer that puts the line of a refusal
+abbrev pub refusal : Status → List ℕ → List ℕ → AnswerData
+refusal status what numbers = one_text status (refusal_line what numbers)
+
 -- the answer that a file is longer than it may be, by the number of its file word
 abbrev pub long_refused : ℕ → AnswerData
-long_refused number = one_text Refused (refusal_line (codes "refused long") (number ∷ []))
+long_refused number = refusal Refused (codes "refused long") (number ∷ [])

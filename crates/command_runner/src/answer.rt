@@ -1,7 +1,6 @@
 //! What a command answers.
 ghost use Rattle.std.specs.Prelude.{◌≡◌, ◌++◌, IfOk, OnOk};
-ghost use Rattle.command_runner.specs.Answers.{answer_data, one_text, field, fields, refusal_line};
-ghost use Rattle.command_runner.specs.declared.status.Status.TheVariants.{Refused};
+ghost use Rattle.command_runner.specs.Answers.{answer_data, one_text, field, fields, refusal_line, refusal};
 
 use crate::status::Status;
 use brake_text::{put_number, put_word};
@@ -43,7 +42,7 @@ impl Answer {
 
 /// A space and a number.
 #[tactic(auto, using(crate::proofs::Texts::pieces), unfolding(crate::specs::Answers::field))]
-fn put_field(out: &mut Vec<u8>, number: u16) -> Result<(), AllocError>
+fn put_field(out: &mut Vec<u8>, number: u32) -> Result<(), AllocError>
     ensures { OnOk result (out.new.items ≡ out.old.items ++ field number) }
 {
     put_word(out, b" ")?;
@@ -51,7 +50,7 @@ fn put_field(out: &mut Vec<u8>, number: u16) -> Result<(), AllocError>
 }
 
 /// Each number behind a space.
-fn put_fields(out: &mut Vec<u8>, numbers: &[u16]) -> Result<(), AllocError>
+fn put_fields(out: &mut Vec<u8>, numbers: &[u32]) -> Result<(), AllocError>
     ensures { OnOk result (out.new.items ≡ out.old.items ++ fields numbers.now) }
 {
     for number in numbers {
@@ -62,7 +61,7 @@ fn put_fields(out: &mut Vec<u8>, numbers: &[u16]) -> Result<(), AllocError>
 
 /// The line of a refusal: what is refused, and its numbers.
 #[tactic(auto, using(crate::proofs::Texts::pieces), unfolding(crate::specs::Answers::refusal_line))]
-fn refusal_line(alloc: Global, what: &[u8], numbers: &[u16]) -> Result<Vec<u8>, AllocError>
+fn refusal_line(alloc: Global, what: &[u8], numbers: &[u32]) -> Result<Vec<u8>, AllocError>
     ensures { IfOk result (λ line. line.items ≡ refusal_line what.now numbers.now) }
 {
     let mut out = Vec::new(alloc);
@@ -72,12 +71,17 @@ fn refusal_line(alloc: Global, what: &[u8], numbers: &[u16]) -> Result<Vec<u8>, 
     Ok(out)
 }
 
-/// The answer of a refusal, by what is refused and its numbers.
-pub fn refusal(alloc: Global, what: &[u8], numbers: &[u16]) -> Result<Answer, AllocError>
-    ensures answer { IfOk result (λ answer.
-        answer_data answer ≡ one_text Refused (refusal_line what.now numbers.now)) }
-    ensures status { IfOk result (λ answer. answer.status ≡ Refused) }
+/// The answer of a refusal: it ends with the status, and puts the line of what is refused and its
+/// numbers.
+pub fn refusal(
+    alloc: Global,
+    status: Status,
+    what: &[u8],
+    numbers: &[u32],
+) -> Result<Answer, AllocError>
+    ensures answer { IfOk result (λ answer. answer_data answer ≡ refusal status what.now numbers.now) }
+    ensures status { IfOk result (λ answer. answer.status ≡ status) }
 {
     let line = refusal_line(alloc, what, numbers)?;
-    Answer::one_text(alloc, Status::Refused, line)
+    Answer::one_text(alloc, status, line)
 }

@@ -5,7 +5,7 @@ ghost use Rattle.brake_io.specs.Rose.{Rose};
 ghost use Rattle.brake_io.specs.Meanings.{NoCountFalls};
 ghost use Rattle.command_runner.specs.declared.kind.Kind.{Kind};
 ghost use Rattle.command_runner.specs.Kinds.{is_form};
-ghost use Rattle.command_runner.specs.Answers.{answer_data};
+ghost use Rattle.command_runner.specs.Answers.{answer_data, long_refused};
 ghost use Rattle.command_runner.specs.Fetching.{file_words, files_of, names_of, OnlyFetches, HasCause};
 ghost use Rattle.command_runner.specs.Delivery.{IsCutShort, Outside};
 ghost use Rattle.command_runner.specs.Ends.{Meaning, IsAnswer, Ends, CountsFault, MayFault};
@@ -45,6 +45,19 @@ pub trait Command {
         ensures status { IfOk result (λ answer. ¬ IsCutShort answer.status) };
 }
 
+/// The answer that the file of this file word is too long.
+fn long_refused(alloc: Global, number: u8) -> Result<Answer, AllocError>
+    ensures answer { IfOk result (λ answer. answer_data answer ≡ long_refused number) }
+    ensures status { IfOk result (λ answer. answer.status ≡ Status.Refused) }
+{
+    refusal(
+        alloc,
+        Status::Refused,
+        b"refused long",
+        &[u32::from(number)],
+    )
+}
+
 /// Fetches the files of a command and asks it for its answer. A refusal is the status of a run that
 /// is cut short.
 fn answer_of<C: Command, H: Shelf>(
@@ -77,7 +90,7 @@ fn answer_of<C: Command, H: Shelf>(
             Ok(answer) => Ok(answer),
             Err(_) => Err(Status::NoMemory),
         },
-        Err(Stop::TooLong(number)) => match refusal(alloc, b"refused long", &[u16::from(number)]) {
+        Err(Stop::TooLong(number)) => match long_refused(alloc, number) {
             Ok(answer) => Ok(answer),
             Err(_) => Err(Status::NoMemory),
         },

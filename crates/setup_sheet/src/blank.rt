@@ -3,7 +3,7 @@ ghost use Rattle.std.specs.Prelude.{◌≡◌, ◌<◌, ◌≤◌, ◌-ℤ◌, �
 ghost use Rattle.std.specs.List.{flat_map};
 ghost use Rattle.part_file.specs.Part.{part_data, face_data};
 ghost use Rattle.unfolder.specs.Blank.{blank_data};
-ghost use Rattle.unfolder.specs.Extent.{IsNear, IsNearRect, IsNearLine, IsNearBlank};
+ghost use Rattle.setup_sheet.specs.Coordinates.{IsBounded, IsBoundedRect, IsBoundedLine, IsBoundedBlank};
 ghost use Rattle.setup_sheet.specs.Sheets.{field, dir_field, point, size_line, corners, face_line, bend_line, face_lines, blank_text};
 
 use crate::words::put_field;
@@ -14,8 +14,8 @@ use unfolder::{BendLine, Blank, FlatFace, FlatRect, extent};
 
 /// A space and how far a coordinate is above the least one.
 fn put_offset(out: &mut Vec<u8>, value: i64, least: i64) -> Result<(), AllocError>
-    requires value { IsNear value }
-    requires least { IsNear least }
+    requires value { IsBounded value }
+    requires least { IsBounded least }
     ensures { OnOk result (out.new.items ≡ out.old.items ++ field (value -ℤ least)) }
 {
     put_field(out, value - least)
@@ -24,9 +24,9 @@ fn put_offset(out: &mut Vec<u8>, value: i64, least: i64) -> Result<(), AllocErro
 /// A point, from the least corner of the extent.
 #[tactic(auto, using(crate::proofs::Texts::pieces), unfolding(crate::specs::Sheets::point))]
 fn put_point(out: &mut Vec<u8>, x: i64, y: i64, extent: &FlatRect) -> Result<(), AllocError>
-    requires x { IsNear x }
-    requires y { IsNear y }
-    requires extent { IsNearRect extent.now }
+    requires x { IsBounded x }
+    requires y { IsBounded y }
+    requires extent { IsBoundedRect extent.now }
     ensures { OnOk result (out.new.items ≡ out.old.items ++ point extent.now x y) }
 {
     put_offset(out, x, extent.x0)?;
@@ -35,7 +35,7 @@ fn put_point(out: &mut Vec<u8>, x: i64, y: i64, extent: &FlatRect) -> Result<(),
 
 #[tactic(auto, using(crate::proofs::Texts::pieces), unfolding(crate::specs::Sheets::size_line))]
 fn put_size(out: &mut Vec<u8>, extent: &FlatRect) -> Result<(), AllocError>
-    requires { IsNearRect extent.now }
+    requires { IsBoundedRect extent.now }
     ensures { OnOk result (out.new.items ≡ out.old.items ++ size_line extent.now) }
 {
     put_word(out, b"size")?;
@@ -47,8 +47,8 @@ fn put_size(out: &mut Vec<u8>, extent: &FlatRect) -> Result<(), AllocError>
 /// The least and the greatest corner of a rectangle.
 #[tactic(auto, using(crate::proofs::Texts::pieces), unfolding(crate::specs::Sheets::corners))]
 fn put_corners(out: &mut Vec<u8>, rect: &FlatRect, extent: &FlatRect) -> Result<(), AllocError>
-    requires rect { IsNearRect rect.now }
-    requires extent { IsNearRect extent.now }
+    requires rect { IsBoundedRect rect.now }
+    requires extent { IsBoundedRect extent.now }
     ensures { OnOk result (out.new.items ≡ out.old.items ++ corners extent.now rect.now) }
 {
     put_point(out, rect.x0, rect.y0, extent)?;
@@ -63,8 +63,8 @@ fn put_face(
     rect: &FlatRect,
     extent: &FlatRect,
 ) -> Result<(), AllocError>
-    requires rect { IsNearRect rect.now }
-    requires extent { IsNearRect extent.now }
+    requires rect { IsBoundedRect rect.now }
+    requires extent { IsBoundedRect extent.now }
     ensures { OnOk result (out.new.items ≡ out.old.items ++ face_line extent.now number name.now rect.now) }
 {
     put_word(out, b"face")?;
@@ -85,8 +85,8 @@ fn put_faces(
 ) -> Result<(), AllocError>
     requires few { length flat_faces.now ≤ 13 }
     requires same { length faces.now ≡ length flat_faces.now }
-    requires near { All (λ face. IsNearRect face.rect) flat_faces.now }
-    requires extent { IsNearRect extent.now }
+    requires bounded { All (λ face. IsBoundedRect face.rect) flat_faces.now }
+    requires extent { IsBoundedRect extent.now }
     ensures { OnOk result (out.new.items ≡ out.old.items ++ face_lines extent.now (map face_data faces.now) flat_faces.now) }
 {
     for (i, flat_face) in flat_faces.iter().enumerate() {
@@ -114,8 +114,8 @@ fn dir_field(dir: Dir) -> &'static [u8]
 
 #[tactic(auto, using(crate::proofs::Texts::pieces), unfolding(crate::specs::Sheets::bend_line))]
 fn put_bend(out: &mut Vec<u8>, line: &BendLine, extent: &FlatRect) -> Result<(), AllocError>
-    requires line { IsNearLine line.now }
-    requires extent { IsNearRect extent.now }
+    requires line { IsBoundedLine line.now }
+    requires extent { IsBoundedRect extent.now }
     ensures { OnOk result (out.new.items ≡ out.old.items ++ bend_line extent.now line.now) }
 {
     put_word(out, b"bend")?;
@@ -128,8 +128,8 @@ fn put_bend(out: &mut Vec<u8>, line: &BendLine, extent: &FlatRect) -> Result<(),
 
 /// A line for each bend.
 fn put_bends(out: &mut Vec<u8>, lines: &[BendLine], extent: &FlatRect) -> Result<(), AllocError>
-    requires lines { All IsNearLine lines.now }
-    requires extent { IsNearRect extent.now }
+    requires lines { All IsBoundedLine lines.now }
+    requires extent { IsBoundedRect extent.now }
     ensures { OnOk result (out.new.items ≡ out.old.items ++ flat_map (bend_line extent.now) lines.now) }
 {
     for line in lines {
@@ -140,11 +140,11 @@ fn put_bends(out: &mut Vec<u8>, lines: &[BendLine], extent: &FlatRect) -> Result
 
 /// The blank sheet of a part: the size of its blank, then a line for each face and for each bend,
 /// with all coordinates measured from the least corner of the blank's extent, in micrometres.
-#[tactic(auto, using(crate::proofs::Texts::pieces), unfolding(crate::specs::Sheets::blank_text))]
+#[tactic(auto, using(crate::proofs::Texts::pieces, crate::proofs::Bounds::extent_is_bounded), unfolding(crate::specs::Sheets::blank_text))]
 pub fn blank_sheet(alloc: Global, part: &Part, blank: &Blank) -> Result<Vec<u8>, AllocError>
     requires some_face { 0 < length blank.now.faces.items }
     requires same { length part.now.faces.items ≡ length blank.now.faces.items }
-    requires near { IsNearBlank (blank_data blank.now) }
+    requires bounded { IsBoundedBlank (blank_data blank.now) }
     ensures { IfOk result (λ sheet. sheet.items ≡ blank_text (part_data part.now) (blank_data blank.now)) }
 {
     let extent = extent(blank);

@@ -19,12 +19,12 @@ returns-in-Ok-answer-clause-ok g c =
       faults = c.in-Ok-fetch_all.ensures.faults (λ fails. cc);
     }
 
-pub returns-in-Ok-refusal-clause-ok : goal.returns-in-Ok-refusal-clause-ok
-returns-in-Ok-refusal-clause-ok g c =
+pub returns-in-Ok-long_refused-clause-ok : goal.returns-in-Ok-long_refused-clause-ok
+returns-in-Ok-long_refused-clause-ok g c =
     let files : c.as_slice.result.now ≡ file_words (g.C.Command.form c.args.command.now) = c.as_slice.ensures.value ∙ c.in-Ok.ensures ∙ ap file_words c.kinds.ensures.kinds in
     record {
       fetched = Err c.in-Err-TooLong.number;
       is_fetched = rw (files, c.in-Err-TooLong.field-0-is) at c.in-Err-TooLong.ensures.fetched;
-      is_answer = rw c.from.ensures at c.in-Ok-refusal.ensures.answer;
+      is_answer = c.in-Ok-long_refused.ensures.answer;
       faults = c.in-Err-TooLong.ensures.faults (λ fails. cc);
     }
