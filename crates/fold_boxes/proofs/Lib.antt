@@ -12,6 +12,9 @@ pub mod PoseLists
 pub mod Leads
 pub mod SharedSides
 pub mod PoseEffect
+pub mod PartBounds
+pub mod SolidBoxes
+pub mod PosedBoxes
 pub mod Locality
 pub mod Halving
 pub mod Corners

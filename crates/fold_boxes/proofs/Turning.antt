@@ -54,7 +54,7 @@ unfolding image
 image_after f g b turn =
     ends f (mapped g b.lo) (mapped g b.hi) turn ∙ (λ i. box_of (sym (mapped-after f g b.lo) i) (sym (mapped-after f g b.hi) i))
 
-row_within : (a b c : ℤ) (n : ℕ) (v : V3) → Axis a b c → IsWithin n v → unsigned_abs (along_row a b c v) ≤ n
+pub row_within : (a b c : ℤ) (n : ℕ) (v : V3) → Axis a b c → IsWithin n v → unsigned_abs (along_row a b c v) ≤ n
 row_within a b c n v (along_x (inl e) f g) h = rw (e, f, g) (omega (arith, ints, h.x))
 row_within a b c n v (along_x (inr e) f g) h = rw (e, f, g) (omega (arith, ints, h.x))
 row_within a b c n v (along_y e (inl f) g) h = rw (e, f, g) (omega (arith, ints, h.y))

@@ -28,7 +28,7 @@ pub fn pose(shape: &Shape, mask: Mask, group: Mask, back: Back, x0: i64, x1: i64
     ensures value { pose_data result ≡ pose_of shape.now mask group back x0 x1 }
     ensures effect { IsPoseMap shape.now mask group back x0 x1 (pose_map shape.now mask group back x0 x1) }
 
-    // x lies within 2^31 micrometres of 0, y and z within 2^30.
+    // x lies within 2^31 micrometres of 0, y and z within 600,000,000.
     ensures near { All IsNearPoseBox result.boxes.items }
 {
     pose_from(
