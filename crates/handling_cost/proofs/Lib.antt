@@ -2,6 +2,8 @@ pub mod Counts
 pub mod Ways
 pub mod Mates
 pub mod Actions
+pub mod ActionGroups
+pub mod StageRanges
 pub mod Legal
 pub mod Admissible
 pub mod Least

@@ -80,6 +80,10 @@ mate_from shape b c mate =
     (and_from (nat_le 1 c) (nat_lt c (length shape.part.faces)) (le-leb 1 c mate.first) (lt-ltb c (length shape.part.faces) mate.last))
     (from_alike (joint_of shape.part.faces b) (joint_of shape.part.faces c) mate.alike)
 
+-- a bend is a mate of itself
+pub self_mate : (shape : ShapeData) (b : ℕ) → 1 ≤ b → b < length shape.part.faces → is_mate shape b b ≡ true
+self_mate shape b first last = mate_from shape b b (record { first = first; last = last; alike = record { on = refl; side = refl; dir = refl } })
+
 mate_back : (shape : ShapeData) (b c : ℕ) → 1 ≤ b → b < length shape.part.faces → is_mate shape b c ≡ true → is_mate shape c b ≡ true
 mate_back shape b c first last mate =
     let m = (mate_is shape b c mate).alike in
@@ -121,8 +125,7 @@ module _ (job : JobData) (folded : ℕ → Bool) where
 
   pub grouped_self : (gang : Bool) (b : ℕ) → 1 ≤ b → b ≤ bend_count job → folded b ≡ false → grouped gang job folded b b ≡ true
   grouped_self true b first last flat =
-      and_from (is_mate (shape_of job) b b) (not (folded b))
-      (mate_from (shape_of job) b b (record { first = first; last = omega arith; alike = record { on = refl; side = refl; dir = refl } })) (not_from_false (folded b) flat)
+      and_from (is_mate (shape_of job) b b) (not (folded b)) (self_mate (shape_of job) b first (omega arith)) (not_from_false (folded b) flat)
   grouped_self false b first last flat = eq-eqb b b refl
 
 kept_out : (mate was is : Bool) → ((mate && not was) ≡ true → is ≡ false) → (mate ≡ true → was ≡ true → is ≡ true) → (mate && not is) ≡ (mate && not was)

@@ -1,6 +1,5 @@
 -- How large costs can be: in tenths of a second, by the ranges of a job.
-use Rattle.std.proofs.Common.{◌≡◌, ℕ, ◌+◌, ◌*◌, ◌==◌, ◌<◌, ◌≤◌, Bool, true, false, cond, List, [], ◌∷◌, pos, negsuc, length, arith, refl}
-use Rattle.std.specs.Ordering.{int_eq}
+use Rattle.std.proofs.Common.{◌≡◌, ℕ, ◌+◌, ◌*◌, ◌==◌, ◌<◌, ◌≤◌, Bool, true, false, cond, List, [], ◌∷◌, length, arith, refl}
 use Rattle.std.proofs.lemmas.Nat.{mul-le}
 use Rattle.brake_base.specs.declared.stroke.Key.{Key}
 use Rattle.brake_base.specs.declared.stroke.Action.{Action}
@@ -15,7 +14,9 @@ use Rattle.job_setup.specs.ValidJob.{IsJob}
 use Rattle.job_setup.specs.StrokeGroup.{in_group, is_lead}
 use Rattle.job_setup.specs.StageOf.{stage_of}
 use Rattle.job_setup.specs.Reasons.{meets}
-use Rattle.handling_cost.specs.StepCost.{IsKeyOf, IsActionAt, left, key_after, attitude_at, change, change_cost, distance, stage_cost, cost_to, cost_of}
+use Rattle.handling_cost.specs.declared.attitudes.Change.{Change}
+use Rattle.handling_cost.specs.declared.attitudes.Change.TheVariants.{Same, Quarter, Half, Flip, Roll}
+use Rattle.handling_cost.specs.StepCost.{IsKeyOf, IsActionAt, left, key_after, attitude_at, change, kind_of_change, price_of, change_cost, distance, stage_cost, cost_to, cost_of}
 use Rattle.handling_cost.specs.Plan.{IsRest, total}
 use Rattle.handling_cost.specs.Bound.{leads_left, meeting_stages, nearest, farthest, bound_of}
 use Rattle.handling_cost.proofs.Counts.{with_greatest}
@@ -39,12 +40,15 @@ pub record ArePrices (cost : Costs) : Type 0 where
 pub prices : (cost : Costs) → IsCosts cost → ArePrices cost
 prices cost is = record { stroke = is.stroke; quarter = is.quarter; half = is.half; flip = is.flip; roll = is.roll; stage = is.stage }
 
+price_small : (cost : Costs) → IsCosts cost → (change : Change) → price_of cost change ≤ 1000000
+price_small cost is Same = omega arith
+price_small cost is Quarter = (prices cost is).quarter
+price_small cost is Half = (prices cost is).half
+price_small cost is Flip = (prices cost is).flip
+price_small cost is Roll = (prices cost is).roll
+
 pub change_small : (cost : Costs) → IsCosts cost → (m : Matrix) → change_cost cost m ≤ 1000000
-change_small cost is m =
-    let small = prices cost is in
-    pick_small (int_eq m.z.z (pos 1)) _ _ 1000000
-    (pick_small (int_eq m.x.x (pos 1)) 0 _ 1000000 (omega arith) (pick_small (int_eq m.x.x (negsuc 0)) cost.half cost.quarter 1000000 small.half small.quarter))
-    (pick_small (int_eq m.z.z (negsuc 0)) cost.flip cost.roll 1000000 small.flip small.roll)
+change_small cost is m = price_small cost is (kind_of_change m)
 
 -- the way is paid where a bend is folded
 pub no_way : (job : JobData) (mask : Mask) (from to : ℕ) → (mask.0 == 0) ≡ true → 0 ≡ stage_cost job mask from to

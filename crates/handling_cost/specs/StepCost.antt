@@ -7,6 +7,8 @@ use Rattle.brake_base.specs.declared.stroke.Action.{Action}
 use Rattle.brake_base.specs.Masks.{has, union}
 use Rattle.brake_base.specs.Turns.{Matrix, turn_of, multiply, transpose}
 use Rattle.machine_file.specs.declared.machine.Costs.{Costs}
+use Rattle.handling_cost.specs.declared.attitudes.Change.{Change}
+use Rattle.handling_cost.specs.declared.attitudes.Change.TheVariants.{Same, Quarter, Half, Flip, Roll}
 use Rattle.fold_boxes.specs.Groups.{members}
 use Rattle.job_setup.specs.Setup.{JobData, shape_of, bend_count, stage_count}
 use Rattle.job_setup.specs.StrokeGroup.{group_of, is_lead}
@@ -55,13 +57,25 @@ key_after job key action = record {
 abbrev pub change : ℕ → ℕ → Matrix
 change from to = multiply (turn_of to) (transpose (turn_of from))
 
--- What a change of attitude costs. Where what points up stays up it is nothing, a half or a quarter turn, as the x axis stays,
--- points back or points aside; where it comes to point down it is a flip; else it is a roll.
+-- What becomes of the part as its attitude changes. Where what points up stays up it is held as before, or makes a half or a quarter
+-- turn, as the x axis stays, points back or points aside; where it comes to point down the part is flipped; else it is rolled.
+abbrev pub kind_of_change : Matrix → Change
+kind_of_change m =
+    if int_eq m.z.z (pos 1) then (if int_eq m.x.x (pos 1) then Same else if int_eq m.x.x (negsuc 0) then Half else Quarter)
+    else if int_eq m.z.z (negsuc 0) then Flip
+    else Roll
+
+-- what a change of a kind costs
+abbrev pub price_of : Costs → Change → ℕ
+price_of cost Same = 0
+price_of cost Quarter = cost.quarter
+price_of cost Half = cost.half
+price_of cost Flip = cost.flip
+price_of cost Roll = cost.roll
+
+-- what a change of attitude costs
 abbrev pub change_cost : Costs → Matrix → ℕ
-change_cost cost m =
-    if int_eq m.z.z (pos 1) then (if int_eq m.x.x (pos 1) then 0 else if int_eq m.x.x (negsuc 0) then cost.half else cost.quarter)
-    else if int_eq m.z.z (negsuc 0) then cost.flip
-    else cost.roll
+change_cost cost m = price_of cost (kind_of_change m)
 
 -- how far two stages are apart
 abbrev pub distance : ℕ → ℕ → ℕ

@@ -1,10 +1,10 @@
 //! What actions cost, and where they lead. Costs are in tenths of a second.
 ghost use Rattle.std.specs.Prelude.{◌≡◌, ◌<◌, ◌≤◌, ◌/◌, ◌%◌, length};
-ghost use Rattle.brake_base.specs.Turns.{turn_of};
 ghost use Rattle.job_setup.specs.ValidJob.{IsJob};
 ghost use Rattle.handling_cost.specs.StepCost.{IsKeyOf, IsActionAt, change, change_cost, stage_cost, cost_to, cost_of, attitude_at, key_after};
 ghost use Rattle.handling_cost.specs.Plan.{start, total, AreActions};
 
+use crate::attitudes::{change_between, price_of};
 use brake_base::{Action, Key, Mask, Step, Turn};
 use fold_boxes::attitude;
 use job_setup::{Job, group};
@@ -88,35 +88,11 @@ pub fn cost_to(job: &Job, key: &Key, attitude: Turn, stage: u8) -> u64
     costs.stroke + change_cost(costs, key.attitude, attitude) + stage_cost(job, key, stage)
 }
 
-/// What a change of attitude costs: nothing, a quarter or a half turn where what points up stays
-/// up, a flip where it comes to point down, else a roll.
+/// What a change of attitude costs.
 pub fn change_cost(costs: &Costs, from: Turn, to: Turn) -> u64
     ensures { result ≡ change_cost costs.now (change from to) }
 {
-    cost_of_turn(costs, from.inverse().then(to))
-}
-
-fn cost_of_turn(costs: &Costs, turn: Turn) -> u64
-    ensures { result ≡ change_cost costs.now (turn_of turn) }
-{
-    match turn.number() {
-        0 => 0,
-        2 => costs.half,
-        1 | 3 => costs.quarter,
-        _ => cost_of_tilt(costs, turn),
-    }
-}
-
-/// What a turn costs after which what pointed up doesn't.
-fn cost_of_tilt(costs: &Costs, turn: Turn) -> u64
-    requires { 4 ≤ turn }
-    ensures { result ≡ change_cost costs.now (turn_of turn) }
-{
-    if turn.number() < 8 {
-        costs.flip
-    } else {
-        costs.roll
-    }
+    price_of(costs, change_between(from, to))
 }
 
 /// What the way from the key's stage to another costs; nothing where no bend is folded.
