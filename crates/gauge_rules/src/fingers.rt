@@ -115,7 +115,7 @@ fn is_right_free(job: &Job, pose: &Pose, left: &PoseBox, right: &PoseBox) -> boo
 }
 
 /// The range of the left finger along the bed: an inset from the left end of its face.
-fn left_finger(rule: &GaugeRule, face: &PoseBox) -> (i64, i64)
+pub fn left_finger(rule: &GaugeRule, face: &PoseBox) -> (i64, i64)
     requires rule { IsGaugeRule rule.now }
     requires face { IsNearPoseBox face.now }
     ensures { result ≡ left_finger rule.now face.now }
@@ -125,7 +125,7 @@ fn left_finger(rule: &GaugeRule, face: &PoseBox) -> (i64, i64)
 }
 
 /// That of the right finger: an inset from the right end of its face.
-fn right_finger(rule: &GaugeRule, face: &PoseBox) -> (i64, i64)
+pub fn right_finger(rule: &GaugeRule, face: &PoseBox) -> (i64, i64)
     requires rule { IsGaugeRule rule.now }
     requires face { IsNearPoseBox face.now }
     ensures { result ≡ right_finger rule.now face.now }

@@ -5,6 +5,7 @@ mod fingers;
 mod flat_faces;
 mod pairs;
 
+pub use fingers::{left_finger, right_finger};
 pub use pairs::{first_legal, legal};
 
 #[cfg(test)]

@@ -8,9 +8,9 @@ use Rattle.brake_base.specs.Masks.{has, IsLeast}
 use Rattle.fold_boxes.specs.Groups.{is_mate}
 use Rattle.fold_boxes.specs.Pose.{lead_of, IsGroup}
 use Rattle.fold_boxes.proofs.Leads.{lead_found}
-use Rattle.job_setup.specs.Setup.{JobData, shape_of}
+use Rattle.job_setup.specs.Setup.{JobData, shape_of, bend_count}
 use Rattle.job_setup.specs.StrokeGroup.{in_group, group_of}
-use Rattle.handling_cost.specs.StepCost.{bend_count, IsActionAt}
+use Rattle.handling_cost.specs.StepCost.{IsActionAt}
 use Rattle.handling_cost.proofs.Mates.{grouped, grouped_self, grouped_flat, grouped_range, grouped_shared, self_mate}
 use Rattle.handling_cost.proofs.Actions.{IsLead, lead_is, group_bends}
 

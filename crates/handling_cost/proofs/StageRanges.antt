@@ -31,7 +31,7 @@ pub record IsBedRange (x0 x1 : ℤ) : Type 0 where
 
 pub stage_range : (job : JobData) → IsJob job → (stage : ℕ) → stage < length job.setup.stages → IsBedRange (stage_of job stage).x0 (stage_of job stage).x1
 stage_range job valid stage within =
-    let fit : IsStage (stage_of job stage) = valid.setup.stages stage no_stage within in
+    let fit : IsStage (stage_of job stage) = valid.setup.stages.each stage no_stage within in
     let near = (setup_near job valid).stages stage no_stage within in
     let long = some_length (stage_of job stage).pieces fit.some_piece fit.pieces in
     record {

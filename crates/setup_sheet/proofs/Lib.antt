@@ -3,3 +3,8 @@ pub mod Numbered
 pub mod FaceLines
 pub mod StageLines
 pub mod Bounds
+pub mod OrderSteps
+pub mod Groups
+pub mod PlanTold
+pub mod PosedFaces
+pub mod OrderCosts
