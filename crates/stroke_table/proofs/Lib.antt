@@ -1,0 +1,5 @@
+mod Moved
+mod SameGauge
+mod StrokeGroups
+mod StageRanges
+mod Places

@@ -1,0 +1,4 @@
+pub mod Strokes
+pub mod Finding
+pub mod Moved
+pub mod Table
