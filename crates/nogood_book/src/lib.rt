@@ -1,0 +1,3 @@
+//! Reasons against strokes that hold in many states.
+
+#![tactic(auto)]

@@ -1,0 +1,4 @@
+use Rattle.sweep_check.proofs.named.is_hit.Goals as goal
+
+pub returns-then-is_named : goal.returns-then-is_named
+returns-then-is_named c = ((λ met. (c.is_named.ensures.0 c.if-is_named.true, c.meets_numbered.ensures.0 met)), (λ both. c.meets_numbered.ensures.1 both.1))

@@ -1,0 +1,29 @@
+use Rattle.std.proofs.Common.{◌∙◌, ap, sym, subst}
+use Rattle.std.specs.Prelude.{All}
+use Rattle.sector_geom.specs.declared.sector.Sweep.TheVariants.{Eighth}
+use Rattle.job_setup.specs.declared.obstacle.Obstacle.{Obstacle}
+use Rattle.job_setup.specs.Obstacles.{upper_group}
+use Rattle.sweep_check.specs.Pieces.{AreSolidBoxes, pieces_of}
+use Rattle.sweep_check.specs.Hits.{IsSolidObstacle, IsCovered, IsMet}
+use Rattle.sweep_check.proofs.Bounds.{widening_high, upper_group_solid}
+use Rattle.sweep_check.proofs.PieceLists.{eighths}
+use Rattle.sweep_check.proofs.HitTests.{covered_eighths, hit_alike}
+use Rattle.sweep_check.proofs.named.is_upper_hit.Goals as goal
+
+pub all_pieces-found-requires : goal.all_pieces-found-requires
+all_pieces-found-requires c = record { boxes = subst AreSolidBoxes (sym c.as_slice.ensures.value) c.requires.boxes }
+
+pub is_some_hit-requires-clause-covered : goal.is_some_hit-requires-clause-covered
+is_some_hit-requires-clause-covered c =
+    let job = c.args.job.now in
+    let listed = c.as_slice-2.ensures.value ∙ c.all_pieces-found.ensures.value ∙ ap (pieces_of job Eighth) c.as_slice.ensures.value in
+    subst (All IsCovered) (sym listed) (covered_eighths (pieces_of job Eighth c.args.pose.now.boxes.items) (eighths job c.args.pose.now.boxes.items (widening_high job c.all_pieces-found.ensures.valid) c.requires.boxes.solid))
+
+pub is_some_hit-requires-clause-solid : goal.is_some_hit-requires-clause-solid
+is_some_hit-requires-clause-solid c = subst (All IsSolidObstacle) (sym (c.as_slice-3.ensures.value ∙ c.upper_group.ensures.value)) (upper_group_solid c.args.job.now c.upper_group.ensures.valid c.requires.some)
+
+pub returns : goal.returns
+returns c =
+    let job = c.args.job.now in
+    let listed = c.as_slice-2.ensures.value ∙ c.all_pieces-found.ensures.value ∙ ap (pieces_of job Eighth) c.as_slice.ensures.value in
+    hit_alike (λ (o : Obstacle). o.index) IsMet _ (pieces_of job Eighth c.args.pose.now.boxes.items) _ (upper_group job) c.args.hit.body c.args.hit.quarter c.args.hit.other c.is_some_hit.result listed (c.as_slice-3.ensures.value ∙ c.upper_group.ensures.value) c.is_some_hit.ensures

@@ -1,0 +1,5 @@
+pub mod FirstReasons
+pub mod Pieces
+pub mod Hits
+pub mod SunkLaw
+pub mod MotionFree

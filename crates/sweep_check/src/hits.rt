@@ -1,0 +1,97 @@
+//! The first of some pieces that meets one of some obstacles.
+ghost use Rattle.std.specs.Prelude.{◌≡◌, ◌↔◌, ◌<◌, ◌&&◌, IsTrue, All, AllPairs};
+ghost use Rattle.sector_geom.specs.Clear.{IsClear};
+ghost use Rattle.job_setup.specs.Reasons.{seen_from};
+ghost use Rattle.sweep_check.specs.Hits.{is_sunk_group, IsNear, IsMet, IsSolidObstacle, IsCovered, PieceIsBefore, IsLeastNumber, IsFirstHit};
+
+use crate::pieces::{Piece, seen_from};
+use crate::ranges::is_overlap;
+use brake_base::Quarter;
+use job_setup::{Group, Obstacle};
+use sector_geom::clear;
+
+/// What meets what: the piece of a box in a quarter, and the other one's number.
+#[derive(Clone, Copy)]
+pub struct Hit {
+    pub body: u8,
+    pub quarter: Quarter,
+    pub other: u8,
+}
+
+/// The first hit by the piece's box, its quarter and the obstacle's number.
+pub(crate) fn first_hit(pieces: &[Piece], obstacles: &[Obstacle]) -> Option<Hit>
+    requires covered { All IsCovered pieces.now }
+    requires solid { All IsSolidObstacle obstacles.now }
+    requires pieces_ascend { AllPairs PieceIsBefore pieces.now }
+    requires obstacles_ascend { AllPairs (λ a b. a.index < b.index) obstacles.now }
+    ensures { IsFirstHit (λ obstacle. obstacle.index) IsMet pieces.now obstacles.now result }
+{
+    for piece in pieces {
+        if let Some(other) = first_met(piece, obstacles) {
+            return Some(Hit {
+                body: piece.body,
+                quarter: piece.quarter,
+                other,
+            });
+        }
+    }
+    None
+}
+
+/// The number of the first obstacle that the piece meets.
+fn first_met(piece: &Piece, obstacles: &[Obstacle]) -> Option<u8>
+    requires covered { IsCovered piece.now }
+    requires solid { All IsSolidObstacle obstacles.now }
+    requires ascend { AllPairs (λ a b. a.index < b.index) obstacles.now }
+    ensures { IsLeastNumber (λ obstacle. obstacle.index) (IsMet piece.now) obstacles.now result }
+{
+    for obstacle in obstacles {
+        if is_met(piece, obstacle) {
+            return Some(obstacle.index);
+        }
+    }
+    None
+}
+
+/// Whether the piece meets the obstacle while it turns upwards. The cheap tests come first.
+pub(crate) fn is_met(piece: &Piece, obstacle: &Obstacle) -> bool
+    requires covered { IsCovered piece.now }
+    requires solid { IsSolidObstacle obstacle.now }
+    ensures { IsTrue result ↔ IsMet piece.now obstacle.now }
+{
+    is_near(piece, obstacle) && !is_clear(piece, obstacle)
+}
+
+/// Whether the piece's range along the bed meets the obstacle's, and the obstacle isn't a sunk one
+/// that the piece can't meet.
+fn is_near(piece: &Piece, obstacle: &Obstacle) -> bool
+    ensures { IsTrue result ↔ IsNear piece.now obstacle.now }
+{
+    is_overlap((piece.x0, piece.x1), (obstacle.x0, obstacle.x1)) && !is_untested(piece, obstacle)
+}
+
+/// Whether the obstacle is sunk, and the piece lies so high that it can't meet it.
+fn is_untested(piece: &Piece, obstacle: &Obstacle) -> bool
+    ensures { result ≡ (is_sunk_group obstacle.now.group && piece.now.is_high) }
+{
+    is_sunk(obstacle.group) && piece.is_high
+}
+
+/// Whether the obstacle is a sunk one.
+fn is_sunk(group: Group) -> bool
+    ensures { result ≡ is_sunk_group group }
+{
+    match group {
+        Group::Upper => false,
+        Group::Lower { sunk } => sunk,
+    }
+}
+
+/// Whether the piece's cover is clear of the obstacle, which is seen as the piece's half is.
+fn is_clear(piece: &Piece, obstacle: &Obstacle) -> bool
+    requires covered { IsCovered piece.now }
+    requires solid { IsSolidObstacle obstacle.now }
+    ensures { IsTrue result ↔ IsClear piece.now.cover (seen_from piece.now.half obstacle.now.rect) }
+{
+    clear(&piece.cover, &seen_from(piece.half, &obstacle.rect))
+}

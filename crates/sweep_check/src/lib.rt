@@ -1,0 +1,15 @@
+//! Whether a stroke is free of tools, machine and the part itself, and if not, the first reason.
+#![tactic(auto)]
+
+mod frames;
+mod hits;
+mod kinds;
+mod named;
+mod noses;
+mod pieces;
+mod ranges;
+mod reasons;
+mod self_hits;
+mod sides;
+
+pub use reasons::{first_reason, holds};

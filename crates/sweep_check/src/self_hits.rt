@@ -1,0 +1,78 @@
+//! The two halves of the part against each other.
+ghost use Rattle.std.specs.Prelude.{◌≡◌, ◌+◌, ◌≤◌, ◌++◌, [], ◌∷◌, length};
+ghost use Rattle.sector_geom.specs.declared.sector.Sweep.TheVariants.{Fourth};
+ghost use Rattle.job_setup.specs.ValidJob.{IsJob};
+ghost use Rattle.sweep_check.specs.Pieces.{IsSolidBox, AreSolidBoxes, box_pieces, if_back, if_front, back_pieces, front_obstacle, front_obstacles};
+
+use crate::pieces::{Piece, across, put_pieces, widening};
+use arrayvec::ArrayVec;
+use brake_base::Half;
+use fold_boxes::PoseBox;
+use job_setup::{Group, Job, Obstacle};
+use sector_geom::{Sweep, widened};
+
+/// The pieces of the boxes of the back half, each swept by a fourth.
+pub(crate) fn back_pieces(job: &Job, boxes: &[PoseBox]) -> ArrayVec<Piece, 100>
+    requires boxes { AreSolidBoxes boxes.now }
+    ensures value { result.items ≡ back_pieces job.now boxes.now }
+    ensures valid { IsJob job.now }
+{
+    let _ = job.q();
+    let mut pieces = ArrayVec::new();
+    for body in boxes {
+        put_back_pieces(job, body, &mut pieces);
+    }
+    pieces
+}
+
+/// Puts the pieces of a box, where it is of the back half.
+fn put_back_pieces(job: &Job, body: &PoseBox, pieces: &mut ArrayVec<Piece, 100>)
+    requires solid { IsSolidBox body.now }
+    requires room { length pieces.old.items + 4 ≤ 100 }
+    ensures value { pieces.new.items ≡ pieces.old.items ++ if_back body.now.half (box_pieces job.now Fourth body.now) }
+    ensures few { length pieces.new.items ≤ length pieces.old.items + 4 }
+{
+    match body.half {
+        Half::Back => put_pieces(job, Sweep::Fourth, body, pieces),
+        Half::Front => {}
+    }
+}
+
+/// The boxes of the front half as obstacles of the back half.
+pub(crate) fn front_obstacles(job: &Job, boxes: &[PoseBox]) -> ArrayVec<Obstacle, 25>
+    requires boxes { AreSolidBoxes boxes.now }
+    ensures value { result.items ≡ front_obstacles job.now boxes.now }
+{
+    let mut obstacles = ArrayVec::new();
+    for body in boxes {
+        put_front_obstacle(job, body, &mut obstacles);
+    }
+    obstacles
+}
+
+/// Puts a box, where it is of the front half.
+fn put_front_obstacle(job: &Job, body: &PoseBox, obstacles: &mut ArrayVec<Obstacle, 25>)
+    requires solid { IsSolidBox body.now }
+    requires room { length obstacles.old.items + 1 ≤ 25 }
+    ensures value { obstacles.new.items ≡ obstacles.old.items ++ if_front body.now.half (front_obstacle job.now body.now ∷ []) }
+    ensures few { length obstacles.new.items ≤ length obstacles.old.items + 1 }
+{
+    match body.half {
+        Half::Back => {}
+        Half::Front => obstacles.push(front_obstacle(job, body)),
+    }
+}
+
+/// A box of the front half as an obstacle: widened as the back half is, and not mirrored.
+pub(crate) fn front_obstacle(job: &Job, body: &PoseBox) -> Obstacle
+    requires solid { IsSolidBox body.now }
+    ensures { result ≡ front_obstacle job.now body.now }
+{
+    Obstacle {
+        index: body.id,
+        x0: body.body.lo.x,
+        x1: body.body.hi.x,
+        rect: widened(across(&body.body), widening(job)),
+        group: Group::Upper,
+    }
+}
