@@ -1,0 +1,3 @@
+pub mod LineWords
+pub mod JobWords
+pub mod PlanWords
