@@ -1,5 +1,5 @@
 -- The words of the job lines behind their keywords. Lengths are in micrometres, costs in tenths of a second, forces in newtons.
-use Rattle.std.specs.Prelude.{ℕ, ℤ, pos, Bool, true, false, int_le, unsigned_abs, List, [], Option, Some, None, if◌then◌else◌}
+use Rattle.std.specs.Prelude.{ℕ, zero, suc, ◌==◌, ℤ, pos, Bool, true, false, nat_lt, int_le, unsigned_abs, List, [], ◌∷◌, length, Option, Some, None, if◌then◌else◌}
 use Rattle.std.specs.Ordering.{int_eq}
 use Rattle.toml_fields.specs.Fields.{checked_name}
 use Rattle.brake_base.specs.declared.plane.Rect.{Rect}
@@ -156,3 +156,18 @@ unfoldable pub punch_in : List ℕ → Option PunchData
 punch_in text = do
   named ← named_pair_in text
   Some (record { name = named.0; height = named.1.0; nose = named.1.1; body = []; sections = []; limit = pos 0 })
+
+-- at most so many numbers, of which nothing is behind
+abbrev pub numbers_in : ℕ → List ℕ → Option (List ℤ)
+numbers_in most [] = Some []
+numbers_in zero (byte ∷ text) = None
+numbers_in (suc most) (byte ∷ text) = do
+  n ← signed_at (byte ∷ text)
+  numbers ← numbers_in most n.1
+  Some (n.0 ∷ numbers)
+
+-- 1 to 32 numbers
+unfoldable pub pieces_in : List ℕ → Option (List ℤ)
+pieces_in text = do
+  pieces ← numbers_in 32 text
+  if nat_lt 0 (length pieces) then Some pieces else None

@@ -4,7 +4,7 @@ ghost use Rattle.toml_fields.specs.Fields.{checked_name};
 ghost use Rattle.part_file.specs.Part.{face_data, part_data};
 ghost use Rattle.tool_library.specs.Tools.{punch_data, die_data};
 ghost use Rattle.cert_words.specs.LineWords.{Reads};
-ghost use Rattle.cert_words.specs.JobWords.{number_in, pair_in, rect_in, fixed_in, named_pair_in, named_triple_in, part_in, root_in, parent_at, standing_in, child_in, gauge_in, costs_in, natural, naturals, costs_of, gang_of, die_in, punch_in};
+ghost use Rattle.cert_words.specs.JobWords.{number_in, pair_in, rect_in, fixed_in, named_pair_in, named_triple_in, part_in, root_in, parent_at, standing_in, child_in, gauge_in, costs_in, natural, naturals, costs_of, gang_of, die_in, punch_in, numbers_in, pieces_in};
 
 use crate::line_words::{dir, is_end, name_of, pair, rect, side, signed_number, small, word};
 use arrayvec::ArrayVec;
@@ -255,4 +255,34 @@ pub fn die(text: &[u8]) -> Option<Die>
         sections: ArrayVec::new(),
         limit: 0,
     })
+}
+
+/// 1 to 32 numbers.
+#[tactic(auto, unfolding(crate::specs::JobWords::pieces_in))]
+pub fn pieces(text: &[u8]) -> Option<ArrayVec<i64, 32>>
+    ensures { Reads (λ pieces. pieces.items) result (pieces_in text.now) }
+{
+    let numbers = numbers(text)?;
+    if numbers.is_empty() {
+        None
+    } else {
+        Some(numbers)
+    }
+}
+
+/// At most 32 numbers alone.
+fn numbers(text: &[u8]) -> Option<ArrayVec<i64, 32>>
+    ensures { Reads (λ numbers. numbers.items) result (numbers_in 32 text.now) }
+{
+    let mut numbers = ArrayVec::new();
+    let mut rest = text;
+    while !is_end(rest) {
+        if numbers.is_full() {
+            return None;
+        }
+        let (n, behind) = signed_number(rest)?;
+        numbers.push(n);
+        rest = behind;
+    }
+    Some(numbers)
 }
