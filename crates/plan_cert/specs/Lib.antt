@@ -3,3 +3,4 @@ pub mod Lines
 pub mod JobText
 pub mod WellFormed
 pub mod CertText
+pub mod GoodCert

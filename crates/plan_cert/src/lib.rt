@@ -10,6 +10,8 @@ mod writing;
 
 pub use cert::{Cert, Note, RowHead};
 pub use job_lines::write_job;
+pub use rows::{put_reason, put_worth};
+pub use words::put_count;
 pub use writing::write_cert;
 
 #[cfg(test)]

@@ -13,7 +13,7 @@ use brake_text::put_word;
 use std::alloc::AllocError;
 
 /// A cost, or that there is no way on.
-pub(crate) fn put_worth(out: &mut Vec<u8>, worth: Worth) -> Result<(), AllocError>
+pub fn put_worth(out: &mut Vec<u8>, worth: Worth) -> Result<(), AllocError>
     requires { IsWorth worth }
     ensures { OnOk result (out.new.items ≡ out.old.items ++ spaced (worth_word worth)) }
 {
@@ -83,7 +83,7 @@ fn put_arguments(out: &mut Vec<u8>, reason: Reason) -> Result<(), AllocError>
 
 /// The words of a reason.
 #[tactic(auto, using(crate::proofs::Texts::pieces))]
-fn put_reason(out: &mut Vec<u8>, reason: Reason) -> Result<(), AllocError>
+pub fn put_reason(out: &mut Vec<u8>, reason: Reason) -> Result<(), AllocError>
     ensures { OnOk result (out.new.items ≡ out.old.items ++ flat_map spaced (reason_words reason)) }
 {
     put_count(out, u64::from(reason.kind()))?;

@@ -27,7 +27,7 @@ pub(crate) fn put_signed(out: &mut Vec<u8>, value: i64) -> Result<(), AllocError
 
 /// A number behind a space.
 #[tactic(auto, using(crate::proofs::Texts::pieces))]
-pub(crate) fn put_count(out: &mut Vec<u8>, value: u64) -> Result<(), AllocError>
+pub fn put_count(out: &mut Vec<u8>, value: u64) -> Result<(), AllocError>
     requires { value < 2 ^ 63 }
     ensures { OnOk result (out.new.items ≡ out.old.items ++ spaced (number value)) }
 {
