@@ -25,7 +25,8 @@ pub(crate) fn move_faces(
     ensures each { ArePlaces shape.now (union before group) places.new }
     ensures first { take (length trail.old.items) trail.new.items ≡ trail.old.items }
     ensures kept { AreKept shape.now before group (length trail.old.items) trail.new.items }
-    ensures left { trail.new.room + length trail.new.items ≡ trail.old.room + length trail.old.items }
+    ensures left { trail.new.room + length trail.new.items
+        ≡ trail.old.room + length trail.old.items }
 {
     let after = before.union(group);
     let beyond = faces_beyond(shape, group);

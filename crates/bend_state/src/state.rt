@@ -85,8 +85,10 @@ impl BendState {
         ensures mask { self.new.mask ≡ union self.old.mask group }
         ensures folds { self.new.folds ≡ with_fold self.old group (length trail.old.items) }
         ensures first { take (length trail.old.items) trail.new.items ≡ trail.old.items }
-        ensures kept { AreKept self.old.shape self.old.mask group (length trail.old.items) trail.new.items }
-        ensures left { trail.new.room + length trail.new.items ≡ trail.old.room + length trail.old.items }
+        ensures kept { AreKept self.old.shape self.old.mask group
+            (length trail.old.items) trail.new.items }
+        ensures left { trail.new.room + length trail.new.items
+            ≡ trail.old.room + length trail.old.items }
     {
         let mark = trail.mark();
         let before = self.mask;
@@ -114,7 +116,8 @@ impl BendState {
         ensures without { IsWithout self.old.mask (last_fold self.old.folds).group self.new.mask }
         ensures folds { self.old.folds ≡ self.new.folds ++ last_fold self.old.folds ∷ [] }
         ensures trail { trail.new.items ≡ take (last_fold self.old.folds).mark trail.old.items }
-        ensures left { trail.new.room + length trail.new.items ≡ trail.old.room + length trail.old.items }
+        ensures left { trail.new.room + length trail.new.items
+            ≡ trail.old.room + length trail.old.items }
     {
         if let Some(fold) = self.folds.pop() {
             restore_faces(&self.shape, &fold, self.places.as_mut_slice(), trail);

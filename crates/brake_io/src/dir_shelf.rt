@@ -60,7 +60,8 @@ impl<R: Files + Drop> Shelf for DirShelf<R> {
         ensures failed { IsErrOf result StoreFault.Failed → Rose self.old.faults self.new.faults }
         ensures faults { ¬ IsErrOf result StoreFault.Failed → self.new.faults ≡ self.old.faults }
         ensures longs { self.new.longs ≡ self.old.longs }
-        ensures never_falls { NoCountFalls (⟦<DirShelf<R> as Shelf>⟧.state self.old) (⟦<DirShelf<R> as Shelf>⟧.state self.new) }
+        ensures never_falls { NoCountFalls (⟦<DirShelf<R> as Shelf>⟧.state self.old)
+            (⟦<DirShelf<R> as Shelf>⟧.state self.new) }
         // Each error of the folder is counted.
         ensures counted { OnErr result (self.new.faults ≡ raised self.old.faults) }
     {

@@ -92,7 +92,8 @@ impl Shelf for MemShelf {
             MayFailAt name.now (state_of self.old) (state_of self.new) }
         ensures longer { IsErrOf result FetchFault.TooLong →
             IsLonger (state_of self.old) name.now limit }
-        ensures too_long { IsErrOf result FetchFault.TooLong → self.new.longs ≡ raised self.old.longs }
+        ensures too_long { IsErrOf result FetchFault.TooLong
+            → self.new.longs ≡ raised self.old.longs }
         ensures never_falls { NoCountFalls (state_of self.old) (state_of self.new) }
         ensures faults { ¬ IsErrOf result FetchFault.Failed → self.new.faults ≡ self.old.faults }
         ensures longs { ¬ IsErrOf result FetchFault.TooLong → self.new.longs ≡ self.old.longs }

@@ -53,7 +53,8 @@ impl MemSink {
 
     /// Has the put with this number, counted from 1, fail after it took so many bytes.
     pub fn fail_at(&mut self, call: u32, taken: usize)
-        ensures { self.new ≡ record self.old { fails_at = Some (record { call = call; taken = taken }) } }
+        ensures { self.new ≡ record self.old
+            { fails_at = Some (record { call = call; taken = taken }) } }
     {
         self.fails_at = Some(Failure { call, taken });
     }

@@ -36,7 +36,8 @@ pub trait Shelf {
             Rose (state self.old).faults (state self.new).faults }
         ensures cause { IsErrOf result FetchFault.Failed →
             MayFailAt name.now (state self.old) (state self.new) }
-        ensures longer { IsErrOf result FetchFault.TooLong → IsLonger (state self.old) name.now limit }
+        ensures longer { IsErrOf result FetchFault.TooLong
+            → IsLonger (state self.old) name.now limit }
         ensures too_long { IsErrOf result FetchFault.TooLong →
             (state self.new).longs ≡ raised (state self.old).longs }
         ensures never_falls { NoCountFalls (state self.old) (state self.new) }
@@ -56,7 +57,8 @@ pub trait Shelf {
         ensures calls { (state self.new).calls ≡ raised (state self.old).calls }
         ensures failed { IsErrOf result StoreFault.Failed →
             Rose (state self.old).faults (state self.new).faults }
-        ensures cause { IsErrOf result StoreFault.Failed → MayFail (state self.old) (state self.new) }
+        ensures cause { IsErrOf result StoreFault.Failed
+            → MayFail (state self.old) (state self.new) }
         ensures faults { ¬ IsErrOf result StoreFault.Failed →
             (state self.new).faults ≡ (state self.old).faults }
         ensures longs { (state self.new).longs ≡ (state self.old).longs }

@@ -15,7 +15,8 @@ const CHUNK: usize = 65_536;
 /// An error of the reader is `Failed`.
 pub fn read_whole<F: Read>(alloc: Global, from: &mut F, limit: u64) -> Result<Vec<u8>, FetchFault>
     ensures within { IfOk result (λ bytes. vec_len bytes ≤ limit) }
-    ensures bytes { IfOk result (λ bytes. IfSome (F.remaining from.old) (λ all. all ≡ bytes.items)) }
+    ensures bytes { IfOk result
+        (λ bytes. IfSome (F.remaining from.old) (λ all. all ≡ bytes.items)) }
     ensures longer { IsErrOf result FetchFault.TooLong →
         IfSome (F.remaining from.old) (λ all. limit < length all) }
     // It fails before it took more than the limit: what is too long is told as too long.

@@ -38,9 +38,11 @@ impl<'a> Lines<'a> {
     /// The next line, or `None` exactly at the end of the text.
     pub fn next(&mut self) -> Option<Line<'a>>
         ensures none { IsNone result ↔ (self.old ≡ []) }
-        ensures bytes { IfSome result (λ line. line.bytes.now ≡ before_first is_line_feed self.old) }
+        ensures bytes { IfSome result (λ line. line.bytes.now
+            ≡ before_first is_line_feed self.old) }
         ensures rest { self.new ≡ after_first is_line_feed self.old }
-        ensures whole { IfSome result (λ line. BeginsWithLine self.old line.bytes.now line.ended self.new) }
+        ensures whole { IfSome result
+            (λ line. BeginsWithLine self.old line.bytes.now line.ended self.new) }
     {
         let text = self.rest;
         if text.is_empty() {

@@ -62,7 +62,8 @@ fn value_of(digits: &[u8]) -> u64
 pub fn signed(text: &[u8]) -> Option<i64>
     ensures value { result ≡ signed_of text.now }
     // No other text is read as this number.
-    ensures spelled { IfSome result (λ z. (unsigned_abs z < 10 ^ 18) × (text.now ≡ signed_decimal z)) }
+    ensures spelled { IfSome result (λ z. (unsigned_abs z < 10 ^ 18)
+        × (text.now ≡ signed_decimal z)) }
 {
     match text {
         [b'-', rest @ ..] => match number(rest) {

@@ -79,7 +79,8 @@ pub fn refusal(
     what: &[u8],
     numbers: &[u32],
 ) -> Result<Answer, AllocError>
-    ensures answer { IfOk result (λ answer. answer_data answer ≡ refusal status what.now numbers.now) }
+    ensures answer { IfOk result (λ answer. answer_data answer
+        ≡ refusal status what.now numbers.now) }
     ensures status { IfOk result (λ answer. answer.status ≡ status) }
 {
     let line = refusal_line(alloc, what, numbers)?;

@@ -33,7 +33,8 @@ fn store_all<H: Shelf>(stored: &[StoredText], shelf: &mut H) -> Result<(), Store
 
 /// Puts the texts in order, up to the first that can't be put.
 fn put_all<K: Sink>(texts: &[Vec<u8>], out: &mut K) -> Result<(), PutFault>
-    ensures ok { OnOk result (Puts (K.state out.old) (K.state out.new) (concatenation (map vec_items texts.now))) }
+    ensures ok { OnOk result
+        (Puts (K.state out.old) (K.state out.new) (concatenation (map vec_items texts.now))) }
     ensures err { OnErr result
         (PutsPart (K.state out.old) (K.state out.new) (concatenation (map vec_items texts.now))) }
     ensures faults { OnOk result ((K.state out.new).faults ≡ (K.state out.old).faults) }

@@ -9,7 +9,8 @@ use brake_base::{Back, Half, Mask};
 
 /// The bends whose children lie beyond some bend of the group: a child has the number of its bend.
 pub fn faces_beyond(shape: &Shape, group: Mask) -> Mask
-    ensures { (f : ℕ) → f < length shape.now.part.faces → has result f ≡ is_beyond_some shape.now.part.faces (has group) f }
+    ensures { (f : ℕ) → f < length shape.now.part.faces
+        → has result f ≡ is_beyond_some shape.now.part.faces (has group) f }
 {
     let mut beyond = Mask::empty();
     for bend in 1..shape.faces() {

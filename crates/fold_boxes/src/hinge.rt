@@ -79,7 +79,8 @@ fn folded_place(part: &Part, bend: u8) -> Place
     requires part { IsPart (part_data part.now) }
     requires some { 0 < bend }
     requires bend { bend < length part.now.faces.items }
-    ensures value { map_of result ≡ design_step (part_data part.now).faces (half_thickness (part_data part.now)) bend }
+    ensures value { map_of result
+        ≡ design_step (part_data part.now).faces (half_thickness (part_data part.now)) bend }
     ensures near { IsWithin 21000000 result.at }
 {
     let joint = joint_of(part, bend);
@@ -169,7 +170,8 @@ fn point_beyond(side: Side, point: (i64, i64), distance: i64) -> (i64, i64)
     requires high { distance ≤ℤ pos 100000 }
     requires near_x { IsNear 21000000 point.0 }
     requires near_y { IsNear 21000000 point.1 }
-    ensures value { vector result.0 result.1 (pos 0) ≡ plus (vector point.0 point.1 (pos 0)) (times distance (outward side)) }
+    ensures value { vector result.0 result.1 (pos 0)
+        ≡ plus (vector point.0 point.1 (pos 0)) (times distance (outward side)) }
     ensures near_x { IsNear 21100000 result.0 }
     ensures near_y { IsNear 21100000 result.1 }
 {

@@ -50,7 +50,8 @@ pub(crate) fn boxes_at(shape: &Shape, mask: Mask, places: &[Place]) -> ArrayVec<
 fn face_boxes(shape: &Shape, mask: Mask, places: &[Place]) -> ArrayVec<PartBox, 25>
     requires count { length places.now ≡ length shape.now.part.faces }
     requires places { ArePlaces shape.now mask places.now }
-    ensures value { result.items ≡ map (face_box shape.now mask) (face_numbers shape.now.part.faces) }
+    ensures value { result.items
+        ≡ map (face_box shape.now mask) (face_numbers shape.now.part.faces) }
     ensures near { All IsNearBox result.items }
     ensures ids { All IsBoxId result.items }
     ensures count { length result.items ≡ length shape.now.part.faces }
@@ -70,7 +71,9 @@ fn put_corner_boxes(shape: &Shape, mask: Mask, places: &[Place], boxes: &mut Arr
     requires near { All IsNearBox boxes.old.items }
     requires ids { All IsBoxId boxes.old.items }
     requires room { length boxes.old.items ≤ 13 }
-    ensures value { boxes.new.items ≡ boxes.old.items ++ map (corner_box shape.now mask) (filter (has mask) (bend_numbers shape.now.part.faces)) }
+    ensures value { boxes.new.items
+        ≡ boxes.old.items
+        ++ map (corner_box shape.now mask) (filter (has mask) (bend_numbers shape.now.part.faces)) }
     ensures near { All IsNearBox boxes.new.items }
     ensures ids { All IsBoxId boxes.new.items }
     ensures room { length boxes.new.items ≤ 25 }

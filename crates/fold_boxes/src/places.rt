@@ -70,7 +70,8 @@ pub(crate) fn onto(parent: &Place, child: &Place) -> Place
     requires child { IsWithin (2 ^ 40) child.now.at }
     ensures value { map_of result ≡ after (map_of parent.now) (map_of child.now) }
     ensures turn { result.turn < 24 }
-    ensures near { (a b : ℕ) → IsWithin a parent.now.at → IsWithin b child.now.at → IsWithin (a + b) result.at }
+    ensures near { (a b : ℕ) → IsWithin a parent.now.at → IsWithin b child.now.at
+        → IsWithin (a + b) result.at }
 {
     Place {
         at: parent.map(child.at),

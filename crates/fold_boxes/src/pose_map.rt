@@ -33,7 +33,8 @@ pub fn attitude(shape: &Shape, mask: Mask, bend: u8, back: Back) -> Turn
 
 /// The turn of a pose, from the turn of the parent's place.
 fn pose_turn(joint: &Joint, back: Back, parent: Turn) -> Turn
-    ensures value { turn_of result ≡ multiply (frame_turn joint.now.side joint.now.dir back) (transpose (turn_of parent)) }
+    ensures value { turn_of result
+        ≡ multiply (frame_turn joint.now.side joint.now.dir back) (transpose (turn_of parent)) }
     ensures below { result < 24 }
     ensures undone { multiply (transpose (turn_of parent)) (turn_of parent) ≡ identity }
 {
@@ -78,7 +79,8 @@ pub(crate) fn pose_map(
     requires parent { IsWithin 252000000 parent.now.at }
     requires from { IsNear 1000000000 x0 }
     requires to { IsNear 1000000000 x1 }
-    ensures value { map_of result ≡ after (posed_frame shape.now group back x0 x1) (inverse_of (map_of parent.now)) }
+    ensures value { map_of result
+        ≡ after (posed_frame shape.now group back x0 x1) (inverse_of (map_of parent.now)) }
     ensures turn { result.turn < 24 }
     ensures near { IsNearShift result.at }
 {
@@ -103,7 +105,8 @@ fn posed_corner(shape: &Shape, group: Mask, back: Back, lead: u8, x0: i64, x1: i
     requires lead { lead ≡ lead_of shape.now group }
     requires from { IsNear 1000000000 x0 }
     requires to { IsNear 1000000000 x1 }
-    ensures value { result ≡ posed shape.now group back x0 x1 (flat_step shape.now.part.faces shape.now.q lead).shift }
+    ensures value { result ≡ posed shape.now group back x0 x1
+        (flat_step shape.now.part.faces shape.now.q lead).shift }
     ensures near_x { IsNear 1250000000 result.x }
     ensures near_y { IsNear 100000 result.y }
     ensures near_z { IsNear 100000 result.z }

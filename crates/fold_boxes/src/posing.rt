@@ -26,7 +26,8 @@ pub fn pose(shape: &Shape, mask: Mask, group: Mask, back: Back, x0: i64, x1: i64
     requires from { IsNear 1000000000 x0 }
     requires to { IsNear 1000000000 x1 }
     ensures value { pose_data result ≡ pose_of shape.now mask group back x0 x1 }
-    ensures effect { IsPoseMap shape.now mask group back x0 x1 (pose_map shape.now mask group back x0 x1) }
+    ensures effect { IsPoseMap shape.now mask group back x0 x1
+        (pose_map shape.now mask group back x0 x1) }
 
     // x lies within 2^31 micrometres of 0, y and z within 600,000,000.
     ensures near { All IsNearPoseBox result.boxes.items }
@@ -59,7 +60,8 @@ pub fn pose_from(
     requires from { IsNear 1000000000 x0 }
     requires to { IsNear 1000000000 x1 }
     ensures value { pose_data result ≡ pose_of shape.now mask group back x0 x1 }
-    ensures effect { IsPoseMap shape.now mask group back x0 x1 (pose_map shape.now mask group back x0 x1) }
+    ensures effect { IsPoseMap shape.now mask group back x0 x1
+        (pose_map shape.now mask group back x0 x1) }
     ensures near { All IsNearPoseBox result.boxes.items }
 {
     let lead = lead_of(shape, group);
@@ -106,7 +108,8 @@ fn moved_boxes(
     requires near { All IsNearBox boxes.now }
     requires ids { All IsBoxId boxes.now }
     requires room { length boxes.now ≤ 25 }
-    ensures value { result.items ≡ map (moved_box (map_of to_machine.now) (has beyond) back) boxes.now }
+    ensures value { result.items
+        ≡ map (moved_box (map_of to_machine.now) (has beyond) back) boxes.now }
     ensures near { All IsNearPoseBox result.items }
 {
     let mut moved = ArrayVec::new();
@@ -137,7 +140,8 @@ fn moved_places(to_machine: &Place, places: &[Place]) -> ArrayVec<Place, 13>
     requires to_machine { IsWithin (2 ^ 40) to_machine.now.at }
     requires near { All (λ place. IsWithin (2 ^ 40) place.at) places.now }
     requires few { length places.now ≤ 13 }
-    ensures { map map_of result.items ≡ map (λ place. after (map_of to_machine.now) (map_of place)) places.now }
+    ensures { map map_of result.items
+        ≡ map (λ place. after (map_of to_machine.now) (map_of place)) places.now }
 {
     let mut moved = ArrayVec::new();
     for place in places {

@@ -16,7 +16,9 @@ use machine_file::GaugeRule;
 pub(crate) fn is_pair(job: &Job, pose: &Pose, left: &PoseBox, right: &PoseBox) -> bool
     requires left { IsNearPoseBox left.now }
     requires right { IsNearPoseBox right.now }
-    ensures { IsTrue result ↔ IsPair job.now.setup.gauge job.now.part.thickness (pose_data pose.now) left.now right.now }
+    ensures { IsTrue result
+        ↔ IsPair job.now.setup.gauge job.now.part.thickness
+        (pose_data pose.now) left.now right.now }
 {
     let rule = gauge_rule(job);
     are_in_reach(rule, left, right) && are_free(job, pose, left, right)
@@ -81,7 +83,9 @@ fn are_apart(rule: &GaugeRule, left: &PoseBox, right: &PoseBox) -> bool
     requires rule { IsGaugeRule rule.now }
     requires left { IsNearPoseBox left.now }
     requires right { IsNearPoseBox right.now }
-    ensures { IsTrue result ↔ (rule.now.gap ≤ℤ ((right_finger rule.now right.now).0 -ℤ (left_finger rule.now left.now).1)) }
+    ensures { IsTrue result
+        ↔ (rule.now.gap ≤ℤ
+        ((right_finger rule.now right.now).0 -ℤ (left_finger rule.now left.now).1)) }
 {
     rule.gap <= right_finger(rule, right).0 - left_finger(rule, left).1
 }
@@ -98,7 +102,10 @@ fn are_free(job: &Job, pose: &Pose, left: &PoseBox, right: &PoseBox) -> bool
 /// Whether the left finger shares no interior point with the part.
 fn is_left_free(job: &Job, pose: &Pose, left: &PoseBox) -> bool
     requires left { IsNearPoseBox left.now }
-    ensures { IsTrue result ↔ IsFree (pose_data pose.now) (finger_box job.now.setup.gauge job.now.part.thickness (far_edge left.now) (left_finger job.now.setup.gauge left.now)) }
+    ensures { IsTrue result
+        ↔ IsFree (pose_data pose.now)
+        (finger_box job.now.setup.gauge job.now.part.thickness (far_edge left.now)
+        (left_finger job.now.setup.gauge left.now)) }
 {
     let range = left_finger(gauge_rule(job), left);
     is_free(pose, &finger_box(job, left, range))
@@ -108,7 +115,10 @@ fn is_left_free(job: &Job, pose: &Pose, left: &PoseBox) -> bool
 fn is_right_free(job: &Job, pose: &Pose, left: &PoseBox, right: &PoseBox) -> bool
     requires left { IsNearPoseBox left.now }
     requires right { IsNearPoseBox right.now }
-    ensures { IsTrue result ↔ IsFree (pose_data pose.now) (finger_box job.now.setup.gauge job.now.part.thickness (far_edge left.now) (right_finger job.now.setup.gauge right.now)) }
+    ensures { IsTrue result
+        ↔ IsFree (pose_data pose.now)
+        (finger_box job.now.setup.gauge job.now.part.thickness (far_edge left.now)
+        (right_finger job.now.setup.gauge right.now)) }
 {
     let range = right_finger(gauge_rule(job), right);
     is_free(pose, &finger_box(job, left, range))
@@ -137,7 +147,8 @@ pub fn right_finger(rule: &GaugeRule, face: &PoseBox) -> (i64, i64)
 /// The box that a finger with this range fills behind the far edge of the face.
 fn finger_box(job: &Job, face: &PoseBox, range: (i64, i64)) -> Box3
     requires face { IsNearPoseBox face.now }
-    ensures { result ≡ finger_box job.now.setup.gauge job.now.part.thickness (far_edge face.now) range }
+    ensures { result ≡ finger_box job.now.setup.gauge job.now.part.thickness
+        (far_edge face.now) range }
 {
     let edge = face.body.hi.y;
     let rule = &job.setup().gauge;

@@ -11,7 +11,8 @@ use job_setup::Job;
 
 /// Whether the box is that of this face, of the back half, and lies in the sheet's plane.
 pub(crate) fn is_flat_face(job: &Job, pose: &Pose, face: u8, part_box: &PoseBox) -> bool
-    ensures { IsTrue result ↔ IsFlatFace job.now.part.thickness (pose_data pose.now) face part_box.now }
+    ensures { IsTrue result
+        ↔ IsFlatFace job.now.part.thickness (pose_data pose.now) face part_box.now }
 {
     part_box.id == face
         && part_box.half == Half::Back

@@ -17,7 +17,8 @@ use job_setup::{Job, meets_at};
 pub fn bound(job: &Job, key: Key) -> u64
     requires key { IsKeyOf job.now key }
     ensures value { result ≡ bound_of job.now key }
-    ensures admissible { (steps : List Step) → IsRest job.now key steps → result ≤ total job.now key steps }
+    ensures admissible { (steps : List Step) → IsRest job.now key steps
+        → result ≤ total job.now key steps }
     ensures small { result ≤ 18000000 }
 {
     bound_at(job, &key)
@@ -26,7 +27,8 @@ pub fn bound(job: &Job, key: Key) -> u64
 fn bound_at(job: &Job, key: &Key) -> u64
     requires key { IsKeyOf job.now key.now }
     ensures value { result ≡ bound_of job.now key.now }
-    ensures admissible { (steps : List Step) → IsRest job.now key.now steps → result ≤ total job.now key.now steps }
+    ensures admissible { (steps : List Step) → IsRest job.now key.now steps
+        → result ≤ total job.now key.now steps }
     ensures small { result ≤ 18000000 }
 {
     let leads = leads_left(job, key.mask);

@@ -21,7 +21,8 @@ fn is_load_for(part: &Part, die: &Die, row: &LoadRow) -> bool
 /// The first row of the table for the part over this die.
 #[tactic(auto, using(crate::proofs::Lists::seen))]
 fn first_load<'a>(part: &Part, loads: &'a [LoadRow], die: &Die) -> Option<&'a LoadRow>
-    ensures { option_map (λ row. row.now) result ≡ find (λ row. is_load_for (part_data part.now) die.now.v (load_data row)) loads.now }
+    ensures { option_map (λ row. row.now) result
+        ≡ find (λ row. is_load_for (part_data part.now) die.now.v (load_data row)) loads.now }
 {
     loads.iter().find(|row| is_load_for(part, die, row))
 }
@@ -51,7 +52,8 @@ fn row_count(part: &Part, loads: &[LoadRow], die: &Die) -> usize
 /// Whether the table has rows, and none for this stage.
 #[tactic(auto, using(crate::proofs::Lists::seen))]
 fn lacks_load(part: &Part, loads: &[LoadRow], stage: &Stage) -> bool
-    ensures { result ≡ lacks_load (part_data part.now) (map load_data loads.now) (stage_data stage.now) }
+    ensures { result ≡ lacks_load (part_data part.now) (map load_data loads.now)
+        (stage_data stage.now) }
 {
     !loads.is_empty() && row_count(part, loads, &stage.die) == 0
 }
@@ -59,14 +61,17 @@ fn lacks_load(part: &Part, loads: &[LoadRow], stage: &Stage) -> bool
 /// Whether the table has at least two rows for this stage.
 #[tactic(auto, using(crate::proofs::Lists::seen))]
 fn has_two_loads(part: &Part, loads: &[LoadRow], stage: &Stage) -> bool
-    ensures { result ≡ has_two_loads (part_data part.now) (map load_data loads.now) (stage_data stage.now) }
+    ensures { result ≡ has_two_loads (part_data part.now) (map load_data loads.now)
+        (stage_data stage.now) }
 {
     row_count(part, loads, &stage.die) >= 2
 }
 
 /// The first stage for which the table, which isn't empty, has no row.
 fn first_without_load(part: &Part, loads: &[LoadRow], stages: &[Stage]) -> Option<usize>
-    ensures value { result ≡ position (λ stage. lacks_load (part_data part.now) (map load_data loads.now) (stage_data stage)) stages.now }
+    ensures value { result ≡ position
+        (λ stage. lacks_load (part_data part.now) (map load_data loads.now) (stage_data stage))
+        stages.now }
     ensures within { IfSome result (λ i. i < length stages.now) }
 {
     stages
@@ -76,7 +81,9 @@ fn first_without_load(part: &Part, loads: &[LoadRow], stages: &[Stage]) -> Optio
 
 /// The first stage for which the table has at least two rows.
 fn first_with_two_loads(part: &Part, loads: &[LoadRow], stages: &[Stage]) -> Option<usize>
-    ensures value { result ≡ position (λ stage. has_two_loads (part_data part.now) (map load_data loads.now) (stage_data stage)) stages.now }
+    ensures value { result ≡ position
+        (λ stage. has_two_loads (part_data part.now) (map load_data loads.now) (stage_data stage))
+        stages.now }
     ensures within { IfSome result (λ i. i < length stages.now) }
 {
     stages
@@ -89,7 +96,8 @@ fn first_with_two_loads(part: &Part, loads: &[LoadRow], stages: &[Stage]) -> Opt
 #[tactic(auto, using(crate::proofs::Lists::seen), unfolding(crate::specs::Loads::loads_fit))]
 pub(crate) fn check_loads(part: &Part, loads: &[LoadRow], stages: &[Stage]) -> Result<(), JobFault>
     requires { length stages.now ≤ 6 }
-    ensures { result ≡ loads_fit (part_data part.now) (map load_data loads.now) (map stage_data stages.now) }
+    ensures { result ≡ loads_fit (part_data part.now) (map load_data loads.now)
+        (map stage_data stages.now) }
 {
     if let Some(stage) = first_without_load(part, loads, stages) {
         return Err(JobFault::NoLoad { stage: stage as u8 });

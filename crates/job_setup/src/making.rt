@@ -28,7 +28,8 @@ use unfolder::unfold;
 /// Half of what the part loses at each bend, by the shop's table.
 fn half_deduction_of(part: &Part, tools: &Tools) -> Result<i64, JobFault>
     requires { IsTools (tools_data tools.now) }
-    ensures value { result ≡ refusing JobFault.Allow (half_deduction_in (tools_data tools.now).allow (part_data part.now)) }
+    ensures value { result ≡ refusing JobFault.Allow
+        (half_deduction_in (tools_data tools.now).allow (part_data part.now)) }
     ensures low { IfOk result (λ q. half_thickness (part_data part.now) ≤ℤ q) }
     ensures high { IfOk result (λ q. q ≤ℤ pos 100000) }
 {
@@ -54,7 +55,8 @@ fn check_blank(part: &Part, q: i64) -> Result<(), JobFault>
 
 /// The machine with these stages.
 fn setup_of(machine: &Machine, stages: ArrayVec<Stage, 6>) -> Setup
-    ensures { setup_data result ≡ setup_of (machine_data machine.now) (map stage_data stages.items) }
+    ensures { setup_data result
+        ≡ setup_of (machine_data machine.now) (map stage_data stages.items) }
 {
     let mut frames = ArrayVec::new();
     let _ = frames.try_extend_from_slice(machine.frames.as_slice());
@@ -78,8 +80,16 @@ fn setup_of(machine: &Machine, stages: ArrayVec<Stage, 6>) -> Setup
 
 /// The job whose checks passed.
 fn checked(part: &Part, q: i64, machine: &Machine, stages: ArrayVec<Stage, 6>) -> Job
-    requires { IsJob (record { part = part_data part.now; q = q; setup = setup_of (machine_data machine.now) (map stage_data stages.items) }) }
-    ensures { result ≡ record { part = part_data part.now; q = q; setup = setup_of (machine_data machine.now) (map stage_data stages.items) } }
+    requires { IsJob (record {
+      part = part_data part.now;
+      q = q;
+      setup = setup_of (machine_data machine.now) (map stage_data stages.items);
+    }) }
+    ensures { result ≡ record {
+      part = part_data part.now;
+      q = q;
+      setup = setup_of (machine_data machine.now) (map stage_data stages.items);
+    } }
 {
     Job::new(part, q, setup_of(machine, stages))
 }
@@ -93,7 +103,8 @@ fn check_stages(
 ) -> Result<(), JobFault>
     requires few { length stages.now ≤ 6 }
     requires few_texts { length machine.now.stages.items ≤ 6 }
-    ensures value { result ≡ stages_fit (part_data part.now) (tools_data tools.now) (machine_data machine.now) (map stage_data stages.now) }
+    ensures value { result ≡ stages_fit (part_data part.now) (tools_data tools.now)
+        (machine_data machine.now) (map stage_data stages.now) }
     ensures placed { OnOk result (places_fit machine.now.bed (map stage_data stages.now) ≡ Ok tt) }
 {
     check_places(&machine.bed, stages)?;
@@ -108,7 +119,8 @@ fn job_with(part: &Part, q: i64, tools: &Tools, machine: &Machine) -> Result<Job
     requires q_high { q ≤ℤ pos 100000 }
     requires tools { IsTools (tools_data tools.now) }
     requires machine { IsMachine (machine_data machine.now) }
-    ensures { result ≡ job_with (part_data part.now) q (tools_data tools.now) (machine_data machine.now) }
+    ensures { result ≡ job_with (part_data part.now) q (tools_data tools.now)
+        (machine_data machine.now) }
 {
     check_blank(part, q)?;
     let stages = stages_of(part, tools, machine.stages.as_slice())?;

@@ -124,7 +124,8 @@ fn lower_obstacles(boxes: &[Fixed], thickness: i64, half_opening: i64) -> ArrayV
     requires few { length boxes.now ≤ 64 }
     requires near { All IsNearBox boxes.now }
     requires sweep { IsSweep thickness half_opening }
-    ensures value { result.items ≡ map (lower_obstacle thickness half_opening) (enumerate_from 0 boxes.now) }
+    ensures value { result.items
+        ≡ map (lower_obstacle thickness half_opening) (enumerate_from 0 boxes.now) }
 {
     let mut group = ArrayVec::new();
     for fixed in boxes {
@@ -198,7 +199,8 @@ fn is_sunk(rect: &Rect, half_opening: i64) -> bool
 fn is_away(rect: &Rect, half_opening: i64) -> bool
     requires low { pos 0 ≤ℤ half_opening }
     requires high { half_opening ≤ℤ pos 500000 }
-    ensures { result ≡ ((int_le half_opening rect.now.y0 || int_le rect.now.y1 (neg_ℤ half_opening)) || int_le rect.now.z1 (neg_ℤ half_opening)) }
+    ensures { result ≡ ((int_le half_opening rect.now.y0 || int_le rect.now.y1 (neg_ℤ half_opening))
+        || int_le rect.now.z1 (neg_ℤ half_opening)) }
 {
     is_beside(rect, half_opening) || is_past(rect.z1, half_opening)
 }
@@ -207,7 +209,8 @@ fn is_away(rect: &Rect, half_opening: i64) -> bool
 fn is_beside(rect: &Rect, half_opening: i64) -> bool
     requires low { pos 0 ≤ℤ half_opening }
     requires high { half_opening ≤ℤ pos 500000 }
-    ensures { result ≡ (int_le half_opening rect.now.y0 || int_le rect.now.y1 (neg_ℤ half_opening)) }
+    ensures { result ≡ (int_le half_opening rect.now.y0
+        || int_le rect.now.y1 (neg_ℤ half_opening)) }
 {
     rect.y0 >= half_opening || is_past(rect.y1, half_opening)
 }
@@ -299,7 +302,10 @@ fn raised(rect: &Rect, by: i64) -> Rect
 fn put_punches(stages: &[Stage], boxes: &mut ArrayVec<Fixed, 64>)
     requires few { length stages.now ≤ 6 }
     requires room { length boxes.old.items ≤ 16 }
-    ensures value { boxes.new.items ≡ boxes.old.items ++ flat_map (λ stage. map (along_stage (stage_data stage)) stage.punch.body.items) stages.now }
+    ensures value { boxes.new.items
+        ≡ boxes.old.items
+        ++ flat_map (λ stage. map (along_stage (stage_data stage)) stage.punch.body.items)
+        stages.now }
     ensures few { length boxes.new.items ≤ 64 }
 {
     for stage in stages {
@@ -311,7 +317,9 @@ fn put_punches(stages: &[Stage], boxes: &mut ArrayVec<Fixed, 64>)
 fn put_dies(stages: &[Stage], boxes: &mut ArrayVec<Fixed, 64>)
     requires few { length stages.now ≤ 6 }
     requires room { length boxes.old.items ≤ 16 }
-    ensures value { boxes.new.items ≡ boxes.old.items ++ flat_map (λ stage. map (along_stage (stage_data stage)) stage.die.body.items) stages.now }
+    ensures value { boxes.new.items
+        ≡ boxes.old.items
+        ++ flat_map (λ stage. map (along_stage (stage_data stage)) stage.die.body.items) stages.now }
     ensures few { length boxes.new.items ≤ 64 }
 {
     for stage in stages {
@@ -322,7 +330,8 @@ fn put_dies(stages: &[Stage], boxes: &mut ArrayVec<Fixed, 64>)
 /// Puts the boxes of a tool's profile, along its stage.
 fn put_profile(stage: &Stage, profile: &[Rect], boxes: &mut ArrayVec<Fixed, 64>)
     requires room { length boxes.old.items + length profile.now ≤ 64 }
-    ensures value { boxes.new.items ≡ boxes.old.items ++ map (along_stage (stage_data stage.now)) profile.now }
+    ensures value { boxes.new.items
+        ≡ boxes.old.items ++ map (along_stage (stage_data stage.now)) profile.now }
 {
     for rect in profile {
         boxes.push(Fixed {

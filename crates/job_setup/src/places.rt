@@ -27,7 +27,8 @@ fn differs_from_first(stages: &[Stage], i: usize) -> bool
 /// The first stage whose punch or die isn't as high as that of stage 0.
 #[tactic(auto, using(crate::proofs::Lists::seen))]
 fn first_unequal(stages: &[Stage]) -> Option<usize>
-    ensures value { result ≡ first_below (differs_from_first (map stage_data stages.now)) (length stages.now) }
+    ensures value { result ≡ first_below (differs_from_first (map stage_data stages.now))
+        (length stages.now) }
     ensures within { IfSome result (λ i. i < length stages.now) }
 {
     (0..stages.len()).find(|i| differs_from_first(stages, *i))
@@ -53,7 +54,8 @@ fn is_overlap_of(stages: &[Stage], a: usize, b: usize) -> bool
 fn first_over(stages: &[Stage], a: usize) -> Option<usize>
     requires { a < length stages.now }
     ensures within { IfSome result (λ b. b < length stages.now) }
-    ensures value { result ≡ find (λ b. is_overlap_of (map stage_data stages.now) (a, b)) (range_with_len (a + 1) (length stages.now - (a + 1))) }
+    ensures value { result ≡ find (λ b. is_overlap_of (map stage_data stages.now) (a, b))
+        (range_with_len (a + 1) (length stages.now - (a + 1))) }
 {
     (a + 1..stages.len()).find(|b| is_overlap_of(stages, a, *b))
 }
@@ -62,7 +64,8 @@ fn first_over(stages: &[Stage], a: usize) -> Option<usize>
 #[tactic(auto, using(crate::proofs::Lists::seen))]
 fn first_overlap(stages: &[Stage]) -> Option<(u8, u8)>
     requires { length stages.now ≤ 6 }
-    ensures { result ≡ find (is_overlap_of (map stage_data stages.now)) (pairs_below (length stages.now)) }
+    ensures { result ≡ find (is_overlap_of (map stage_data stages.now))
+        (pairs_below (length stages.now)) }
 {
     for a in 0..stages.len() {
         if let Some(b) = first_over(stages, a) {

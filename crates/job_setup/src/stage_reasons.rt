@@ -47,14 +47,19 @@ fn is_overloaded(job: &Job, group: Mask, stage: &Stage) -> bool
 
 fn is_over_a_limit(job: &Job, group: Mask, stage: &Stage) -> bool
     requires { IsStageLoad stage.now.load }
-    ensures { result ≡ ((not (int_eq stage.now.limit (pos 0)) && int_lt stage.now.limit stage.now.load) || (not (int_eq job.now.setup.force (pos 0)) && int_lt (pos 1000 *ℤ job.now.setup.force) (stage.now.load *ℤ lines_total (shape_of job.now) (has group)))) }
+    ensures { result ≡ ((not (int_eq stage.now.limit (pos 0))
+        && int_lt stage.now.limit stage.now.load)
+        || (not (int_eq job.now.setup.force (pos 0))
+        && int_lt (pos 1000 *ℤ job.now.setup.force)
+        (stage.now.load *ℤ lines_total (shape_of job.now) (has group)))) }
 {
     is_over_limit(stage) || is_over_force(job, group, stage)
 }
 
 /// Whether the load is above that of the stage's tools, which may have none.
 fn is_over_limit(stage: &Stage) -> bool
-    ensures { result ≡ (not (int_eq stage.now.limit (pos 0)) && int_lt stage.now.limit stage.now.load) }
+    ensures { result ≡ (not (int_eq stage.now.limit (pos 0))
+        && int_lt stage.now.limit stage.now.load) }
 {
     stage.limit != 0 && stage.limit < stage.load
 }
@@ -62,7 +67,9 @@ fn is_over_limit(stage: &Stage) -> bool
 /// Whether the load over all lines is above the machine's force, which may have no limit.
 fn is_over_force(job: &Job, group: Mask, stage: &Stage) -> bool
     requires { IsStageLoad stage.now.load }
-    ensures { result ≡ (not (int_eq job.now.setup.force (pos 0)) && int_lt (pos 1000 *ℤ job.now.setup.force) (stage.now.load *ℤ lines_total (shape_of job.now) (has group))) }
+    ensures { result ≡ (not (int_eq job.now.setup.force (pos 0))
+        && int_lt (pos 1000 *ℤ job.now.setup.force)
+        (stage.now.load *ℤ lines_total (shape_of job.now) (has group))) }
 {
     has_force(job) && is_above_force(job, group, stage)
 }
@@ -77,7 +84,8 @@ fn has_force(job: &Job) -> bool
 /// Whether the load over all lines is above that limit.
 fn is_above_force(job: &Job, group: Mask, stage: &Stage) -> bool
     requires { IsStageLoad stage.now.load }
-    ensures { result ≡ int_lt (pos 1000 *ℤ job.now.setup.force) (stage.now.load *ℤ lines_total (shape_of job.now) (has group)) }
+    ensures { result ≡ int_lt (pos 1000 *ℤ job.now.setup.force)
+        (stage.now.load *ℤ lines_total (shape_of job.now) (has group)) }
 {
     let force = job.setup().force;
     1000 * force < force_of(stage.load, lines_total(job.shape(), group))

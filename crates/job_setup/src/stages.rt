@@ -20,28 +20,32 @@ use tool_library::{Die, LoadRow, Punch, Tools};
 
 /// The first punch of this name.
 fn first_punch<'a>(punches: &'a [Punch], name: &Name) -> Option<&'a Punch>
-    ensures { option_map (λ punch. punch.now) result ≡ find (λ punch. bytes_eq punch.name.bytes name.now.bytes) punches.now }
+    ensures { option_map (λ punch. punch.now) result
+        ≡ find (λ punch. bytes_eq punch.name.bytes name.now.bytes) punches.now }
 {
     punches.iter().find(|punch| punch.name == *name)
 }
 
 /// The punch of this name.
 pub(crate) fn punch_named<'a>(punches: &'a [Punch], name: &Name) -> Option<&'a Punch>
-    ensures { option_map (λ punch. punch_data punch.now) result ≡ punch_named (map punch_data punches.now) name.now.bytes }
+    ensures { option_map (λ punch. punch_data punch.now) result
+        ≡ punch_named (map punch_data punches.now) name.now.bytes }
 {
     first_punch(punches, name)
 }
 
 /// The first die of this name.
 fn first_die<'a>(dies: &'a [Die], name: &Name) -> Option<&'a Die>
-    ensures { option_map (λ die. die.now) result ≡ find (λ die. bytes_eq die.name.bytes name.now.bytes) dies.now }
+    ensures { option_map (λ die. die.now) result
+        ≡ find (λ die. bytes_eq die.name.bytes name.now.bytes) dies.now }
 {
     dies.iter().find(|die| die.name == *name)
 }
 
 /// The die of this name.
 pub(crate) fn die_named<'a>(dies: &'a [Die], name: &Name) -> Option<&'a Die>
-    ensures { option_map (λ die. die_data die.now) result ≡ die_named (map die_data dies.now) name.now.bytes }
+    ensures { option_map (λ die. die_data die.now) result
+        ≡ die_named (map die_data dies.now) name.now.bytes }
 {
     first_die(dies, name)
 }
@@ -110,7 +114,9 @@ fn least_limit(a: i64, b: i64) -> i64
 /// The stage with copies of these tools.
 fn stage_with(part: &Part, loads: &[LoadRow], text: &StageText, punch: &Punch, die: &Die) -> Stage
     requires text { IsStageText (stage_text_data text.now) }
-    ensures { stage_data result ≡ stage_with (part_data part.now) (map load_data loads.now) (stage_text_data text.now) (punch_data punch.now) (die_data die.now) }
+    ensures { stage_data result
+        ≡ stage_with (part_data part.now) (map load_data loads.now) (stage_text_data text.now)
+        (punch_data punch.now) (die_data die.now) }
 {
     Stage {
         punch: punch_shape(punch),
@@ -127,7 +133,8 @@ fn stage_with(part: &Part, loads: &[LoadRow], text: &StageText, punch: &Punch, d
 #[tactic(auto, using(crate::proofs::Lists::seen), unfolding(crate::specs::Stages::stage_of_text))]
 fn stage_of_text(part: &Part, tools: &Tools, stage: u8, text: &StageText) -> Result<Stage, JobFault>
     requires { IsStageText (stage_text_data text.now) }
-    ensures { Gives stage_data result (stage_of_text (part_data part.now) (tools_data tools.now) stage (stage_text_data text.now)) }
+    ensures { Gives stage_data result
+        (stage_of_text (part_data part.now) (tools_data tools.now) stage (stage_text_data text.now)) }
 {
     let Some(punch) = punch_named(&tools.punches, &text.punch) else {
         return Err(JobFault::UnknownTool { stage });
@@ -146,7 +153,9 @@ pub(crate) fn stages_of(
 ) -> Result<ArrayVec<Stage, MOST_STAGES>, JobFault>
     requires texts { All IsStageText (map stage_text_data texts.now) }
     requires few { length texts.now ≤ MOST_STAGES }
-    ensures value { Gives (λ stages. map stage_data stages.items) result (each_from (stage_of_text (part_data part.now) (tools_data tools.now)) 0 (map stage_text_data texts.now)) }
+    ensures value { Gives (λ stages. map stage_data stages.items) result
+        (each_from (stage_of_text (part_data part.now) (tools_data tools.now)) 0
+        (map stage_text_data texts.now)) }
     ensures few { IfOk result (λ stages. length stages.items ≤ MOST_STAGES) }
 {
     let mut stages = ArrayVec::new();

@@ -90,7 +90,8 @@ fn used(kind: ToolKind, stages: &[StageText], name: &Name, piece: &i64) -> usize
 
 /// How many pieces of this length there are of the punch of this name.
 fn held_of_punch(punches: &[Punch], name: &Name, piece: &i64) -> usize
-    ensures { result ≡ held (punch_sections (punch_named (map punch_data punches.now) name.now.bytes)) piece.now }
+    ensures { result ≡ held
+        (punch_sections (punch_named (map punch_data punches.now) name.now.bytes)) piece.now }
 {
     match punch_named(punches, name) {
         Some(punch) => held(punch.sections.as_slice(), piece),
@@ -100,7 +101,8 @@ fn held_of_punch(punches: &[Punch], name: &Name, piece: &i64) -> usize
 
 /// How many pieces of this length there are of the die of this name.
 fn held_of_die(dies: &[Die], name: &Name, piece: &i64) -> usize
-    ensures { result ≡ held (die_sections (die_named (map die_data dies.now) name.now.bytes)) piece.now }
+    ensures { result ≡ held
+        (die_sections (die_named (map die_data dies.now) name.now.bytes)) piece.now }
 {
     match die_named(dies, name) {
         Some(die) => held(die.sections.as_slice(), piece),
@@ -123,7 +125,8 @@ fn held_of(kind: ToolKind, tools: &Tools, name: &Name, piece: &i64) -> usize
 #[tactic(auto, unfolding(crate::specs::Stock::is_used_up))]
 fn is_used_up(tools: &Tools, stages: &[StageText], kind: ToolKind, name: &Name, piece: &i64) -> bool
     requires { length stages.now ≤ 6 }
-    ensures { result ≡ is_used_up (tools_data tools.now) (map stage_text_data stages.now) kind name.now.bytes piece.now }
+    ensures { result ≡ is_used_up (tools_data tools.now)
+        (map stage_text_data stages.now) kind name.now.bytes piece.now }
 {
     held_of(kind, tools, name, piece) < used(kind, stages, name, piece)
 }
@@ -132,7 +135,8 @@ fn is_used_up(tools: &Tools, stages: &[StageText], kind: ToolKind, name: &Name, 
 /// that tool's sections hold.
 fn overuses(tools: &Tools, stages: &[StageText], stage: &StageText, kind: ToolKind) -> bool
     requires { length stages.now ≤ 6 }
-    ensures { result ≡ overuses (tools_data tools.now) (map stage_text_data stages.now) (stage_text_data stage.now) kind }
+    ensures { result ≡ overuses (tools_data tools.now) (map stage_text_data stages.now)
+        (stage_text_data stage.now) kind }
 {
     let name = tool_name(kind, stage);
     stage
@@ -146,7 +150,8 @@ fn overuses(tools: &Tools, stages: &[StageText], stage: &StageText, kind: ToolKi
 /// that tool's sections hold.
 fn runs_short(tools: &Tools, stages: &[StageText], stage: &StageText) -> bool
     requires { length stages.now ≤ 6 }
-    ensures { result ≡ runs_short (tools_data tools.now) (map stage_text_data stages.now) (stage_text_data stage.now) }
+    ensures { result ≡ runs_short (tools_data tools.now) (map stage_text_data stages.now)
+        (stage_text_data stage.now) }
 {
     overuses(tools, stages, stage, ToolKind::Punch) || overuses(tools, stages, stage, ToolKind::Die)
 }
@@ -165,7 +170,9 @@ fn is_stage_short(tools: &Tools, stages: &[StageText], i: usize) -> bool
 /// The first stage at which the stock is short by one of the stage's own lengths and tools.
 fn first_short(tools: &Tools, stages: &[StageText]) -> Option<usize>
     requires { length stages.now ≤ 6 }
-    ensures value { result ≡ first_below (is_stage_short (tools_data tools.now) (map stage_text_data stages.now)) (length stages.now) }
+    ensures value { result ≡ first_below
+        (is_stage_short (tools_data tools.now) (map stage_text_data stages.now))
+        (length stages.now) }
     ensures within { IfSome result (λ i. i < length stages.now) }
 {
     (0..stages.len()).find(|i| is_stage_short(tools, stages, *i))

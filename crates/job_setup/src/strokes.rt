@@ -73,7 +73,8 @@ pub(crate) fn is_uncovered(job: &Job, group: Mask, stage: &Stage) -> bool
 
 /// Whether a core at one of the group's lines is shorter than the die's least flange.
 fn lacks_a_rest(job: &Job, group: Mask, stage: &Stage) -> bool
-    ensures { result ≡ (lacks_rest job.now (has group) Back.Parent (stage_data stage.now) || lacks_rest job.now (has group) Back.Child (stage_data stage.now)) }
+    ensures { result ≡ (lacks_rest job.now (has group) Back.Parent (stage_data stage.now)
+        || lacks_rest job.now (has group) Back.Child (stage_data stage.now)) }
 {
     lacks_rest(job, group, Back::Parent, stage) || lacks_rest(job, group, Back::Child, stage)
 }

@@ -29,14 +29,17 @@ use unfolder::unfold;
 
 /// Whether the punch keeps to its rules and has neither sections nor a limit.
 fn is_bare_punch(punch: &Punch) -> bool
-    ensures { IsTrue result ↔ (IsPunch (punch_data punch.now) × (punch.now.sections.items ≡ []) × (punch.now.limit ≡ pos 0)) }
+    ensures { IsTrue result
+        ↔ (IsPunch (punch_data punch.now) × (punch.now.sections.items ≡ [])
+        × (punch.now.limit ≡ pos 0)) }
 {
     punch.is_valid() && punch.sections.is_empty() && punch.limit == 0
 }
 
 /// Whether the die keeps to its rules and has neither sections nor a limit.
 fn is_bare_die(die: &Die) -> bool
-    ensures { IsTrue result ↔ (IsDie (die_data die.now) × (die.now.sections.items ≡ []) × (die.now.limit ≡ pos 0)) }
+    ensures { IsTrue result
+        ↔ (IsDie (die_data die.now) × (die.now.sections.items ≡ []) × (die.now.limit ≡ pos 0)) }
 {
     die.is_valid() && die.sections.is_empty() && die.limit == 0
 }
@@ -111,7 +114,9 @@ fn are_fixtures(setup: &Setup) -> bool
 
 /// Whether what may be uncovered and the force are in range.
 fn are_limits(setup: &Setup) -> bool
-    ensures { IsTrue result ↔ (IsWithin (pos 0) GREATEST_UNCOVERED setup.now.uncovered × IsWithin (pos 0) GREATEST_FORCE setup.now.force) }
+    ensures { IsTrue result
+        ↔ (IsWithin (pos 0) GREATEST_UNCOVERED setup.now.uncovered
+        × IsWithin (pos 0) GREATEST_FORCE setup.now.force) }
 {
     is_within(setup.uncovered, 0, GREATEST_UNCOVERED) && is_within(setup.force, 0, GREATEST_FORCE)
 }
@@ -157,7 +162,8 @@ impl Setup {
 
 /// Whether q is from half of the thickness to 100,000 micrometres.
 fn is_deduction(part: &Part, q: i64) -> bool
-    ensures { IsTrue result ↔ (half_thickness (part_data part.now) ≤ℤ q × q ≤ℤ GREATEST_HALF_DEDUCTION) }
+    ensures { IsTrue result
+        ↔ (half_thickness (part_data part.now) ≤ℤ q × q ≤ℤ GREATEST_HALF_DEDUCTION) }
 {
     part.thickness / 2 <= q && q <= GREATEST_HALF_DEDUCTION
 }

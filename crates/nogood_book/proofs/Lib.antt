@@ -1,4 +1,3 @@
-pub mod Numbers
 pub mod Paths
 pub mod Elements
 pub mod ReasonSupport

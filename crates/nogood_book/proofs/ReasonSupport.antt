@@ -17,7 +17,7 @@ use Rattle.fold_boxes.specs.Shapes.{ShapeData, IsShape}
 use Rattle.fold_boxes.specs.Pose.{lead_of, face_of_box, pose_box, box_ids, pose_of}
 use Rattle.fold_boxes.proofs.Leads.{lead_is}
 use Rattle.fold_boxes.proofs.PartBounds.{parent_inside}
-use Rattle.nogood_book.proofs.Numbers.{all_numbers, all_picked}
+use Rattle.fold_boxes.proofs.Picked.{all_numbers, all_picked}
 use Rattle.fold_boxes.proofs.PoseLists.{is_face, is_corner}
 use Rattle.fold_boxes.proofs.Locality.{face_alike, corner_alike}
 use Rattle.job_setup.specs.Setup.{JobData, shape_of}

@@ -126,7 +126,9 @@ fn second_flange(draws: &mut Draws, number: u8, side: Side, width: i64) -> Face
 /// Adds the second flange of a side.
 fn push_second(draws: &mut Draws, faces: &mut ArrayVec<Face, 13>, side: Side, width: i64)
     requires { length faces.old.items < 10 }
-    ensures faces { map face_data faces.new.items ≡ map face_data faces.old.items ++ second_from draws.old.x (length faces.old.items) side width ∷ [] }
+    ensures faces { map face_data faces.new.items
+        ≡ map face_data faces.old.items
+        ++ second_from draws.old.x (length faces.old.items) side width ∷ [] }
     ensures state { draws.new.x ≡ state_after 2 draws.old.x }
 {
     let flange = second_flange(draws, faces.len() as u8, side, width);
@@ -136,8 +138,12 @@ fn push_second(draws: &mut Draws, faces: &mut ArrayVec<Face, 13>, side: Side, wi
 /// Adds a second flange of a side where the draw says so, which is where it is 1.
 fn push_second_by_choice(draws: &mut Draws, faces: &mut ArrayVec<Face, 13>, side: Side, width: i64)
     requires { length faces.old.items < 10 }
-    ensures faces { map face_data faces.new.items ≡ (if answer draws.old.x 2 == 1 then map face_data faces.old.items ++ second_from (next draws.old.x) (length faces.old.items) side width ∷ [] else map face_data faces.old.items) }
-    ensures state { draws.new.x ≡ (if answer draws.old.x 2 == 1 then state_after 3 draws.old.x else next draws.old.x) }
+    ensures faces { map face_data faces.new.items
+        ≡ (if answer draws.old.x 2 == 1 then map face_data faces.old.items
+        ++ second_from (next draws.old.x) (length faces.old.items) side width
+        ∷ [] else map face_data faces.old.items) }
+    ensures state { draws.new.x
+        ≡ (if answer draws.old.x 2 == 1 then state_after 3 draws.old.x else next draws.old.x) }
 {
     if draws.draw(2) == 1 {
         push_second(draws, faces, side, width);

@@ -44,7 +44,8 @@ fn dir_word(dir: Dir) -> &'static [u8]
 /// The number and the side of the face on which a face stands.
 #[tactic(auto, using(crate::proofs::Texts::pieces))]
 fn put_parent(out: &mut Vec<u8>, joint: &Joint) -> Result<(), AllocError>
-    ensures { OnOk result (out.new.items ≡ out.old.items ++ flat_map spaced (number joint.now.on ∷ side_word joint.now.side ∷ [])) }
+    ensures { OnOk result (out.new.items
+        ≡ out.old.items ++ flat_map spaced (number joint.now.on ∷ side_word joint.now.side ∷ [])) }
 {
     put_count(out, u64::from(joint.on))?;
     put_spaced(out, side_word(joint.side))
@@ -53,7 +54,10 @@ fn put_parent(out: &mut Vec<u8>, joint: &Joint) -> Result<(), AllocError>
 /// Where on that side the face stands, its sizes, and the direction of the bend between them.
 #[tactic(auto, using(crate::proofs::Texts::pieces))]
 fn put_standing(out: &mut Vec<u8>, face: &Face, joint: &Joint) -> Result<(), AllocError>
-    ensures { OnOk result (out.new.items ≡ out.old.items ++ flat_map spaced (signed_decimal joint.now.at ∷ signed_decimal face.now.width ∷ signed_decimal face.now.length ∷ dir_word joint.now.dir ∷ [])) }
+    ensures { OnOk result (out.new.items
+        ≡ out.old.items ++ flat_map spaced (signed_decimal joint.now.at
+        ∷ signed_decimal face.now.width ∷ signed_decimal face.now.length ∷ dir_word joint.now.dir
+        ∷ [])) }
 {
     put_numbers(out, &[joint.at, face.width, face.length])?;
     put_spaced(out, dir_word(joint.dir))
@@ -62,7 +66,9 @@ fn put_standing(out: &mut Vec<u8>, face: &Face, joint: &Joint) -> Result<(), All
 /// The line of a face that stands on another one.
 #[tactic(auto, using(crate::proofs::Texts::pieces))]
 fn put_child(out: &mut Vec<u8>, face: &Face, joint: &Joint) -> Result<(), AllocError>
-    ensures { OnOk result (out.new.items ≡ out.old.items ++ text_line (codes "face") (face_words (face_data face.now) (Some joint.now))) }
+    ensures { OnOk result (out.new.items
+        ≡ out.old.items ++ text_line (codes "face")
+        (face_words (face_data face.now) (Some joint.now))) }
 {
     put_word(out, b"face")?;
     put_spaced(out, face.name.as_str().as_bytes())?;
@@ -74,7 +80,8 @@ fn put_child(out: &mut Vec<u8>, face: &Face, joint: &Joint) -> Result<(), AllocE
 /// The line of a face.
 #[tactic(auto, using(crate::proofs::Texts::pieces), unfolding(crate::specs::Lines::line_text))]
 fn put_face(out: &mut Vec<u8>, face: &Face) -> Result<(), AllocError>
-    ensures { OnOk result (out.new.items ≡ out.old.items ++ line_text (face_line (face_data face.now))) }
+    ensures { OnOk result (out.new.items
+        ≡ out.old.items ++ line_text (face_line (face_data face.now))) }
 {
     match &face.joint {
         None => put_named_line(
@@ -89,7 +96,8 @@ fn put_face(out: &mut Vec<u8>, face: &Face) -> Result<(), AllocError>
 
 /// A line for each face.
 fn put_faces(out: &mut Vec<u8>, faces: &[Face]) -> Result<(), AllocError>
-    ensures { OnOk result (out.new.items ≡ out.old.items ++ flat_map (λ face. line_text (face_line (face_data face))) faces.now) }
+    ensures { OnOk result (out.new.items
+        ≡ out.old.items ++ flat_map (λ face. line_text (face_line (face_data face))) faces.now) }
 {
     for face in faces {
         put_face(out, face)?;
@@ -100,7 +108,8 @@ fn put_faces(out: &mut Vec<u8>, faces: &[Face]) -> Result<(), AllocError>
 /// The lines of a part and its half deduction.
 #[tactic(auto, using(crate::proofs::Texts::pieces), unfolding(crate::specs::Lines::line_text))]
 fn put_part(out: &mut Vec<u8>, part: &Part, q: i64) -> Result<(), AllocError>
-    ensures { OnOk result (out.new.items ≡ out.old.items ++ lines_text (part_lines (part_data part.now) q)) }
+    ensures { OnOk result (out.new.items
+        ≡ out.old.items ++ lines_text (part_lines (part_data part.now) q)) }
 {
     put_named_line(
         out,
@@ -114,7 +123,8 @@ fn put_part(out: &mut Vec<u8>, part: &Part, q: i64) -> Result<(), AllocError>
 /// A line for each side frame.
 #[tactic(auto, using(crate::proofs::Texts::pieces), unfolding(crate::specs::Lines::line_text))]
 fn put_frames(out: &mut Vec<u8>, frames: &[(i64, i64)]) -> Result<(), AllocError>
-    ensures { OnOk result (out.new.items ≡ out.old.items ++ flat_map (λ frame. line_text (frame_line frame)) frames.now) }
+    ensures { OnOk result (out.new.items
+        ≡ out.old.items ++ flat_map (λ frame. line_text (frame_line frame)) frames.now) }
 {
     for frame in frames {
         put_number_line(out, b"frame", &[frame.0, frame.1])?;
@@ -124,7 +134,8 @@ fn put_frames(out: &mut Vec<u8>, frames: &[(i64, i64)]) -> Result<(), AllocError
 
 /// The line of a fixed box.
 fn put_fixed(out: &mut Vec<u8>, keyword: &[u8], fixed: &Fixed) -> Result<(), AllocError>
-    ensures { OnOk result (out.new.items ≡ out.old.items ++ text_line keyword.now (fixed_words fixed.now)) }
+    ensures { OnOk result (out.new.items
+        ≡ out.old.items ++ text_line keyword.now (fixed_words fixed.now)) }
 {
     let rect = &fixed.rect;
     put_number_line(
@@ -136,7 +147,8 @@ fn put_fixed(out: &mut Vec<u8>, keyword: &[u8], fixed: &Fixed) -> Result<(), All
 
 /// A line for each fixed box.
 fn put_all_fixed(out: &mut Vec<u8>, keyword: &[u8], boxes: &[Fixed]) -> Result<(), AllocError>
-    ensures { OnOk result (out.new.items ≡ out.old.items ++ flat_map (λ fixed. text_line keyword.now (fixed_words fixed)) boxes.now) }
+    ensures { OnOk result (out.new.items
+        ≡ out.old.items ++ flat_map (λ fixed. text_line keyword.now (fixed_words fixed)) boxes.now) }
 {
     for fixed in boxes {
         put_fixed(out, keyword, fixed)?;
@@ -147,7 +159,8 @@ fn put_all_fixed(out: &mut Vec<u8>, keyword: &[u8], boxes: &[Fixed]) -> Result<(
 /// A line for each fixed box above the bed.
 #[tactic(auto, unfolding(crate::specs::Lines::line_text))]
 fn put_upper(out: &mut Vec<u8>, boxes: &[Fixed]) -> Result<(), AllocError>
-    ensures { OnOk result (out.new.items ≡ out.old.items ++ flat_map (λ fixed. line_text (upper_line fixed)) boxes.now) }
+    ensures { OnOk result (out.new.items
+        ≡ out.old.items ++ flat_map (λ fixed. line_text (upper_line fixed)) boxes.now) }
 {
     put_all_fixed(out, b"upper", boxes)
 }
@@ -155,7 +168,8 @@ fn put_upper(out: &mut Vec<u8>, boxes: &[Fixed]) -> Result<(), AllocError>
 /// A line for each fixed box of the bed.
 #[tactic(auto, unfolding(crate::specs::Lines::line_text))]
 fn put_lower(out: &mut Vec<u8>, boxes: &[Fixed]) -> Result<(), AllocError>
-    ensures { OnOk result (out.new.items ≡ out.old.items ++ flat_map (λ fixed. line_text (lower_line fixed)) boxes.now) }
+    ensures { OnOk result (out.new.items
+        ≡ out.old.items ++ flat_map (λ fixed. line_text (lower_line fixed)) boxes.now) }
 {
     put_all_fixed(out, b"lower", boxes)
 }
@@ -170,7 +184,8 @@ fn put_bed(out: &mut Vec<u8>, bed: &(i64, i64)) -> Result<(), AllocError>
 
 /// The lines of what is fixed on the machine.
 fn put_fixtures(out: &mut Vec<u8>, setup: &Setup) -> Result<(), AllocError>
-    ensures { OnOk result (out.new.items ≡ out.old.items ++ lines_text (fixture_lines (setup_data setup.now))) }
+    ensures { OnOk result (out.new.items
+        ≡ out.old.items ++ lines_text (fixture_lines (setup_data setup.now))) }
 {
     put_bed(out, &setup.bed)?;
     put_frames(out, setup.frames.as_slice())?;
@@ -224,7 +239,8 @@ fn put_costs(out: &mut Vec<u8>, cost: &Costs) -> Result<(), AllocError>
 #[tactic(auto, using(crate::proofs::Texts::pieces), unfolding(crate::specs::Lines::line_text))]
 fn put_rules(out: &mut Vec<u8>, setup: &Setup) -> Result<(), AllocError>
     requires { IsCosts setup.now.cost }
-    ensures { OnOk result (out.new.items ≡ out.old.items ++ lines_text (rule_lines (setup_data setup.now))) }
+    ensures { OnOk result (out.new.items
+        ≡ out.old.items ++ lines_text (rule_lines (setup_data setup.now))) }
 {
     put_number_line(out, b"uncovered", &[setup.uncovered])?;
     put_gauge(out, &setup.gauge)?;
@@ -243,7 +259,8 @@ fn put_box(out: &mut Vec<u8>, rect: &Rect) -> Result<(), AllocError>
 
 /// A line for each box of a tool.
 fn put_boxes(out: &mut Vec<u8>, boxes: &[Rect]) -> Result<(), AllocError>
-    ensures { OnOk result (out.new.items ≡ out.old.items ++ flat_map (λ rect. line_text (box_line rect)) boxes.now) }
+    ensures { OnOk result (out.new.items
+        ≡ out.old.items ++ flat_map (λ rect. line_text (box_line rect)) boxes.now) }
 {
     for rect in boxes {
         put_box(out, rect)?;
@@ -254,7 +271,8 @@ fn put_boxes(out: &mut Vec<u8>, boxes: &[Rect]) -> Result<(), AllocError>
 /// The lines of a punch.
 #[tactic(auto, using(crate::proofs::Texts::pieces), unfolding(crate::specs::Lines::line_text))]
 fn put_punch(out: &mut Vec<u8>, punch: &Punch) -> Result<(), AllocError>
-    ensures { OnOk result (out.new.items ≡ out.old.items ++ lines_text (punch_lines (punch_data punch.now))) }
+    ensures { OnOk result (out.new.items
+        ≡ out.old.items ++ lines_text (punch_lines (punch_data punch.now))) }
 {
     put_named_line(
         out,
@@ -268,7 +286,8 @@ fn put_punch(out: &mut Vec<u8>, punch: &Punch) -> Result<(), AllocError>
 /// The lines of a die.
 #[tactic(auto, using(crate::proofs::Texts::pieces), unfolding(crate::specs::Lines::line_text))]
 fn put_die(out: &mut Vec<u8>, die: &Die) -> Result<(), AllocError>
-    ensures { OnOk result (out.new.items ≡ out.old.items ++ lines_text (die_lines (die_data die.now))) }
+    ensures { OnOk result (out.new.items
+        ≡ out.old.items ++ lines_text (die_lines (die_data die.now))) }
 {
     put_named_line(
         out,
@@ -282,7 +301,8 @@ fn put_die(out: &mut Vec<u8>, die: &Die) -> Result<(), AllocError>
 /// The lines of a stage.
 #[tactic(auto, using(crate::proofs::Texts::pieces), unfolding(crate::specs::Lines::line_text))]
 fn put_stage(out: &mut Vec<u8>, stage: &Stage) -> Result<(), AllocError>
-    ensures { OnOk result (out.new.items ≡ out.old.items ++ lines_text (stage_lines (stage_data stage.now))) }
+    ensures { OnOk result (out.new.items
+        ≡ out.old.items ++ lines_text (stage_lines (stage_data stage.now))) }
 {
     put_number_line(out, b"stage", &[stage.x0, stage.x1])?;
     put_punch(out, &stage.punch)?;
@@ -293,7 +313,9 @@ fn put_stage(out: &mut Vec<u8>, stage: &Stage) -> Result<(), AllocError>
 
 /// The lines of all stages.
 fn put_stages(out: &mut Vec<u8>, stages: &[Stage]) -> Result<(), AllocError>
-    ensures { OnOk result (out.new.items ≡ out.old.items ++ flat_map (λ stage. lines_text (stage_lines (stage_data stage))) stages.now) }
+    ensures { OnOk result (out.new.items
+        ≡ out.old.items ++ flat_map
+        (λ stage. lines_text (stage_lines (stage_data stage))) stages.now) }
 {
     for stage in stages {
         put_stage(out, stage)?;

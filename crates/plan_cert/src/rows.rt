@@ -46,7 +46,8 @@ fn half_word(half: Half) -> &'static [u8]
 /// The words of an action.
 #[tactic(auto, using(crate::proofs::Texts::pieces))]
 pub(crate) fn put_action(out: &mut Vec<u8>, action: &Action) -> Result<(), AllocError>
-    ensures { OnOk result (out.new.items ≡ out.old.items ++ flat_map spaced (action_words action.now)) }
+    ensures { OnOk result (out.new.items
+        ≡ out.old.items ++ flat_map spaced (action_words action.now)) }
 {
     put_count(out, u64::from(action.bend))?;
     put_spaced(out, back_word(action.back))?;
@@ -56,7 +57,8 @@ pub(crate) fn put_action(out: &mut Vec<u8>, action: &Action) -> Result<(), Alloc
 /// A box of the part in a quarter, and what it meets there.
 #[tactic(auto, using(crate::proofs::Texts::pieces))]
 fn put_meeting(out: &mut Vec<u8>, body: u8, quarter: Quarter, other: u8) -> Result<(), AllocError>
-    ensures { OnOk result (out.new.items ≡ out.old.items ++ flat_map spaced (meeting_words body quarter other)) }
+    ensures { OnOk result (out.new.items
+        ≡ out.old.items ++ flat_map spaced (meeting_words body quarter other)) }
 {
     put_count(out, u64::from(body))?;
     put_count(out, u64::from(quarter.number()))?;
@@ -66,7 +68,8 @@ fn put_meeting(out: &mut Vec<u8>, body: u8, quarter: Quarter, other: u8) -> Resu
 /// What a reason names.
 #[tactic(auto, using(crate::proofs::Texts::pieces))]
 fn put_arguments(out: &mut Vec<u8>, reason: Reason) -> Result<(), AllocError>
-    ensures { OnOk result (out.new.items ≡ out.old.items ++ flat_map spaced (argument_words reason)) }
+    ensures { OnOk result (out.new.items
+        ≡ out.old.items ++ flat_map spaced (argument_words reason)) }
 {
     match reason {
         Reason::Cover => Ok(()),
@@ -104,7 +107,8 @@ fn action_at(stages: u8, number: u8) -> Action
 fn put_note(out: &mut Vec<u8>, stages: u8, note: &Note) -> Result<(), AllocError>
     requires action { note.now.action < 24 * stages }
     requires stages { stages ≤ 6 }
-    ensures { OnOk result (out.new.items ≡ out.old.items ++ line_text (line_of_note stages note.now)) }
+    ensures { OnOk result (out.new.items
+        ≡ out.old.items ++ line_text (line_of_note stages note.now)) }
 {
     let action = action_at(stages, note.action);
     put_word(out, b"x")?;
@@ -117,7 +121,8 @@ fn put_note(out: &mut Vec<u8>, stages: u8, note: &Note) -> Result<(), AllocError
 fn put_notes(out: &mut Vec<u8>, stages: u8, notes: &[Note]) -> Result<(), AllocError>
     requires actions { All (λ note. note.action < 24 * stages) notes.now }
     requires stages { stages ≤ 6 }
-    ensures { OnOk result (out.new.items ≡ out.old.items ++ flat_map (λ note. line_text (line_of_note stages note)) notes.now) }
+    ensures { OnOk result (out.new.items
+        ≡ out.old.items ++ flat_map (λ note. line_text (line_of_note stages note)) notes.now) }
 {
     for note in notes {
         put_note(out, stages, note)?;
@@ -168,7 +173,8 @@ pub(crate) fn put_rows(
     requires worths { All (λ row. IsWorth row.worth) rows.now }
     requires actions { All (λ note. note.action < 24 * stages) notes.now }
     requires order { AllPairs NoteIsBefore notes.now }
-    ensures { OnOk result (out.new.items ≡ out.old.items ++ lines_text (rows_lines stages rows.now notes.now)) }
+    ensures { OnOk result (out.new.items
+        ≡ out.old.items ++ lines_text (rows_lines stages rows.now notes.now)) }
 {
     let mut rest = notes;
     for (i, row) in rows.iter().enumerate() {

@@ -47,7 +47,8 @@ fn put_all_signed(out: &mut Vec<u8>, values: &[i64]) -> Result<(), AllocError>
 /// Signed numbers as words of a line.
 #[tactic(auto, using(crate::proofs::Texts::pieces))]
 pub(crate) fn put_numbers(out: &mut Vec<u8>, values: &[i64]) -> Result<(), AllocError>
-    ensures { OnOk result (out.new.items ≡ out.old.items ++ flat_map spaced (map signed_decimal values.now)) }
+    ensures { OnOk result (out.new.items
+        ≡ out.old.items ++ flat_map spaced (map signed_decimal values.now)) }
 {
     put_all_signed(out, values)
 }
@@ -59,7 +60,8 @@ pub(crate) fn put_number_line(
     keyword: &[u8],
     values: &[i64],
 ) -> Result<(), AllocError>
-    ensures { OnOk result (out.new.items ≡ out.old.items ++ text_line keyword.now (map signed_decimal values.now)) }
+    ensures { OnOk result (out.new.items
+        ≡ out.old.items ++ text_line keyword.now (map signed_decimal values.now)) }
 {
     put_word(out, keyword)?;
     put_numbers(out, values)?;
@@ -74,7 +76,8 @@ pub(crate) fn put_named_line(
     name: &[u8],
     values: &[i64],
 ) -> Result<(), AllocError>
-    ensures { OnOk result (out.new.items ≡ out.old.items ++ text_line keyword.now (name.now ∷ map signed_decimal values.now)) }
+    ensures { OnOk result (out.new.items
+        ≡ out.old.items ++ text_line keyword.now (name.now ∷ map signed_decimal values.now)) }
 {
     put_word(out, keyword)?;
     put_spaced(out, name)?;

@@ -40,7 +40,8 @@ fn put_step(out: &mut Vec<u8>, step: &Step) -> Result<(), AllocError>
 
 /// A line for each step.
 fn put_steps(out: &mut Vec<u8>, steps: &[Step]) -> Result<(), AllocError>
-    ensures { OnOk result (out.new.items ≡ out.old.items ++ flat_map (λ step. line_text (step_line step)) steps.now) }
+    ensures { OnOk result (out.new.items
+        ≡ out.old.items ++ flat_map (λ step. line_text (step_line step)) steps.now) }
 {
     for step in steps {
         put_step(out, step)?;

@@ -65,7 +65,8 @@ fn put_face(
 ) -> Result<(), AllocError>
     requires rect { IsBoundedRect rect.now }
     requires extent { IsBoundedRect extent.now }
-    ensures { OnOk result (out.new.items ≡ out.old.items ++ face_line extent.now number name.now rect.now) }
+    ensures { OnOk result (out.new.items
+        ≡ out.old.items ++ face_line extent.now number name.now rect.now) }
 {
     put_word(out, b"face")?;
     put_field(out, i64::from(number))?;
@@ -87,7 +88,8 @@ fn put_faces(
     requires same { length faces.now ≡ length flat_faces.now }
     requires bounded { All (λ face. IsBoundedRect face.rect) flat_faces.now }
     requires extent { IsBoundedRect extent.now }
-    ensures { OnOk result (out.new.items ≡ out.old.items ++ face_lines extent.now (map face_data faces.now) flat_faces.now) }
+    ensures { OnOk result (out.new.items
+        ≡ out.old.items ++ face_lines extent.now (map face_data faces.now) flat_faces.now) }
 {
     for (i, flat_face) in flat_faces.iter().enumerate() {
         put_face(
@@ -130,7 +132,8 @@ fn put_bend(out: &mut Vec<u8>, line: &BendLine, extent: &FlatRect) -> Result<(),
 fn put_bends(out: &mut Vec<u8>, lines: &[BendLine], extent: &FlatRect) -> Result<(), AllocError>
     requires lines { All IsBoundedLine lines.now }
     requires extent { IsBoundedRect extent.now }
-    ensures { OnOk result (out.new.items ≡ out.old.items ++ flat_map (bend_line extent.now) lines.now) }
+    ensures { OnOk result (out.new.items
+        ≡ out.old.items ++ flat_map (bend_line extent.now) lines.now) }
 {
     for line in lines {
         put_bend(out, line, extent)?;
@@ -145,7 +148,8 @@ pub fn blank_sheet(alloc: Global, part: &Part, blank: &Blank) -> Result<Vec<u8>,
     requires some_face { 0 < length blank.now.faces.items }
     requires same { length part.now.faces.items ≡ length blank.now.faces.items }
     requires bounded { IsBoundedBlank (blank_data blank.now) }
-    ensures { IfOk result (λ sheet. sheet.items ≡ blank_text (part_data part.now) (blank_data blank.now)) }
+    ensures { IfOk result (λ sheet. sheet.items
+        ≡ blank_text (part_data part.now) (blank_data blank.now)) }
 {
     let extent = extent(blank);
     let mut out = Vec::new(alloc);

@@ -98,7 +98,8 @@ fn bent_with(job: &Job, mask: Mask, lead: u8) -> ArrayVec<u8, 16>
 
 /// A number behind a space, for each bend.
 fn put_bends(out: &mut Vec<u8>, bends: &[u8]) -> Result<(), AllocError>
-    ensures { OnOk result (out.new.items ≡ out.old.items ++ flat_map (λ b. field (pos b)) bends.now) }
+    ensures { OnOk result (out.new.items
+        ≡ out.old.items ++ flat_map (λ b. field (pos b)) bends.now) }
 {
     for bend in bends {
         put_field(out, i64::from(*bend))?;
@@ -163,7 +164,8 @@ fn put_hold(out: &mut Vec<u8>, job: &Job, key: &Key, action: Action) -> Result<(
 fn change_for(job: &Job, key: &Key, action: Action) -> Change
     requires key { IsKeyOf job.now key.now }
     requires action { IsActionAt job.now key.now action }
-    ensures { result ≡ kind_of_change (change key.now.attitude (attitude_at job.now key.now.mask action)) }
+    ensures { result ≡ kind_of_change
+        (change key.now.attitude (attitude_at job.now key.now.mask action)) }
 {
     change_between(key.attitude, next_key(job, *key, action).attitude)
 }
@@ -227,7 +229,8 @@ fn put_gauge(
     requires rule { IsGaugeRule rule.now }
     requires left { IsNearPoseBox left.now }
     requires right { IsNearPoseBox right.now }
-    ensures { OnOk result (out.new.items ≡ out.old.items ++ gauge_words rule.now gauge left.now right.now) }
+    ensures { OnOk result (out.new.items
+        ≡ out.old.items ++ gauge_words rule.now gauge left.now right.now) }
 {
     put_word(out, b" gauge")?;
     put_field(out, left.body.hi.y)?;
@@ -239,7 +242,8 @@ fn put_gauge(
 /// The gauge of a step.
 fn put_gauge_of(out: &mut Vec<u8>, job: &Job, key: &Key, step: &Step) -> Result<(), AllocError>
     requires { IsStepAt job.now key.now step.now }
-    ensures { OnOk result (out.new.items ≡ out.old.items ++ gauge_words_of job.now key.now.mask step.now) }
+    ensures { OnOk result (out.new.items
+        ≡ out.old.items ++ gauge_words_of job.now key.now.mask step.now) }
 {
     let pose = pose_before(job, key, step.action);
     let left = posed_face(&pose, step.gauge.left_face);
@@ -259,7 +263,8 @@ fn put_step(
     requires key { IsKeyOf job.now key.now }
     requires step { IsStepAt job.now key.now step.now }
     requires number { number < 2 ^ 63 }
-    ensures { OnOk result (out.new.items ≡ out.old.items ++ step_line job.now number key.now step.now) }
+    ensures { OnOk result (out.new.items
+        ≡ out.old.items ++ step_line job.now number key.now step.now) }
 {
     put_word(out, b"step")?;
     put_field(out, number as i64)?;
@@ -273,7 +278,8 @@ fn put_step(
 #[tactic(auto, using(crate::proofs::Texts::pieces))]
 fn put_cost(out: &mut Vec<u8>, cost: u64) -> Result<(), AllocError>
     requires { cost < 2 ^ 63 }
-    ensures { OnOk result (out.new.items ≡ out.old.items ++ codes " cost" ++ field (pos cost) ++ codes "\n") }
+    ensures { OnOk result (out.new.items
+        ≡ out.old.items ++ codes " cost" ++ field (pos cost) ++ codes "\n") }
 {
     put_word(out, b" cost")?;
     put_field(out, cost as i64)?;

@@ -22,7 +22,8 @@ fn put_pieces(out: &mut Vec<u8>, pieces: &[i64]) -> Result<(), AllocError>
 /// The number of a stage, its punch and its die, and where it stands on the bed.
 #[tactic(auto, using(crate::proofs::Texts::pieces), unfolding(crate::specs::Sheets::stage_place))]
 fn put_place(out: &mut Vec<u8>, number: u8, stage: &Stage) -> Result<(), AllocError>
-    ensures { OnOk result (out.new.items ≡ out.old.items ++ stage_place number (stage_data stage.now)) }
+    ensures { OnOk result (out.new.items
+        ≡ out.old.items ++ stage_place number (stage_data stage.now)) }
 {
     put_word(out, b"stage")?;
     put_field(out, i64::from(number))?;
@@ -37,7 +38,8 @@ fn put_place(out: &mut Vec<u8>, number: u8, stage: &Stage) -> Result<(), AllocEr
 /// The two lines of a stage.
 #[tactic(auto, using(crate::proofs::Texts::pieces), unfolding(crate::specs::Sheets::stage_lines))]
 fn put_stage(out: &mut Vec<u8>, number: u8, stage: &Stage) -> Result<(), AllocError>
-    ensures { OnOk result (out.new.items ≡ out.old.items ++ stage_lines number (stage_data stage.now)) }
+    ensures { OnOk result (out.new.items
+        ≡ out.old.items ++ stage_lines number (stage_data stage.now)) }
 {
     put_place(out, number, stage)?;
     put_word(out, b"\npieces")?;
@@ -49,7 +51,8 @@ fn put_stage(out: &mut Vec<u8>, number: u8, stage: &Stage) -> Result<(), AllocEr
 #[tactic(auto, unfolding(crate::specs::Sheets::stages_lines))]
 fn put_stages(out: &mut Vec<u8>, stages: &[Stage]) -> Result<(), AllocError>
     requires { length stages.now ≤ 6 }
-    ensures { OnOk result (out.new.items ≡ out.old.items ++ stages_lines (map stage_data stages.now)) }
+    ensures { OnOk result (out.new.items
+        ≡ out.old.items ++ stages_lines (map stage_data stages.now)) }
 {
     for (i, stage) in stages.iter().enumerate() {
         put_stage(out, i as u8, stage)?;

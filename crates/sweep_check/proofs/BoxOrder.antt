@@ -1,11 +1,11 @@
 -- The boxes of a pose are few, and stand in ascending order of their numbers.
-use Rattle.std.proofs.Common.{◌≡◌, ℕ, zero, suc, ◌+◌, ◌-◌, ◌<◌, ◌≤◌, ℤ, Bool, true, false, cond, List, [], ◌∷◌, ◌++◌, map, filter, length, get_or, refl, sym, ◌∙◌, subst, arith}
+use Rattle.std.proofs.Common.{◌≡◌, ℕ, zero, suc, ◌+◌, ◌-◌, ◌<◌, ◌≤◌, ℤ, Bool, true, false, cond, List, [], ◌∷◌, ◌++◌, map, filter, length, get_or, sym, ◌∙◌, subst, arith}
 use Rattle.std.specs.Prelude.{All, AllPairs}
 use Rattle.std.specs.List.{range_with_len}
 use Rattle.std.proofs.lemmas.List.{get_or-map, length-map, length-append}
 use Rattle.std.proofs.lemmas.List.FromFn.{length-range_with_len}
 use Rattle.std.proofs.lemmas.List.Kept.{AllPairs-cons, AllPairs-filter}
-use Rattle.std.proofs.lemmas.List.Elements.{All-nil, All-cons, All-append, All-map}
+use Rattle.std.proofs.lemmas.List.Elements.{All-append, All-map}
 use Rattle.brake_base.specs.declared.mask.Mask.{Mask}
 use Rattle.brake_base.specs.declared.stroke.Back.{Back}
 use Rattle.brake_base.specs.Masks.{has}
@@ -13,19 +13,7 @@ use Rattle.unfolder.specs.Blank.{face_numbers, bend_numbers}
 use Rattle.fold_boxes.specs.declared.posed_part.PoseBox.{PoseBox}
 use Rattle.fold_boxes.specs.Shapes.{ShapeData, IsShape}
 use Rattle.fold_boxes.specs.Pose.{pose_box, box_ids, pose_of}
-
--- what holds of each number of a range, and of each that passes the test
-all_numbers : (R : ℕ → Type 0) (a n : ℕ) → ((k : ℕ) → a ≤ k → k < a + n → R k) → All R (range_with_len a n)
-all_numbers R a zero each = All-nil R
-all_numbers R a (suc n) each = All-cons R a (range_with_len (a + 1) n) (each a (omega arith) (omega arith)) (all_numbers R (a + 1) n (λ k low high. each k (omega (arith, low)) (omega (arith, high))))
-
-all_picked : (R : ℕ → Type 0) (p : ℕ → Bool) (a n : ℕ) → ((k : ℕ) → a ≤ k → k < a + n → p k ≡ true → R k) → All R (filter p (range_with_len a n))
-all_picked R p a zero each = All-nil R
-all_picked R p a (suc n) each = by_test (p a) refl (all_picked R p (a + 1) n (λ k low high. each k (omega (arith, low)) (omega (arith, high))))
-  where
-    by_test : (t : Bool) → p a ≡ t → All R (filter p (range_with_len (a + 1) n)) → All R (cond t (a ∷ filter p (range_with_len (a + 1) n)) (filter p (range_with_len (a + 1) n)))
-    by_test true is later = All-cons R a (filter p (range_with_len (a + 1) n)) (each a (omega arith) (omega arith) is) later
-    by_test false is later = later
+use Rattle.fold_boxes.proofs.Picked.{all_numbers, all_picked}
 
 ascending : (a n : ℕ) → AllPairs ◌<◌ (range_with_len a n)
 ascending a zero = λ i j d before low. absurd (omega (arith, low))

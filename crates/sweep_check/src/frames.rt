@@ -9,7 +9,8 @@ use fold_boxes::PoseBox;
 /// The number of the first box whose range along the bed meets a frame's.
 pub(crate) fn first_in_frame(boxes: &[PoseBox], frames: &[(i64, i64)]) -> Option<u8>
     requires ascend { AllPairs (λ a b. a.id < b.id) boxes.now }
-    ensures { IsLeastNumber (λ body. body.id) (λ body. Any (MeetsAlong body) frames.now) boxes.now result }
+    ensures { IsLeastNumber (λ body. body.id)
+        (λ body. Any (MeetsAlong body) frames.now) boxes.now result }
 {
     for body in boxes {
         if is_in_frame(body, frames) {

@@ -56,7 +56,8 @@ fn first_at_lines(job: &Job, pose: &Pose, back: Back, stage: u8) -> Option<Reaso
 /// The first Frame.
 fn first_frame(job: &Job, pose: &Pose) -> Option<Reason>
     requires boxes { AreSolidBoxes pose.now.boxes.items }
-    ensures { (back : Back) (stage : ℕ) → IsFirstAmong job.now (pose_data pose.now) back stage 3 3 result }
+    ensures { (back : Back) (stage : ℕ)
+        → IsFirstAmong job.now (pose_data pose.now) back stage 3 3 result }
 {
     match first_in_frame(pose.boxes.as_slice(), job.setup().frames.as_slice()) {
         Some(body) => Some(Reason::Frame(body)),
@@ -93,7 +94,8 @@ fn first_upper(job: &Job, pieces: &[Piece]) -> Option<Hit>
     requires some { 0 < length job.now.setup.stages }
     requires eighth { All IsEighth pieces.now }
     requires ascend { AllPairs PieceIsBefore pieces.now }
-    ensures { IsFirstHit (λ obstacle. obstacle.index) IsMet pieces.now (upper_group job.now) result }
+    ensures { IsFirstHit (λ obstacle. obstacle.index) IsMet pieces.now
+        (upper_group job.now) result }
 {
     first_hit(pieces, upper_group(job).as_slice())
 }
@@ -102,7 +104,8 @@ fn first_upper(job: &Job, pieces: &[Piece]) -> Option<Hit>
 fn first_nose(job: &Job, pieces: &[Piece]) -> Option<Hit>
     requires eighth { All IsEighth pieces.now }
     requires ascend { AllPairs PieceIsBefore pieces.now }
-    ensures { IsFirstHit (λ nose. nose.stage) IsNoseMet pieces.now (map nose_of (enumerate_from 0 job.now.setup.stages)) result }
+    ensures { IsFirstHit (λ nose. nose.stage) IsNoseMet pieces.now
+        (map nose_of (enumerate_from 0 job.now.setup.stages)) result }
 {
     first_nose_hit(pieces, noses(job.setup().stages.as_slice()).as_slice())
 }
@@ -112,7 +115,8 @@ fn first_lower(job: &Job, pieces: &[Piece], stage: u8) -> Option<Hit>
     requires stage { stage < length job.now.setup.stages }
     requires eighth { All IsEighth pieces.now }
     requires ascend { AllPairs PieceIsBefore pieces.now }
-    ensures { IsFirstHit (λ obstacle. obstacle.index) IsMet pieces.now (lower_group job.now stage) result }
+    ensures { IsFirstHit (λ obstacle. obstacle.index) IsMet pieces.now
+        (lower_group job.now stage) result }
 {
     first_hit(pieces, lower_group(job, stage).as_slice())
 }
@@ -120,7 +124,8 @@ fn first_lower(job: &Job, pieces: &[Piece], stage: u8) -> Option<Hit>
 /// The first piece of the back half that meets a box of the front half.
 fn first_self_hit(job: &Job, boxes: &[PoseBox]) -> Option<Hit>
     requires boxes { AreSolidBoxes boxes.now }
-    ensures { IsFirstHit (λ obstacle. obstacle.index) IsMet (back_pieces job.now boxes.now) (front_obstacles job.now boxes.now) result }
+    ensures { IsFirstHit (λ obstacle. obstacle.index) IsMet (back_pieces job.now boxes.now)
+        (front_obstacles job.now boxes.now) result }
 {
     first_hit(
         back_pieces(job, boxes).as_slice(),

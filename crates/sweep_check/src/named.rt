@@ -33,45 +33,38 @@ pub(crate) fn holds_with(job: &Job, pose: &Pose, back: Back, stage: u8, reason: 
         Reason::Cover => is_uncovered_at(job, pose.group, stage),
         Reason::Rest(half) => lacks_rest_at(job, pose.group, side_in(half, back), stage),
         Reason::Frame(body) => is_frame_met(job, pose, body),
-        Reason::Upper(body, quarter, other) => is_upper_hit(
-            job,
-            pose,
-            Hit {
+        Reason::Upper(body, quarter, other) => {
+            let hit = Hit {
                 body,
                 quarter,
                 other,
-            },
-        ),
-        Reason::Nose(body, quarter, other) => is_nose_hit(
-            job,
-            pose,
-            Hit {
-                body,
-                quarter,
-                other,
-            },
-        ),
-        Reason::Lower(body, quarter, other) => {
-            is_lower_hit(
-                job,
-                pose,
-                stage,
-                Hit {
-                    body,
-                    quarter,
-                    other,
-                },
-            )
+            };
+            is_upper_hit(job, pose, hit)
         }
-        Reason::SelfHit(body, quarter, other) => is_self_hit(
-            job,
-            pose,
-            Hit {
+        Reason::Nose(body, quarter, other) => {
+            let hit = Hit {
                 body,
                 quarter,
                 other,
-            },
-        ),
+            };
+            is_nose_hit(job, pose, hit)
+        }
+        Reason::Lower(body, quarter, other) => {
+            let hit = Hit {
+                body,
+                quarter,
+                other,
+            };
+            is_lower_hit(job, pose, stage, hit)
+        }
+        Reason::SelfHit(body, quarter, other) => {
+            let hit = Hit {
+                body,
+                quarter,
+                other,
+            };
+            is_self_hit(job, pose, hit)
+        }
         Reason::Load => is_overloaded_at(job, pose.group, stage),
         Reason::NoGauge => unreachable!(),
     }
@@ -79,14 +72,17 @@ pub(crate) fn holds_with(job: &Job, pose: &Pose, back: Back, stage: u8, reason: 
 
 /// Whether the range along the bed of the box of this number meets that of a frame.
 fn is_frame_met(job: &Job, pose: &Pose, number: u8) -> bool
-    ensures { IsTrue result ↔ Any (λ body. (body.id ≡ number) × Any (MeetsAlong body) job.now.setup.frames) pose.now.boxes.items }
+    ensures { IsTrue result
+        ↔ Any (λ body. (body.id ≡ number)
+        × Any (MeetsAlong body) job.now.setup.frames) pose.now.boxes.items }
 {
     is_some_in_frame(pose.boxes.as_slice(), job.setup().frames.as_slice(), number)
 }
 
 /// The same of some boxes and frames.
 fn is_some_in_frame(boxes: &[PoseBox], frames: &[(i64, i64)], number: u8) -> bool
-    ensures { IsTrue result ↔ Any (λ body. (body.id ≡ number) × Any (MeetsAlong body) frames.now) boxes.now }
+    ensures { IsTrue result
+        ↔ Any (λ body. (body.id ≡ number) × Any (MeetsAlong body) frames.now) boxes.now }
 {
     boxes
         .iter()
@@ -104,7 +100,9 @@ fn is_numbered_in_frame(body: &PoseBox, number: u8, frames: &[(i64, i64)]) -> bo
 fn is_upper_hit(job: &Job, pose: &Pose, hit: Hit) -> bool
     requires some { 0 < length job.now.setup.stages }
     requires boxes { AreSolidBoxes pose.now.boxes.items }
-    ensures { IsTrue result ↔ SomeHit (λ obstacle. obstacle.index) IsMet (pieces_of job.now Eighth pose.now.boxes.items) (upper_group job.now) hit.body hit.quarter hit.other }
+    ensures { IsTrue result
+        ↔ SomeHit (λ obstacle. obstacle.index) IsMet (pieces_of job.now Eighth pose.now.boxes.items)
+        (upper_group job.now) hit.body hit.quarter hit.other }
 {
     let found = all_pieces(job, pose.boxes.as_slice());
     is_some_hit(found.as_slice(), upper_group(job).as_slice(), hit)
@@ -113,7 +111,9 @@ fn is_upper_hit(job: &Job, pose: &Pose, hit: Hit) -> bool
 /// Whether a piece meets a stage's nose as the hit says.
 fn is_nose_hit(job: &Job, pose: &Pose, hit: Hit) -> bool
     requires boxes { AreSolidBoxes pose.now.boxes.items }
-    ensures { IsTrue result ↔ SomeHit (λ nose. nose.stage) IsNoseMet (pieces_of job.now Eighth pose.now.boxes.items) (map nose_of (enumerate_from 0 job.now.setup.stages)) hit.body hit.quarter hit.other }
+    ensures { IsTrue result
+        ↔ SomeHit (λ nose. nose.stage) IsNoseMet (pieces_of job.now Eighth pose.now.boxes.items)
+        (map nose_of (enumerate_from 0 job.now.setup.stages)) hit.body hit.quarter hit.other }
 {
     let found = all_pieces(job, pose.boxes.as_slice());
     is_some_nose_hit(
@@ -127,7 +127,9 @@ fn is_nose_hit(job: &Job, pose: &Pose, hit: Hit) -> bool
 fn is_lower_hit(job: &Job, pose: &Pose, stage: u8, hit: Hit) -> bool
     requires stage { stage < length job.now.setup.stages }
     requires boxes { AreSolidBoxes pose.now.boxes.items }
-    ensures { IsTrue result ↔ SomeHit (λ obstacle. obstacle.index) IsMet (pieces_of job.now Eighth pose.now.boxes.items) (lower_group job.now stage) hit.body hit.quarter hit.other }
+    ensures { IsTrue result
+        ↔ SomeHit (λ obstacle. obstacle.index) IsMet (pieces_of job.now Eighth pose.now.boxes.items)
+        (lower_group job.now stage) hit.body hit.quarter hit.other }
 {
     let found = all_pieces(job, pose.boxes.as_slice());
     is_some_hit(found.as_slice(), lower_group(job, stage).as_slice(), hit)
@@ -136,7 +138,9 @@ fn is_lower_hit(job: &Job, pose: &Pose, stage: u8, hit: Hit) -> bool
 /// Whether a piece of the back half meets a box of the front half as the hit says.
 fn is_self_hit(job: &Job, pose: &Pose, hit: Hit) -> bool
     requires boxes { AreSolidBoxes pose.now.boxes.items }
-    ensures { IsTrue result ↔ SomeHit (λ obstacle. obstacle.index) IsMet (back_pieces job.now pose.now.boxes.items) (front_obstacles job.now pose.now.boxes.items) hit.body hit.quarter hit.other }
+    ensures { IsTrue result
+        ↔ SomeHit (λ obstacle. obstacle.index) IsMet (back_pieces job.now pose.now.boxes.items)
+        (front_obstacles job.now pose.now.boxes.items) hit.body hit.quarter hit.other }
 {
     let boxes = pose.boxes.as_slice();
     is_some_hit(
@@ -150,7 +154,9 @@ fn is_self_hit(job: &Job, pose: &Pose, hit: Hit) -> bool
 fn is_some_hit(pieces: &[Piece], obstacles: &[Obstacle], hit: Hit) -> bool
     requires covered { All IsCovered pieces.now }
     requires solid { All IsSolidObstacle obstacles.now }
-    ensures { IsTrue result ↔ SomeHit (λ obstacle. obstacle.index) IsMet pieces.now obstacles.now hit.body hit.quarter hit.other }
+    ensures { IsTrue result
+        ↔ SomeHit (λ obstacle. obstacle.index) IsMet pieces.now obstacles.now hit.body hit.quarter
+        hit.other }
 {
     pieces.iter().any(|piece| is_hit(piece, obstacles, hit))
 }
@@ -159,7 +165,9 @@ fn is_some_hit(pieces: &[Piece], obstacles: &[Obstacle], hit: Hit) -> bool
 fn is_hit(piece: &Piece, obstacles: &[Obstacle], hit: Hit) -> bool
     requires covered { IsCovered piece.now }
     requires solid { All IsSolidObstacle obstacles.now }
-    ensures { IsTrue result ↔ (((piece.now.body ≡ hit.body) × (piece.now.quarter ≡ hit.quarter)) × Any (λ obstacle. (obstacle.index ≡ hit.other) × IsMet piece.now obstacle) obstacles.now) }
+    ensures { IsTrue result
+        ↔ (((piece.now.body ≡ hit.body) × (piece.now.quarter ≡ hit.quarter))
+        × Any (λ obstacle. (obstacle.index ≡ hit.other) × IsMet piece.now obstacle) obstacles.now) }
 {
     is_named(piece, hit) && meets_numbered(piece, obstacles, hit.other)
 }
@@ -175,7 +183,8 @@ fn is_named(piece: &Piece, hit: Hit) -> bool
 fn meets_numbered(piece: &Piece, obstacles: &[Obstacle], number: u8) -> bool
     requires covered { IsCovered piece.now }
     requires solid { All IsSolidObstacle obstacles.now }
-    ensures { IsTrue result ↔ Any (λ obstacle. (obstacle.index ≡ number) × IsMet piece.now obstacle) obstacles.now }
+    ensures { IsTrue result
+        ↔ Any (λ obstacle. (obstacle.index ≡ number) × IsMet piece.now obstacle) obstacles.now }
 {
     obstacles
         .iter()
@@ -195,7 +204,8 @@ fn is_numbered_met(piece: &Piece, obstacle: &Obstacle, number: u8) -> bool
 fn is_some_nose_hit(pieces: &[Piece], noses: &[PunchNose], hit: Hit) -> bool
     requires covered { All IsEighth pieces.now }
     requires noses { All IsNose noses.now }
-    ensures { IsTrue result ↔ SomeHit (λ nose. nose.stage) IsNoseMet pieces.now noses.now hit.body hit.quarter hit.other }
+    ensures { IsTrue result
+        ↔ SomeHit (λ nose. nose.stage) IsNoseMet pieces.now noses.now hit.body hit.quarter hit.other }
 {
     pieces.iter().any(|piece| is_hit_by_nose(piece, noses, hit))
 }
@@ -204,7 +214,9 @@ fn is_some_nose_hit(pieces: &[Piece], noses: &[PunchNose], hit: Hit) -> bool
 fn is_hit_by_nose(piece: &Piece, noses: &[PunchNose], hit: Hit) -> bool
     requires covered { IsEighth piece.now }
     requires noses { All IsNose noses.now }
-    ensures { IsTrue result ↔ (((piece.now.body ≡ hit.body) × (piece.now.quarter ≡ hit.quarter)) × Any (λ nose. (nose.stage ≡ hit.other) × IsNoseMet piece.now nose) noses.now) }
+    ensures { IsTrue result
+        ↔ (((piece.now.body ≡ hit.body) × (piece.now.quarter ≡ hit.quarter))
+        × Any (λ nose. (nose.stage ≡ hit.other) × IsNoseMet piece.now nose) noses.now) }
 {
     is_named(piece, hit) && meets_numbered_nose(piece, noses, hit.other)
 }
@@ -213,7 +225,8 @@ fn is_hit_by_nose(piece: &Piece, noses: &[PunchNose], hit: Hit) -> bool
 fn meets_numbered_nose(piece: &Piece, noses: &[PunchNose], number: u8) -> bool
     requires covered { IsEighth piece.now }
     requires noses { All IsNose noses.now }
-    ensures { IsTrue result ↔ Any (λ nose. (nose.stage ≡ number) × IsNoseMet piece.now nose) noses.now }
+    ensures { IsTrue result
+        ↔ Any (λ nose. (nose.stage ≡ number) × IsNoseMet piece.now nose) noses.now }
 {
     noses
         .iter()

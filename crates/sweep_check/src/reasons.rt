@@ -18,7 +18,8 @@ use job_setup::Job;
 /// exactly where no such reason holds. The pose is the job's at that stage.
 pub fn first_reason(job: &Job, pose: &Pose, stage: u8) -> Option<Reason>
     requires pose { IsPoseAt job.now stage (pose_data pose.now) }
-    ensures first { (stroke : IsPoseAt job.now stage (pose_data pose.now)) → IsFirstBeforeNoGauge job.now stroke.mask stroke.group stroke.back stage result }
+    ensures first { (stroke : IsPoseAt job.now stage (pose_data pose.now))
+        → IsFirstBeforeNoGauge job.now stroke.mask stroke.group stroke.back stage result }
 
     // A piece never meets a sunk box against which it isn't tested.
     ensures sunk { IsSunkLaw job.now stage (pose_data pose.now) }
@@ -36,7 +37,8 @@ pub fn first_reason(job: &Job, pose: &Pose, stage: u8) -> Option<Reason>
 pub fn holds(job: &Job, pose: &Pose, stage: u8, reason: Reason) -> bool
     requires pose { IsPoseAt job.now stage (pose_data pose.now) }
     requires kind { reason ≢ NoGauge }
-    ensures exact { (stroke : IsPoseAt job.now stage (pose_data pose.now)) → (IsTrue result ↔ IsReason job.now stroke.mask stroke.group stroke.back stage reason) }
+    ensures exact { (stroke : IsPoseAt job.now stage (pose_data pose.now))
+        → (IsTrue result ↔ IsReason job.now stroke.mask stroke.group stroke.back stage reason) }
 {
     let _ = job.setup();
     let back = back_of(pose.boxes.as_slice(), pose.bend);

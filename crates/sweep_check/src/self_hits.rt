@@ -29,7 +29,8 @@ pub(crate) fn back_pieces(job: &Job, boxes: &[PoseBox]) -> ArrayVec<Piece, 100>
 fn put_back_pieces(job: &Job, body: &PoseBox, pieces: &mut ArrayVec<Piece, 100>)
     requires solid { IsSolidBox body.now }
     requires room { length pieces.old.items + 4 ≤ 100 }
-    ensures value { pieces.new.items ≡ pieces.old.items ++ if_back body.now.half (box_pieces job.now Fourth body.now) }
+    ensures value { pieces.new.items
+        ≡ pieces.old.items ++ if_back body.now.half (box_pieces job.now Fourth body.now) }
     ensures few { length pieces.new.items ≤ length pieces.old.items + 4 }
 {
     match body.half {
@@ -54,7 +55,8 @@ pub(crate) fn front_obstacles(job: &Job, boxes: &[PoseBox]) -> ArrayVec<Obstacle
 fn put_front_obstacle(job: &Job, body: &PoseBox, obstacles: &mut ArrayVec<Obstacle, 25>)
     requires solid { IsSolidBox body.now }
     requires room { length obstacles.old.items + 1 ≤ 25 }
-    ensures value { obstacles.new.items ≡ obstacles.old.items ++ if_front body.now.half (front_obstacle job.now body.now ∷ []) }
+    ensures value { obstacles.new.items
+        ≡ obstacles.old.items ++ if_front body.now.half (front_obstacle job.now body.now ∷ []) }
     ensures few { length obstacles.new.items ≤ length obstacles.old.items + 1 }
 {
     match body.half {

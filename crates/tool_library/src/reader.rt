@@ -70,7 +70,8 @@ fn tools_of_tables(
 /// The tools of the top table.
 #[tactic(auto, using(crate::proofs::Sizes::reading), unfolding(crate::specs::ToolsFile::tools_of_members))]
 fn tools_of_members(alloc: Global, table: &Table) -> Result<Tools, ToolFault>
-    ensures value { GivesOr ToolFault.NoMemory tools_data result (tools_of_members (table_view table.now)) }
+    ensures value { GivesOr ToolFault.NoMemory tools_data result
+        (tools_of_members (table_view table.now)) }
     ensures fit { IfOk result (λ tools. IsTools (tools_data tools)) }
 {
     let allow = tables_or_none(table, "allow").ok_or(bad_field(0, 1))?;

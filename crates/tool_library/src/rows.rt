@@ -67,7 +67,8 @@ fn allow_row_of(number: u16, table: &Table) -> Result<AllowRow, ToolFault>
 
 /// The height of a tool.
 fn height_at(table: &Table) -> Option<i64>
-    ensures value { result ≡ integer_at LEAST_HEIGHT GREATEST_HEIGHT (codes "height") (table_view table.now) }
+    ensures value { result ≡ integer_at LEAST_HEIGHT GREATEST_HEIGHT (codes "height")
+        (table_view table.now) }
     ensures fit { IfSome result IsHeight }
 {
     integer_at(table, "height", LEAST_HEIGHT, GREATEST_HEIGHT)

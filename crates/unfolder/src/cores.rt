@@ -79,7 +79,8 @@ fn core(part: &Part, q: i64, face: u8) -> FlatRect
 pub fn cores(part: &Part, q: i64) -> ArrayVec<FlatRect, 13>
     requires part { IsPart (part_data part.now) }
     requires q { IsWithin 100000 q }
-    ensures value { result.items ≡ map (core (part_data part.now).faces q) (face_numbers (part_data part.now).faces) }
+    ensures value { result.items
+        ≡ map (core (part_data part.now).faces q) (face_numbers (part_data part.now).faces) }
     ensures count { length result.items ≡ length part.now.faces.items }
     ensures within { All (IsRectWithin 21000000) result.items }
 {
@@ -96,7 +97,8 @@ pub fn side_point(side: Side, face: &Face, distance: i64, depth: i64) -> (i64, i
     requires long { IsSize face.now.length }
     requires distance { IsWithin 10200000 distance }
     requires depth { IsWithin 200000 depth }
-    ensures value { vector result.0 result.1 (pos 0) ≡ side_point side (face_data face.now) distance depth }
+    ensures value { vector result.0 result.1 (pos 0)
+        ≡ side_point side (face_data face.now) distance depth }
     ensures near_x { IsWithin 21000000 result.0 }
     ensures near_y { IsWithin 21000000 result.1 }
 {
@@ -134,7 +136,8 @@ fn parent_line(part: &Part, q: i64, bend: u8) -> BendLine
 pub fn parent_lines(part: &Part, q: i64) -> ArrayVec<BendLine, 12>
     requires part { IsPart (part_data part.now) }
     requires q { IsWithin 100000 q }
-    ensures value { result.items ≡ map (parent_line (part_data part.now).faces q) (bend_numbers (part_data part.now).faces) }
+    ensures value { result.items
+        ≡ map (parent_line (part_data part.now).faces q) (bend_numbers (part_data part.now).faces) }
     ensures count { length result.items + 1 ≡ length part.now.faces.items }
     ensures within { All (IsLineWithin 21000000) result.items }
 {

@@ -28,9 +28,12 @@ impl Frame {
         requires frame { IsFrameWithin 12 self.now }
         requires x { IsWithin 21000000 x }
         requires y { IsWithin 21000000 y }
-        ensures value { vector result.0 result.1 (pos 0) ≡ mapped (frame_map self.now) (vector x y (pos 0)) }
-        ensures near_x { (bends : ℕ) → IsFrameWithin bends self.now → IsWithin (bends * 21000000 + 21000000) result.0 }
-        ensures near_y { (bends : ℕ) → IsFrameWithin bends self.now → IsWithin (bends * 21000000 + 21000000) result.1 }
+        ensures value { vector result.0 result.1 (pos 0)
+            ≡ mapped (frame_map self.now) (vector x y (pos 0)) }
+        ensures near_x { (bends : ℕ) → IsFrameWithin bends self.now
+            → IsWithin (bends * 21000000 + 21000000) result.0 }
+        ensures near_y { (bends : ℕ) → IsFrameWithin bends self.now
+            → IsWithin (bends * 21000000 + 21000000) result.1 }
     {
         match self.turn {
             0 => (self.x + x, self.y + y),
@@ -77,7 +80,8 @@ impl Frame {
         requires frame { IsFrameWithin 12 self.now }
         requires child { IsFrameWithin 1 child.now }
         ensures value { frame_map result ≡ after (frame_map self.now) (frame_map child.now) }
-        ensures within { (bends : ℕ) → IsFrameWithin bends self.now → IsFrameWithin (bends + 1) result }
+        ensures within { (bends : ℕ) → IsFrameWithin bends self.now
+            → IsFrameWithin (bends + 1) result }
     {
         let (x, y) = self.point(child.x, child.y);
         Frame {

@@ -27,13 +27,15 @@ pub fn unfold(part: &Part, q: i64) -> Result<Blank, UnfoldFault>
     requires q_high { q ≤ℤ pos 100000 }
     ensures value { Gives blank_data result (blank_of_part (part_data part.now) q) }
     ensures faces { IfOk result (λ blank. length blank.faces.items ≡ length part.now.faces.items) }
-    ensures bends { IfOk result (λ blank. length blank.bends.items + 1 ≡ length part.now.faces.items) }
+    ensures bends { IfOk result (λ blank. length blank.bends.items + 1
+        ≡ length part.now.faces.items) }
 
     // All coordinates lie within 1,000,000,000 micrometres of 0.
     ensures near { IfOk result (λ blank. IsNearBlank (blank_data blank)) }
 
     // Folded at every bend, the blank is the designed part.
-    ensures folds_back { IfOk result (λ blank. FoldsBack (part_data part.now) q (blank_data blank)) }
+    ensures folds_back { IfOk result
+        (λ blank. FoldsBack (part_data part.now) q (blank_data blank)) }
 
     // At each bend line the cores of its two faces abut.
     ensures abuts { IfOk result (λ blank. AbutsAtLines (part_data part.now) (blank_data blank)) }
@@ -57,7 +59,8 @@ fn flat_faces(cores: &[FlatRect], frames: &[Frame]) -> ArrayVec<FlatFace, 13>
     requires count { length frames.now ≡ length cores.now }
     requires cores { All (IsRectWithin 21000000) cores.now }
     requires frames { All (IsFrameWithin 12) frames.now }
-    ensures value { result.items ≡ map (laid_face cores.now frames.now) (range_with_len 0 (length cores.now)) }
+    ensures value { result.items
+        ≡ map (laid_face cores.now frames.now) (range_with_len 0 (length cores.now)) }
     ensures near { All (λ face. IsNearRect face.rect) result.items }
 {
     let mut faces = ArrayVec::new();
@@ -78,7 +81,9 @@ fn bend_lines(part: &Part, frames: &[Frame], lines: &[BendLine]) -> ArrayVec<Ben
     requires bends { length lines.now + 1 ≡ length part.now.faces.items }
     requires frames { All (IsFrameWithin 12) frames.now }
     requires lines { All (IsLineWithin 21000000) lines.now }
-    ensures value { result.items ≡ map (laid_line (part_data part.now).faces frames.now lines.now) (bend_numbers (part_data part.now).faces) }
+    ensures value { result.items
+        ≡ map (laid_line (part_data part.now).faces frames.now lines.now)
+        (bend_numbers (part_data part.now).faces) }
     ensures near { All IsNearLine result.items }
 {
     let mut bends = ArrayVec::new();

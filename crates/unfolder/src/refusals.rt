@@ -73,7 +73,8 @@ fn first_off_face(part: &Part, cores: &[FlatRect], lines: &[BendLine]) -> Option
     requires part { IsPart (part_data part.now) }
     requires cores { length cores.now ≡ length part.now.faces.items }
     requires lines { length lines.now + 1 ≡ length part.now.faces.items }
-    ensures { result ≡ find (is_off_edge_in (part_data part.now).faces cores.now lines.now) (bend_numbers (part_data part.now).faces) }
+    ensures { result ≡ find (is_off_edge_in (part_data part.now).faces cores.now lines.now)
+        (bend_numbers (part_data part.now).faces) }
 {
     for bend in 1..face_count(part) {
         let parent = &cores[usize::from(joint_of(part, bend).on)];
@@ -93,7 +94,9 @@ pub(crate) fn check_lines(
     requires part { IsPart (part_data part.now) }
     requires cores { length cores.now ≡ length part.now.faces.items }
     requires lines { length lines.now + 1 ≡ length part.now.faces.items }
-    ensures { result ≡ refuse_found (find (is_off_edge_in (part_data part.now).faces cores.now lines.now) (bend_numbers (part_data part.now).faces)) UnfoldFault.BendOffFace }
+    ensures { result ≡ refuse_found
+        (find (is_off_edge_in (part_data part.now).faces cores.now lines.now)
+        (bend_numbers (part_data part.now).faces)) UnfoldFault.BendOffFace }
 {
     match first_off_face(part, cores, lines) {
         Some(bend) => Err(UnfoldFault::BendOffFace { bend }),
@@ -126,7 +129,8 @@ fn is_overlap(a: &FlatRect, b: &FlatRect) -> bool
 fn first_over(faces: &[FlatFace], a: usize) -> Option<usize>
     requires { a < length faces.now }
     ensures within { IfSome result (λ b. b < length faces.now) }
-    ensures value { result ≡ find (λ b. is_overlap_in faces.now (a, b)) (range_with_len (a + 1) (length faces.now - (a + 1))) }
+    ensures value { result ≡ find (λ b. is_overlap_in faces.now (a, b))
+        (range_with_len (a + 1) (length faces.now - (a + 1))) }
 {
     let first = &faces[a].rect;
     for b in a + 1..faces.len() {
@@ -153,7 +157,8 @@ fn first_overlap(faces: &[FlatFace]) -> Option<(u8, u8)>
 /// Refuses the first two faces that overlap.
 pub(crate) fn check_overlaps(faces: &[FlatFace]) -> Result<(), UnfoldFault>
     requires { length faces.now ≤ 13 }
-    ensures { result ≡ refuse_found (find (is_overlap_in faces.now) (pairs_below (length faces.now))) flat_overlap }
+    ensures { result ≡ refuse_found
+        (find (is_overlap_in faces.now) (pairs_below (length faces.now))) flat_overlap }
 {
     match first_overlap(faces) {
         Some((a, b)) => Err(UnfoldFault::FlatOverlap { a, b }),
