@@ -1,5 +1,5 @@
 mod Moved
 mod SameGauge
 mod StrokeGroups
-mod StageRanges
 mod Places
+mod Firsts

@@ -9,15 +9,17 @@ ghost use Rattle.job_setup.specs.Setup.{shape_of};
 ghost use Rattle.job_setup.specs.ValidJob.{IsJob};
 ghost use Rattle.job_setup.specs.StrokeGroup.{group_of};
 ghost use Rattle.job_setup.specs.StageOf.{stage_of};
-ghost use Rattle.job_setup.specs.Reasons.{pose_at};
+ghost use Rattle.job_setup.specs.Reasons.{pose_at, IsPoseAt};
+ghost use Rattle.gauge_rules.specs.Pairs.{IsFirstLegal};
 ghost use Rattle.stroke_table.specs.Strokes.{IsStrokeOf};
-ghost use Rattle.stroke_table.specs.Finding.{IsGaugeOf};
+ghost use Rattle.stroke_table.specs.Finding.{IsGaugeOf, AreFirst, IsFirstIn};
 
 use crate::stroke::Stroke;
-use brake_base::{Back, Gauge, Mask, Place};
+use brake_base::{Back, Gauge, Mask, Place, Reason};
 use fold_boxes::{Pose, attitude, pose_from};
 use gauge_rules::first_legal;
 use job_setup::{Job, group};
+use sweep_check::first_reason;
 
 /// What there is to know of a stroke, from the places of the faces.
 pub(crate) fn find_stroke(job: &Job, places: &[Place], mask: Mask, lead: u8, back: Back) -> Stroke
@@ -30,9 +32,11 @@ pub(crate) fn find_stroke(job: &Job, places: &[Place], mask: Mask, lead: u8, bac
 {
     let shape = job.shape();
     let group = stroke_group(job, mask, lead);
+    let gauge = find_gauge(job, places, mask, group, back);
     Stroke {
         attitude: attitude(shape, mask, lead, back),
-        gauge: find_gauge(job, places, mask, group, back),
+        gauge,
+        reasons: find_reasons(job, places, mask, group, back, gauge),
     }
 }
 
@@ -48,7 +52,7 @@ fn find_gauge(job: &Job, places: &[Place], mask: Mask, group: Mask, back: Back) 
 }
 
 /// The bends of the stroke of an unfolded bend.
-fn stroke_group(job: &Job, mask: Mask, lead: u8) -> Mask
+pub(crate) fn stroke_group(job: &Job, mask: Mask, lead: u8) -> Mask
     requires first { 1 ≤ lead }
     requires last { lead < length job.now.part.faces }
     requires flat { has mask lead ≡ false }
@@ -59,7 +63,14 @@ fn stroke_group(job: &Job, mask: Mask, lead: u8) -> Mask
 }
 
 /// The part on the machine before the group is bent at a stage.
-fn pose_at(job: &Job, places: &[Place], mask: Mask, group: Mask, back: Back, stage: u8) -> Pose
+pub(crate) fn pose_at(
+    job: &Job,
+    places: &[Place],
+    mask: Mask,
+    group: Mask,
+    back: Back,
+    stage: u8,
+) -> Pose
     requires count { length places.now ≡ length job.now.part.faces }
     requires places { ArePlaces (shape_of job.now) mask places.now }
     requires group { IsGroup (shape_of job.now) mask group }
@@ -82,4 +93,42 @@ fn stage_range(job: &Job, stage: u8) -> (i64, i64)
 {
     let stage = &job.setup().stages.as_slice()[usize::from(stage)];
     (stage.x0, stage.x1)
+}
+
+/// The first reason at each stage, where the first legal pair is known.
+fn find_reasons(
+    job: &Job,
+    places: &[Place],
+    mask: Mask,
+    group: Mask,
+    back: Back,
+    gauge: Option<Gauge>,
+) -> [Option<Reason>; 6]
+    requires count { length places.now ≡ length job.now.part.faces }
+    requires places { ArePlaces (shape_of job.now) mask places.now }
+    requires group { IsGroup (shape_of job.now) mask group }
+    requires gauge { IsGaugeOf job.now mask group back gauge }
+    ensures { AreFirst job.now mask group back (length job.now.setup.stages) result }
+{
+    let mut reasons = [None; 6];
+    for stage in 0..job.stages() {
+        let pose = pose_at(job, places, mask, group, back, stage);
+        reasons[usize::from(stage)] = find_reason(job, &pose, stage, gauge);
+    }
+    reasons
+}
+
+/// The first reason of all kinds in a pose at a stage, where the first legal pair is known.
+fn find_reason(job: &Job, pose: &Pose, stage: u8, gauge: Option<Gauge>) -> Option<Reason>
+    requires pose { IsPoseAt job.now stage (pose_data pose.now) }
+    requires gauge { IsFirstLegal job.now (pose_data pose.now) gauge }
+    ensures { IsFirstIn job.now (pose_data pose.now) stage result }
+{
+    match first_reason(job, pose, stage) {
+        Some(reason) => Some(reason),
+        None => match gauge {
+            Some(_) => None,
+            None => Some(Reason::NoGauge),
+        },
+    }
 }

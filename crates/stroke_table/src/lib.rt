@@ -1,8 +1,9 @@
-//! What is found out about the strokes of a job, each once: the attitude of the part, and where the
-//! fingers stand.
+//! What is found out about the strokes of a job, each once: the attitude of the part, where the
+//! fingers stand, and why the stroke is refused at each stage.
 #![tactic(auto)]
 
 mod finding;
+mod holding;
 mod stroke;
 mod table;
 
@@ -11,3 +12,5 @@ pub use table::StrokeTable;
 
 #[cfg(test)]
 mod tests;
+#[cfg(test)]
+mod worked_strokes;

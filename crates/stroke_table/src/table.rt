@@ -1,14 +1,15 @@
 //! The table of strokes.
-ghost use Rattle.std.specs.Prelude.{false, ◌≡◌, ◌-◌, ◌^◌, ◌<◌, ◌≤◌, length, slice_index_or, replicate, None, IfOk};
+ghost use Rattle.std.specs.Prelude.{false, ◌≡◌, ◌↔◌, ◌-◌, ◌^◌, ◌<◌, ◌≤◌, length, slice_index_or, replicate, None, IfOk, IsTrue};
 ghost use Rattle.brake_base.specs.Masks.{has};
 ghost use Rattle.fold_boxes.specs.Places.{ArePlaces};
 ghost use Rattle.job_setup.specs.Setup.{shape_of};
-ghost use Rattle.stroke_table.specs.Strokes.{IsStrokeOf};
+ghost use Rattle.stroke_table.specs.Strokes.{IsStrokeOf, HoldsAgainst};
 ghost use Rattle.stroke_table.specs.Table.{place_of, place_count};
 
 use crate::finding::find_stroke;
+use crate::holding::holds_by;
 use crate::stroke::Stroke;
-use brake_base::{Back, Mask, Place};
+use brake_base::{Action, Back, Mask, Place, Reason};
 use job_setup::Job;
 use std::alloc::{AllocError, Global};
 use std::marker::Model;
@@ -73,6 +74,30 @@ impl StrokeTable {
                 stroke
             }
         }
+    }
+
+    /// Whether a reason, of any kind, holds against an action where the bends of the mask are folded.
+    pub fn holds(
+        &mut self,
+        job: &Job,
+        places: &[Place],
+        mask: Mask,
+        action: Action,
+        reason: Reason,
+    ) -> bool
+        requires job { job.now ≡ self.old }
+        requires count { length places.now ≡ length job.now.part.faces }
+        requires places { ArePlaces (shape_of job.now) mask places.now }
+        requires mask { mask.0 < 2 ^ (length job.now.part.faces - 1) }
+        requires first { 1 ≤ action.bend }
+        requires last { action.bend < length job.now.part.faces }
+        requires flat { has mask action.bend ≡ false }
+        requires stage { action.stage < length job.now.setup.stages }
+        ensures job { self.new ≡ self.old }
+        ensures holds { IsTrue result ↔ HoldsAgainst job.now mask action reason }
+    {
+        let stroke = self.stroke(job, places, mask, action.bend, action.back);
+        holds_by(job, places, mask, action, reason, &stroke)
     }
 }
 

@@ -2,7 +2,7 @@ use Rattle.std.proofs.Common.{ap, sym, subst, arith}
 use Rattle.std.proofs.lemmas.Int.{ints}
 use Rattle.job_setup.specs.Setup.{StageData, SetupData}
 use Rattle.job_setup.proofs.StageAt.{stage_is}
-use Rattle.stroke_table.proofs.StageRanges.{IsBedRange, stage_range}
+use Rattle.handling_cost.proofs.StageRanges.{IsBedRange, stage_range}
 use Rattle.stroke_table.proofs.finding.stage_range.Goals as goal
 
 pub returns-clause-range : goal.returns-clause-range
