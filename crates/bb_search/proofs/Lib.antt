@@ -1,0 +1,16 @@
+pub mod RowLemmas
+pub mod OrderLemmas
+pub mod NextLemmas
+pub mod AddedLemmas
+pub mod TableLemmas
+pub mod SettlingLemmas
+pub mod CallLemmas
+pub mod OutcomeLemmas
+pub mod PlanLemmas
+pub mod FoldLemmas
+pub mod SetLemmas
+pub mod RowOrders
+pub mod NoteLists
+pub mod Ranges
+pub mod CertLemmas
+pub mod CertForms

@@ -1,0 +1,10 @@
+pub mod Table
+pub mod Orders
+pub mod Candidates
+pub mod Sets
+pub mod Settling
+pub mod Onward
+pub mod Outcomes
+pub mod Searches
+pub mod CertRows
+pub mod Certificates

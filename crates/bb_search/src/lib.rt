@@ -1,0 +1,20 @@
+//! The search for a plan of least cost: it settles keys by recursion, within a budget of rows, and
+//! leaves the rows and notes that prove that no plan costs less.
+#![tactic(auto)]
+
+mod certificate;
+mod orders;
+mod outcome;
+mod plan;
+mod reach;
+mod search;
+mod set_table;
+mod settle;
+mod worths;
+
+pub use outcome::Outcome;
+pub use reach::nodes;
+pub use search::Search;
+
+#[cfg(test)]
+mod tests;
