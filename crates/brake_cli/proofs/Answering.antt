@@ -1,10 +1,10 @@
 -- Where the shelf tells what it holds, `blank` has one answer.
 use Rattle.std.proofs.Common.{◌≡◌, ◌⊎◌, inl, inr, ℕ, List, Option, Some, None, Result, Ok, Err, refl, sym, ap, ◌∙◌}
 use Rattle.std.specs.Prelude.{IfSome, IsSomeAnd, option_map}
-use Rattle.brake_io.specs.Meanings.{Content, ShelfState, Puts}
+use Rattle.brake_io.specs.Meanings.{Content, Puts}
 use Rattle.command_runner.specs.declared.status.Status.{Status}
-use Rattle.command_runner.specs.Answers.{AnswerData, concatenation, long_refused}
-use Rattle.command_runner.specs.Fetching.{IsFetched, fetched_over, files_of}
+use Rattle.command_runner.specs.Answers.{AnswerData, concatenation}
+use Rattle.command_runner.specs.Fetching.{fetched_over, files_of}
 use Rattle.command_runner.specs.Delivery.{IsCutShort, Outside, Delivers, delivered, stored_in_part, put_in_part}
 use Rattle.command_runner.specs.Ends.{IsAnswerAfter, Ends, answers, stops}
 use Rattle.command_runner.proofs.Told.{told_fetched}

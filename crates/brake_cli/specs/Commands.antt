@@ -1,16 +1,18 @@
 -- The commands: the forms of their words, and what they answer.
-use Rattle.std.specs.Prelude.{◌≡◌, ℕ, List, [], ◌∷◌, ◌++◌, codes, Bool, Option, Some, None, if◌then◌else◌}
+use Rattle.std.specs.Prelude.{◌≡◌, ℕ, List, [], ◌∷◌, ◌++◌, codes, Option, Some, None, if◌then◌else◌}
 use Rattle.std.specs.List.{flat_map}
 use Rattle.command_runner.specs.declared.kind.Kind.{Kind}
 use Rattle.command_runner.specs.declared.kind.Kind.TheVariants.{Literal, Input, Certificate, Table, Output, NumberedOutput, Number}
 use Rattle.command_runner.specs.declared.kind.Keyword.TheVariants as word
 use Rattle.command_runner.specs.declared.status.Status.TheVariants as status
-use Rattle.command_runner.specs.Kinds.{is_form}
+use Rattle.command_runner.specs.Kinds.{number_in, is_form}
 use Rattle.command_runner.specs.Answers.{AnswerData, one_text}
+use Rattle.command_runner.specs.Fetching.{word_at}
 use Rattle.command_runner.specs.Ends.{Meaning}
 use Rattle.brake_cli.specs.declared.command.Command.{Command}
 use Rattle.brake_cli.specs.declared.command.Command.TheVariants.{Blank, Plan, PlanWithin, Check, CheckFiles, Trial, Why, Setups, Settle, SettleOver, Merge, Prove}
 use Rattle.brake_cli.specs.BlankAnswer.{blank_answer}
+use Rattle.brake_cli.specs.PlanAnswer.{IsPlanAnswer}
 
 -- the forms: the kinds of the words of each command
 abbrev pub form_of : Command → List Kind
@@ -52,9 +54,15 @@ usage_text = flat_map ended_line usage_lines
 abbrev pub usage : AnswerData
 usage = one_text status.Usage usage_text
 
+-- the budget of settled keys among the words of a command that has one
+abbrev pub budget_in : List (List ℕ) → Option ℕ
+budget_in words = number_in 1 4294967295 (word_at words 6)
+
 -- what each command answers to its words and the contents of its files
 abbrev pub meaning_of : Command → Meaning
 meaning_of Blank words contents answer = answer ≡ blank_answer contents
+meaning_of Plan words contents answer = IsPlanAnswer (word_at words 4) None contents answer
+meaning_of PlanWithin words contents answer = IsPlanAnswer (word_at words 4) (budget_in words) contents answer
 meaning_of _ words contents answer = answer ≡ usage
 
 -- the first of some commands whose form the words have

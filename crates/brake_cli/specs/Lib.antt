@@ -1,6 +1,10 @@
 pub mod FaultNumbers
 pub mod Stops
 pub mod BlankAnswer
+pub mod JobAnswer
+pub mod Claim
+pub mod PlanAnswer
 pub mod Commands
 pub mod Run
+pub mod Headline
 pub mod Words

@@ -38,7 +38,7 @@ abbrev pub of_job : JobFault → Stop
 of_job fault = Refused (refusal.Job fault)
 
 -- a text or a refusal is what reading gives, unless memory ran out
-abbrev pub StopsAt : Stop → Result (List ℕ) FileFault → Type 0
+abbrev pub StopsAt : {A : Type 0} → Stop → Result A FileFault → Type 0
 StopsAt (Refused r) read = read ≡ Err (refusal_data r)
 StopsAt NoMemory read = Unit {0}
 

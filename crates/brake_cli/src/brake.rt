@@ -7,6 +7,7 @@ ghost use Rattle.command_runner.specs.Ends.{Ends, CountsFault, MayFault};
 ghost use Rattle.brake_cli.specs.declared.command.Command.TheVariants.{Blank};
 ghost use Rattle.brake_cli.specs.Commands.{command_of};
 ghost use Rattle.brake_cli.specs.Run.{form_for, meaning_for, RunEnds, told_blank};
+ghost use Rattle.brake_cli.specs.Headline.{HasHeadline, IsComplete};
 
 use crate::command::read_words;
 use crate::usage::usage;
@@ -32,8 +33,9 @@ fn put_usage<H: Shelf, K: Sink>(alloc: Global, shelf: &mut H, out: &mut K) -> St
     }
 }
 
-/// Runs the command whose words these are: `blank PART TOOLS` puts the blank sheet. Words of no
-/// form, and those of a command that isn't built yet, are answered by the usage text.
+/// Runs the command whose words these are: `blank PART TOOLS` puts the blank sheet, and `plan PART
+/// TOOLS MACHINE CERT` stores the certificate of a plan of least cost and puts the sheets. Words of
+/// no form, and those of a command that isn't built yet, are answered by the usage text.
 pub fn brake<H: Shelf, K: Sink>(
     alloc: Global,
     words: &[String],
@@ -57,6 +59,13 @@ pub fn brake<H: Shelf, K: Sink>(
         IfSome (H.state shelf.old).content (λ content. IsCutShort result
         ⊎ IsSomeAnd (told_blank content.held (map string_bytes words.now)) (λ answer.
         (result ≡ answer.status) × Puts (K.state out.old) (K.state out.new) (concatenation answer.texts))) }
+    // Where the shelf tells what it holds, a run of `plan` that ends with a claim has the headline;
+    // and with budget enough it ends with one, unless it is cut short.
+    ensures headline { HasHeadline (map string_bytes words.now)
+        (record { shelf = H.state shelf.old; sink = K.state out.old })
+        (record { shelf = H.state shelf.new; sink = K.state out.new }) result }
+    ensures complete { IsComplete (map string_bytes words.now)
+        (record { shelf = H.state shelf.old; sink = K.state out.old }) result }
 {
     match read_words(words) {
         Some(command) => run(alloc, &command, words, shelf, out),

@@ -1,12 +1,12 @@
 //! The commands: the forms of their words, and what they answer.
-ghost use Rattle.std.specs.Prelude.{◌≡◌, IfOk, IfSome, IsTrue, map, string_bytes};
+ghost use Rattle.std.specs.Prelude.{◌≡◌, IfOk, IfSome, IsTrue, map, string_bytes, Some};
 ghost use Rattle.command_runner.specs.Answers.{answer_data};
 ghost use Rattle.command_runner.specs.Kinds.{is_form};
-ghost use Rattle.brake_cli.specs.Commands.{form_of, meaning_of, first_of, command_of};
+ghost use Rattle.brake_cli.specs.Commands.{form_of, budget_in, meaning_of, first_of, command_of};
 
-use crate::blank;
 use crate::usage::usage;
-use command_runner::{Answer, Keyword, Kind, is_form};
+use crate::{blank, plan};
+use command_runner::{Answer, Keyword, Kind, is_form, number_in};
 use std::alloc::{AllocError, Global};
 
 /// A command, by the form of its words.
@@ -142,6 +142,17 @@ impl Command {
     }
 }
 
+/// The budget of settled keys among the words of `plan` with one.
+fn budget_in(words: &[String]) -> u32
+    requires { IsTrue (is_form (form_of Command.PlanWithin) (map string_bytes words.now)) }
+    ensures { budget_in (map string_bytes words.now) ≡ Some result }
+{
+    match number_in(words[6].as_bytes(), 1, u32::MAX) {
+        Some(budget) => budget,
+        None => unreachable!(),
+    }
+}
+
 impl command_runner::Command for Command {
     ghost use Rattle.brake_cli.specs.Commands.{form_of, meaning_of};
 
@@ -161,6 +172,10 @@ impl command_runner::Command for Command {
     ) -> Result<Answer, AllocError> {
         match self {
             Command::Blank => blank::answer(alloc, contents),
+            Command::Plan => plan::answer(alloc, words[4].as_str(), None, contents),
+            Command::PlanWithin => {
+                plan::answer(alloc, words[4].as_str(), Some(budget_in(words)), contents)
+            }
             _ => usage(alloc),
         }
     }

@@ -4,6 +4,10 @@
 mod blank;
 mod brake;
 mod command;
+mod job_files;
+mod plan;
+#[cfg(test)]
+mod plan_tests;
 mod refusal;
 #[cfg(test)]
 mod tests;

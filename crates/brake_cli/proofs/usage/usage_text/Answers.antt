@@ -1,4 +1,4 @@
-use Rattle.std.proofs.Common.{◌≡◌, ◌∙◌, ◌++◌, ap}
+use Rattle.std.proofs.Common.{◌∙◌, ◌++◌, ap}
 use Rattle.brake_cli.specs.Commands.{usage_text}
 use Rattle.brake_cli.proofs.usage.usage_text.Goals as goal
 

@@ -1,6 +1,5 @@
 use Rattle.std.proofs.Common.{◌≡◌, drop, map, string_bytes, inr, refl, ap, arith, ◌∙◌}
-use Rattle.brake_cli.specs.Run.{RunEnds}
-use Rattle.brake_cli.specs.Words.{arguments_of, words_of}
+use Rattle.brake_cli.specs.Words.{words_of}
 use Rattle.command_runner.specs.Ends.{stops}
 use Rattle.brake_cli.proofs.words.run_program.Goals as goal
 

@@ -1,0 +1,180 @@
+//! The runs of `plan` that the documentation names, over files in memory, and runs in which the
+//! shelf or the sink fails.
+
+use crate::brake::brake;
+use brake_io::{MemShelf, MemSink};
+use command_runner::Status;
+use common_files::{L_SECTION, MACHINE, STAGE, TOOLS, U_CHANNEL};
+use std::alloc::{AllocError, Global};
+use std::test::Fail;
+
+/// What `plan` puts for the U channel.
+const U_SHEETS: &str = "blank
+size 100000 112324
+face 0 web 0 28081 100000 84243
+face 1 north 0 84243 100000 112324
+face 2 south 0 0 100000 28081
+bend 1 0 84243 100000 84243 up
+bend 2 100000 28081 0 28081 up
+setup
+stage 0 P100 D16 200000 300000
+pieces 100000
+order 2
+step 1 bend 2 south back parent stage 0 turn none gauge 84243 fingers 1 205000 1 285000 cost 100
+step 2 bend 1 north back child stage 0 turn none gauge 28081 fingers 1 205000 1 285000 cost 100
+total 200
+";
+
+/// What it stores.
+const U_CERT: &str = "brake-cert 2
+part S235 2000 2000 1919
+face web 100000 60000
+face north 0 N 0 100000 30000 up
+face south 0 S 0 100000 30000 up
+bed 0 3000000
+upper 0 3000000 -60000 60000 0 300000
+lower 0 3000000 -30000 30000 -300000 0
+uncovered 5000
+gauge 5000 600000 5000 10000 10000 20000 10000 10000
+cost 100 20 30 60 80 40
+gang 0
+force 0
+stage 200000 300000
+punch P100 100000 6000
+box -6000 6000 6000 100000
+die D16 60000 16000 11000
+box -20000 -8000 -60000 0
+box -8000 8000 -60000 -8000
+box 8000 20000 -60000 0
+pieces 100000
+load 0 0
+claim 200
+step 2 P 0 1 1
+step 1 C 0 1 1
+row 0 0 0 200
+row 1 0 0 130
+x 2 P 0 8
+row 2 0 0 100
+end
+";
+
+/// What `plan` puts for the L section.
+const L_SHEETS: &str = "blank
+size 100000 76162
+face 0 base 0 0 100000 48081
+face 1 leg 0 48081 100000 76162
+bend 1 0 48081 100000 48081 up
+setup
+stage 0 P100 D16 200000 300000
+pieces 100000
+order 1
+step 1 bend 1 leg back child stage 0 turn none gauge 28081 fingers 1 205000 1 285000 cost 100
+total 100
+";
+
+/// A stage that is too short for the L section.
+const SHORT_STAGE: &str = "[[stage]]
+punch = \"P100\"
+die = \"D16\"
+at = 200000
+pieces = [60000]
+";
+
+/// What `plan` puts for the L section at that stage.
+const NO_PLAN: &str = "blank
+size 100000 76162
+face 0 base 0 0 100000 48081
+face 1 leg 0 48081 100000 76162
+bend 1 0 48081 100000 48081 up
+setup
+stage 0 P100 D16 200000 260000
+pieces 60000
+no plan
+";
+
+/// A shelf with this part's file, a tools file and a machine file with this stage.
+fn shelf_with(alloc: Global, part: &str, stage: &str) -> Result<MemShelf, AllocError> {
+    let mut machine = Vec::from_slice(alloc, MACHINE.as_bytes())?;
+    machine.extend_from_slice(stage.as_bytes())?;
+    let mut shelf = MemShelf::new(alloc);
+    shelf.add("part", part.as_bytes())?;
+    shelf.add("tools", TOOLS.as_bytes())?;
+    shelf.add("machine", machine.as_slice())?;
+    Ok(shelf)
+}
+
+/// Runs `plan`, with the words of a budget behind it or with none.
+fn run(
+    alloc: Global,
+    budget: &[&str],
+    shelf: &mut MemShelf,
+    out: &mut MemSink,
+) -> Result<Status, AllocError> {
+    let mut words = Vec::new(alloc);
+    for word in ["plan", "part", "tools", "machine", "cert"] {
+        words.push(String::from_str(alloc, word)?)?;
+    }
+    for word in budget {
+        words.push(String::from_str(alloc, word)?)?;
+    }
+    Ok(brake(alloc, &words, shelf, out))
+}
+
+#[test]
+fn plans(rt: HostRuntime) -> Result<(), Fail> {
+    let alloc = rt.alloc();
+    let none: &[&str] = &[];
+    let five: &[&str] = &["--budget", "5"];
+    let one: &[&str] = &["--budget", "1"];
+    for (part, stage, budget, status, text) in [
+        (L_SECTION, STAGE, none, Status::Done, L_SHEETS),
+        (U_CHANNEL, STAGE, none, Status::Done, U_SHEETS),
+        (U_CHANNEL, STAGE, five, Status::Done, U_SHEETS),
+        (U_CHANNEL, STAGE, one, Status::Spent, "spent 1\n"),
+        (L_SECTION, SHORT_STAGE, none, Status::NoPlan, NO_PLAN),
+        (L_SECTION, "", none, Status::Refused, "refused job 7\n"),
+        (L_SECTION, "[", none, Status::Refused, "refused machine 1\n"),
+        ("", "[", none, Status::Refused, "refused part 2 0 1\n"),
+    ] {
+        let mut shelf = shelf_with(alloc, part, stage)?;
+        let mut out = MemSink::new(alloc);
+        assert_eq!(rt; run(alloc, budget, &mut shelf, &mut out)?, status);
+        assert_eq!(rt; out.bytes(), text.as_bytes());
+        let is_stored = status == Status::Done || status == Status::NoPlan;
+        assert_eq!(rt; shelf.bytes_of("cert").is_some(), is_stored);
+    }
+    Ok(())
+}
+
+#[test]
+fn each_call_failing_in_turn(rt: HostRuntime) -> Result<(), Fail> {
+    let alloc = rt.alloc();
+    for (call, put, taken, status, written) in [
+        (1, 0, 0, Status::Fault, 0),
+        (2, 0, 0, Status::Fault, 0),
+        (3, 0, 0, Status::Fault, 0),
+        (4, 0, 0, Status::Fault, 0),
+        (0, 1, 0, Status::Fault, 0),
+        (0, 1, 1, Status::Fault, 1),
+        (0, 2, 0, Status::Fault, 184),
+        (0, 2, 1, Status::Fault, 185),
+        (0, 3, 0, Status::Fault, 235),
+        (0, 3, 1, Status::Fault, 236),
+        (5, 4, 0, Status::Done, 446),
+    ] {
+        let mut shelf = shelf_with(alloc, U_CHANNEL, STAGE)?;
+        shelf.fail_at(call)?;
+        let mut out = MemSink::new(alloc);
+        out.fail_at(put, taken);
+        assert_eq!(rt; run(alloc, &[], &mut shelf, &mut out)?, status);
+        assert_eq!(rt; out.bytes().len(), written);
+        assert!(rt; U_SHEETS.as_bytes().starts_with(out.bytes()));
+        let stored = if put == 0 {
+            None
+        } else {
+            Some(U_CERT.as_bytes())
+        };
+        assert_eq!(rt; shelf.bytes_of("cert"), stored);
+    }
+    Ok(())
+}
