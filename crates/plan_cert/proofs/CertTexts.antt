@@ -1,20 +1,21 @@
 -- The text of a certificate, put together from its parts.
-use Rattle.std.proofs.Common.{◌≡◌, ℕ, ◌+◌, ◌*◌, ◌<◌, ◌≤◌, List, [], ◌∷◌, ◌++◌, codes, map, length, All, ap, sym, ◌∙◌, refl, append_assoc, arith}
+use Rattle.std.proofs.Common.{◌≡◌, ℕ, ◌*◌, ◌<◌, ◌≤◌, List, [], ◌∷◌, ◌++◌, codes, map, All, ap, sym, ◌∙◌, refl, append_assoc, arith}
 use Rattle.std.specs.List.{flat_map}
 use Rattle.std.proofs.lemmas.List.{append-nil}
 use Rattle.job_setup.specs.Setup.{JobData, bend_count, stage_count}
 use Rattle.job_setup.specs.ValidJob.{IsJob}
 use Rattle.plan_cert.specs.declared.cert.RowHead.{RowHead}
 use Rattle.plan_cert.specs.declared.cert.Note.{Note}
+use Rattle.plan_cert.specs.declared.format.Format.TheVariants.{Version2}
 use Rattle.plan_cert.specs.Cert.{CertData}
-use Rattle.plan_cert.specs.Lines.{CertLine, version_2, format_line, claim_line, step_line, end_line, line_text, lines_text}
+use Rattle.plan_cert.specs.Lines.{format_line, claim_line, step_line, end_line, line_text, lines_text}
 use Rattle.plan_cert.specs.JobText.{job_lines, job_text}
 use Rattle.plan_cert.specs.WellFormed.{IsNote}
 use Rattle.plan_cert.specs.CertText.{rows_lines, cert_lines, cert_text2}
 use Rattle.plan_cert.proofs.JobTexts.{joined, four, of_kind}
 use Rattle.plan_cert.proofs.Actions.{few_actions}
 
-first_line : line_text (format_line version_2) ≡ codes "brake-cert 2\n"
+first_line : line_text (format_line Version2) ≡ codes "brake-cert 2\n"
 unfolding line_text
 first_line = refl
 
@@ -28,7 +29,7 @@ pub cert_written : (job : JobData) (cert : CertData) (stages : ℕ) (a b c d e f
     → f ≡ e ++ lines_text (rows_lines stages cert.rows cert.notes) → g ≡ f ++ codes "end\n" → g ≡ cert_text2 job cert
 unfolding cert_text2 cert_lines job_text
 cert_written job cert stages a b c d e f g all empty begun with_job claimed stepped filled ended =
-    let head = line_text (format_line version_2) ++ lines_text (job_lines job) in
+    let head = line_text (format_line Version2) ++ lines_text (job_lines job) in
     let plan = line_text (claim_line cert.claim) ++ lines_text (map step_line cert.steps) in
     let rows = lines_text (rows_lines (stage_count job) cert.rows cert.notes) in
     let last = line_text end_line ++ [] in
@@ -39,7 +40,7 @@ cert_written job cert stages a b c d e f g all empty begun with_job claimed step
     let f_is : f ≡ e ++ rows = filled ∙ ap (λ (n : ℕ). e ++ lines_text (rows_lines n cert.rows cert.notes)) all in
     let g_is : g ≡ f ++ last = ended ∙ ap (λ (t : List ℕ). f ++ t) (sym (append-nil (line_text end_line) ∙ last_line)) in
     joined [] head plan rows last c e f g c_is e_is f_is g_is
-    ∙ sym (four (format_line version_2 ∷ job_lines job) (claim_line cert.claim ∷ map step_line cert.steps) (rows_lines (stage_count job) cert.rows cert.notes) (end_line ∷ []))
+    ∙ sym (four (format_line Version2 ∷ job_lines job) (claim_line cert.claim ∷ map step_line cert.steps) (rows_lines (stage_count job) cert.rows cert.notes) (end_line ∷ []))
 
 -- the numbers of the actions of a job's notes
 pub actions_below : (job : JobData) (rows : List RowHead) (notes : List Note) (stages : ℕ) → IsJob job → stages ≡ stage_count job → All (IsNote job rows) notes

@@ -1,5 +1,5 @@
 -- The text of rows and their notes, row by row.
-use Rattle.std.proofs.Common.{◌≡◌, ℕ, suc, ◌+◌, ◌<◌, ◌≤◌, List, [], ◌∷◌, ◌++◌, length, take, drop, filter, get_or, map, ap, sym, ◌∙◌, refl, subst, arith, append_assoc, drop-cons, add-one}
+use Rattle.std.proofs.Common.{◌≡◌, ℕ, suc, ◌+◌, ◌<◌, ◌≤◌, List, [], ◌∷◌, ◌++◌, length, take, drop, filter, get_or, map, ap, sym, ◌∙◌, refl, subst, arith, append_assoc, drop-cons}
 use Rattle.std.specs.List.{flat_map, enumerate_from, prefix_len}
 use Rattle.std.proofs.lemmas.Grind.{flat_map-append}
 use Rattle.std.proofs.lemmas.List.{append-nil, drop_all}

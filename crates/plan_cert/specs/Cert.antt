@@ -1,5 +1,5 @@
 -- A certificate as numbers and lists.
-use Rattle.std.specs.Prelude.{ℕ, List}
+use Rattle.std.specs.Prelude.{List}
 use Rattle.brake_base.specs.declared.stroke.Step.{Step}
 use Rattle.brake_base.specs.declared.stroke.Worth.{Worth}
 use Rattle.plan_cert.specs.declared.cert.RowHead.{RowHead}

@@ -1,6 +1,14 @@
 pub mod Cert
 pub mod Lines
+pub mod JobReading
 pub mod JobText
 pub mod WellFormed
 pub mod CertText
 pub mod GoodCert
+pub mod PlanReading
+pub mod JobTest
+pub mod Facts
+pub mod Items
+pub mod Reading
+pub mod CertReading
+pub mod CertItems

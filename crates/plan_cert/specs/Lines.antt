@@ -24,13 +24,9 @@ use Rattle.part_file.specs.declared.part.Joint.{Joint}
 use Rattle.part_file.specs.Part.{FaceData}
 use Rattle.machine_file.specs.declared.machine.Fixed.{Fixed}
 use Rattle.machine_file.specs.declared.machine.GaugeRule.{GaugeRule}
+use Rattle.plan_cert.specs.declared.format.Format.{Format}
+use Rattle.plan_cert.specs.declared.format.Format.TheVariants.{Version2, Table}
 use Rattle.plan_cert.specs.declared.cert.RowHead.{RowHead}
-
--- the three formats that are read; version 2 and the table are those that are written
-pub data Format : Type 0 where
-  version_1 : Format
-  version_2 : Format
-  table : Format
 
 -- a line by its kind, with what its words say
 pub data CertLine : Type 0 where
@@ -120,11 +116,11 @@ abbrev pub reason_words : Reason → List (List ℕ)
 reason_words reason = number (kind_of reason) ∷ argument_words reason
 
 abbrev pub format_keyword : Format → List ℕ
-format_keyword table = codes "brake-table"
+format_keyword Table = codes "brake-table"
 format_keyword _ = codes "brake-cert"
 
 abbrev pub format_number : Format → List ℕ
-format_number version_2 = codes "2"
+format_number Version2 = codes "2"
 format_number _ = codes "1"
 
 -- the first word of a line, which tells its kind

@@ -3,13 +3,27 @@
 #![tactic(auto)]
 
 mod cert;
+mod cert_reading;
+mod format;
+mod item;
+mod job_facts;
+mod job_line;
 mod job_lines;
+mod job_reading;
+mod plan_reading;
+mod reader;
 mod rows;
+mod section;
+mod stand;
 mod words;
 mod writing;
 
 pub use cert::{Cert, Note, RowHead};
+pub use cert_reading::{CertFile, read_cert};
+pub use format::Kind;
+pub use item::{CertFault, Item};
 pub use job_lines::write_job;
+pub use reader::CertReader;
 pub use rows::{put_reason, put_worth};
 pub use words::put_count;
 pub use writing::write_cert;

@@ -1,12 +1,13 @@
 //! The text of a certificate without rows, over a job of three files.
 
-use crate::{Cert, write_cert};
+use crate::{Cert, CertFault, CertReader, Item, read_cert, write_cert};
 use arrayvec::ArrayVec;
 use brake_base::Worth;
 use common_files::{MACHINE, STAGE, TOOLS, U_CHANNEL};
 use job_setup::make_job;
 use machine_file::read_machine;
 use part_file::read_part;
+use std::alloc::{AllocError, Global};
 use std::test::Fail;
 use tool_library::read_tools;
 
@@ -52,5 +53,181 @@ fn u_channel_without_rows(rt: HostRuntime) -> Result<(), Fail> {
     };
     let text = write_cert(alloc, &job, &cert)?;
     assert_eq!(rt; text.as_slice(), TEXT.as_bytes());
+    Ok(())
+}
+
+/// The certificate of a U channel in version 1.
+const VERSION_1: &str = "brake-cert 1
+part S235 2000 2000 1919
+face web 100000 60000
+face north 0 N 0 100000 30000 up
+face south 0 S 0 100000 30000 up
+bed 0 3000000
+upper 0 3000000 -60000 60000 0 300000
+lower 0 3000000 -30000 30000 -300000 0
+uncovered 5000
+gauge 5000 600000 5000 10000 10000 20000 10000 10000
+cost 100 20 30 60 80 40
+stage 200000 300000
+punch P100 100000 6000
+box -6000 6000 6000 100000
+die D16 60000 16000 11000
+box -20000 -8000 -60000 0
+box -8000 8000 -60000 -8000
+box 8000 20000 -60000 0
+pieces 100000
+claim 200
+step 2 P 0 1 1
+step 1 C 0 1 1
+row 0 0 0 200
+row 1 0 0 130
+x 2 P 0 8
+row 2 0 0 100
+end
+";
+
+/// The certificate of a U channel in version 2.
+const VERSION_2: &str = "brake-cert 2
+part S235 2000 2000 1919
+face web 100000 60000
+face north 0 N 0 100000 30000 up
+face south 0 S 0 100000 30000 up
+bed 0 3000000
+upper 0 3000000 -60000 60000 0 300000
+lower 0 3000000 -30000 30000 -300000 0
+uncovered 5000
+gauge 5000 600000 5000 10000 10000 20000 10000 10000
+cost 100 20 30 60 80 40
+gang 0
+force 0
+stage 200000 300000
+punch P100 100000 6000
+box -6000 6000 6000 100000
+die D16 60000 16000 11000
+box -20000 -8000 -60000 0
+box -8000 8000 -60000 -8000
+box 8000 20000 -60000 0
+pieces 100000
+load 0 0
+claim 200
+step 2 P 0 1 1
+step 1 C 0 1 1
+row 0 0 0 200
+row 1 0 0 130
+x 2 P 0 8
+row 2 0 0 100
+end
+";
+
+/// A table file of a U channel.
+const TABLE: &str = "brake-table 1
+part S235 2000 2000 1919
+face web 100000 60000
+face north 0 N 0 100000 30000 up
+face south 0 S 0 100000 30000 up
+bed 0 3000000
+upper 0 3000000 -60000 60000 0 300000
+lower 0 3000000 -30000 30000 -300000 0
+uncovered 5000
+gauge 5000 600000 5000 10000 10000 20000 10000 10000
+cost 100 20 30 60 80 40
+gang 0
+force 0
+stage 200000 300000
+punch P100 100000 6000
+box -6000 6000 6000 100000
+die D16 60000 16000 11000
+box -20000 -8000 -60000 0
+box -8000 8000 -60000 -8000
+box 8000 20000 -60000 0
+pieces 100000
+load 0 0
+row 1 0 0 130
+x 2 P 0 8
+row 2 0 0 100
+end
+";
+
+/// How many items a reader gives up to the end, or the refusal.
+fn count_items(mut reader: CertReader) -> Result<u32, CertFault> {
+    for count in 1..1000 {
+        if matches!(reader.next()?, Item::End) {
+            return Ok(count);
+        }
+    }
+    Err(CertFault::NoMemory)
+}
+
+/// The text with another line in place of the line of a number, counted from 1.
+fn changed(alloc: Global, text: &str, number: usize, line: &str) -> Result<String, AllocError> {
+    let mut out = String::new(alloc);
+    for (i, old) in text.lines().enumerate() {
+        if i + 1 == number {
+            out.push_str(line)?;
+        } else {
+            out.push_str(old)?;
+            out.push_str("\n")?;
+        }
+    }
+    Ok(out)
+}
+
+#[test]
+fn whole_texts_are_read(rt: HostRuntime) -> Result<(), Fail> {
+    assert_eq!(rt; count_items(CertReader::new(VERSION_1.as_bytes())), Ok(9));
+    assert_eq!(rt; count_items(CertReader::new(VERSION_2.as_bytes())), Ok(9));
+    assert_eq!(rt; count_items(CertReader::table(TABLE.as_bytes())), Ok(5));
+    let file = read_cert(rt.alloc(), VERSION_2.as_bytes())
+        .ok()
+        .ok_or("a certificate")?;
+    assert_eq!(rt; file.version, 2);
+    let text = write_cert(rt.alloc(), &file.job, &file.cert)?;
+    assert_eq!(rt; text.as_slice(), VERSION_2.as_bytes());
+    Ok(())
+}
+
+#[test]
+fn refusals(rt: HostRuntime) -> Result<(), Fail> {
+    let cases = [
+        (20, "claim 0200\n", CertFault::BadLine { line: 20 }),
+        (
+            26,
+            "row 2 0 0 100\nrow 2 0 0 100\n",
+            CertFault::BadLine { line: 27 },
+        ),
+        (27, "", CertFault::Unended),
+        (27, "end\nx", CertFault::Trailing),
+        (2, "part S235 2000 2000 500\n", CertFault::BadJob),
+        (26, "row 02 0 0 100\n", CertFault::BadLine { line: 26 }),
+        (25, "x 1 P 0 8\n", CertFault::BadLine { line: 25 }),
+        (23, "row 3 0 0 0\n", CertFault::BadLine { line: 23 }),
+        (
+            11,
+            "cost 100 20 30 60 80 40\ngang 0\n",
+            CertFault::BadLine { line: 12 },
+        ),
+        (1, "brake-cert 2\n", CertFault::BadLine { line: 12 }),
+        (1, "brake-cert 3\n", CertFault::BadLine { line: 1 }),
+        (11, "cost 100 20 -30 60 80 40\n", CertFault::BadJob),
+        (
+            4,
+            "face north 1 N 0 100000 30000 up\n",
+            CertFault::BadLine { line: 4 },
+        ),
+        (22, "", CertFault::BadLine { line: 22 }),
+        (22, "step 1 C 0 1 3\n", CertFault::BadLine { line: 22 }),
+        (19, "pieces\n", CertFault::BadLine { line: 19 }),
+        (25, "x 2 P 0 5 0 1 1\n", CertFault::BadLine { line: 25 }),
+        (
+            25,
+            "x 2 P 0 8\nx 2 P 0 8\n",
+            CertFault::BadLine { line: 26 },
+        ),
+    ];
+    for (number, line, fault) in cases {
+        let text = changed(rt.alloc(), VERSION_1, number, line)?;
+        assert_eq!(rt; count_items(CertReader::new(text.as_bytes())), Err(fault));
+        assert_eq!(rt; read_cert(rt.alloc(), text.as_bytes()).err(), Some(fault));
+    }
     Ok(())
 }

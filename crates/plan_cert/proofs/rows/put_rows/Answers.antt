@@ -1,4 +1,4 @@
-use Rattle.std.proofs.Common.{refl, arith, ◌*◌, ◌<◌, All}
+use Rattle.std.proofs.Common.{refl, arith, ◌*◌, ◌<◌}
 use Rattle.std.specs.List.{prefix_len}
 use Rattle.std.proofs.lemmas.List.Elements.{All-take, All-drop}
 use Rattle.plan_cert.specs.declared.cert.Note.{Note}

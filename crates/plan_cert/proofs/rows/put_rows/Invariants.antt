@@ -1,4 +1,4 @@
-use Rattle.std.proofs.Common.{◌≡◌, ℕ, ◌*◌, ◌<◌, ◌++◌, drop, All}
+use Rattle.std.proofs.Common.{◌≡◌, ◌*◌, ◌<◌, ◌++◌, drop, All}
 use Rattle.plan_cert.specs.declared.cert.Note.{Note}
 use Rattle.plan_cert.specs.Lines.{lines_text}
 use Rattle.plan_cert.proofs.NoteOrder.{Ascend}

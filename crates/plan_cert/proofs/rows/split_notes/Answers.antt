@@ -1,4 +1,3 @@
-use Rattle.std.proofs.Common.{arith}
 use Rattle.std.proofs.lemmas.List.Sums.{prefix_len-le-length}
 use Rattle.plan_cert.proofs.NoteOrder.{is_of}
 use Rattle.plan_cert.proofs.rows.split_notes.Goals as goal

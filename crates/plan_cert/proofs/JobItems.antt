@@ -1,0 +1,134 @@
+-- The answers up to the job.
+use Rattle.std.proofs.Common.{◌≡◌, ℕ, ◌<◌, Bool, true, false, not, List, [], ◌∷◌, length, Option, Some, None, Result, Ok, Err, refl, sym, ap, subst, ◌∙◌, arith}
+use Rattle.std.specs.Prelude.{if◌then◌else◌, ◌&&◌, is_some}
+use Rattle.std.proofs.lemmas.Bool.{and_parts, false_from_ne_true, false≢true}
+use Rattle.job_setup.specs.Setup.{JobData}
+use Rattle.job_setup.specs.ValidJob.{IsJob, IsJobFrom}
+use Rattle.plan_cert.specs.declared.format.Kind.{Kind}
+use Rattle.plan_cert.specs.declared.format.Format.{Format}
+use Rattle.plan_cert.specs.declared.item.Item.{Item}
+use Rattle.plan_cert.specs.declared.item.Item.TheVariants as given
+use Rattle.plan_cert.specs.declared.item.CertFault.{CertFault}
+use Rattle.plan_cert.specs.declared.item.CertFault.TheVariants as faults
+use Rattle.plan_cert.specs.declared.stand.Stand.{Stand}
+use Rattle.plan_cert.specs.JobTest.{is_job}
+use Rattle.plan_cert.specs.declared.job_reading.JobLines.{JobLines}
+use Rattle.plan_cert.specs.JobReading.{Takes, job_lines_data, JobLinesData, take_line, no_lines, format_of, job_of}
+use Rattle.plan_cert.specs.PlanReading.{first_section}
+use Rattle.plan_cert.specs.Items.{lines_in, next_number, may_be_judged, judged_items, plan_items, items_behind, job_items, items_of_lines, items}
+use Rattle.plan_cert.specs.Reading.{Gives, GivesJob, IsJudged, Stops}
+use Rattle.plan_cert.proofs.JobDecided.{job_decided}
+use Rattle.plan_cert.proofs.WholeLines.{some_line}
+
+-- a job line is taken
+taken_any : (n : ℕ) (lines taken : JobLinesData) (line : List ℕ) (rest : List (List ℕ)) → 0 < length rest → take_line lines line ≡ Some taken → job_items n lines (line ∷ rest) ≡ job_items (next_number n) taken rest
+unfolding job_items
+taken_any n lines taken line [] some e = absurd (omega arith)
+taken_any n lines taken line (next ∷ more) some e = ap (λ (o : Option JobLinesData). elim o [ Some t ↦ job_items (next_number n) t (next ∷ more) | None ↦ items_behind n lines line (next ∷ more) ]) e
+
+pub taken : (n : ℕ) (lines after : JobLinesData) (line text behind : List ℕ) → lines_in text ≡ line ∷ lines_in behind → take_line lines line ≡ Some after
+    → job_items n lines (lines_in text) ≡ job_items (next_number n) after (lines_in behind)
+taken n lines after line text behind cut e = ap (λ (ls : List (List ℕ)). job_items n lines ls) cut ∙ taken_any n lines after line (lines_in behind) (some_line behind) e
+
+-- another line ends the job lines
+stopped_any : (n : ℕ) (lines : JobLinesData) (line : List ℕ) (rest : List (List ℕ)) → 0 < length rest → take_line lines line ≡ None → job_items n lines (line ∷ rest) ≡ items_behind n lines line rest
+unfolding job_items
+stopped_any n lines line [] some e = absurd (omega arith)
+stopped_any n lines line (next ∷ more) some e = ap (λ (o : Option JobLinesData). elim o [ Some t ↦ job_items (next_number n) t (next ∷ more) | None ↦ items_behind n lines line (next ∷ more) ]) e
+
+stops_any : (lines : JobLinesData) (line : List ℕ) (rest : List (List ℕ)) → take_line lines line ≡ None → Stops lines (line ∷ rest)
+stops_any lines line [] e = tt
+stops_any lines line (next ∷ more) e = e
+
+pub stops : (lines : JobLinesData) (line text behind : List ℕ) → lines_in text ≡ line ∷ lines_in behind → take_line lines line ≡ None → Stops lines (lines_in text)
+stops lines line text behind cut e = subst (λ ls. Stops lines ls) (sym cut) (stops_any lines line (lines_in behind) e)
+
+pub stops_at_end : (lines : JobLinesData) (text : List ℕ) → lines_in text ≡ text ∷ [] → Stops lines (lines_in text)
+stops_at_end lines text cut = subst (λ ls. Stops lines ls) (sym cut) tt
+
+stop_any : (lines : JobLinesData) (line : List ℕ) (rest : List (List ℕ)) → 0 < length rest → Stops lines (line ∷ rest) → take_line lines line ≡ None
+stop_any lines line [] some stop = absurd (omega arith)
+stop_any lines line (next ∷ more) some stop = stop
+
+pub answers_like : (answers others : List (Result Item CertFault)) (given : Result Item CertFault) (stand : Stand) → others ≡ answers → Gives answers given stand → Gives others given stand
+answers_like answers others given stand same gives = (gives.0, same ∙ gives.1, gives.2, gives.3, gives.4)
+
+-- behind the job lines stands a whole line
+pub behind_lines : (n m : ℕ) (lines after : JobLinesData) (line text rest behind : List ℕ) (given : Result Item CertFault) (stand : Stand)
+    → job_items n lines (lines_in text) ≡ job_items m after (lines_in rest) → Stops after (lines_in rest) → lines_in rest ≡ line ∷ lines_in behind
+    → ((others : List (List ℕ)) → lines_in rest ≡ line ∷ others → Gives (items_behind m after line others) given stand) → Gives (job_items n lines (lines_in text)) given stand
+behind_lines n m lines after line text rest behind given stand same stop cut gives =
+    let none : take_line after line ≡ None = stop_any after line (lines_in behind) (some_line behind) (subst (λ ls. Stops after ls) cut stop) in
+    answers_like (items_behind m after line (lines_in behind)) (job_items n lines (lines_in text)) given stand
+    (same ∙ ap (λ (ls : List (List ℕ)). job_items m after ls) cut ∙ stopped_any m after line (lines_in behind) (some_line behind) none) (gives (lines_in behind) cut)
+
+-- the text ends within the job lines
+pub job_unended : (n m : ℕ) (lines after : JobLinesData) (text rest : List ℕ) (given : Result Item CertFault) (stand : Stand)
+    → job_items n lines (lines_in text) ≡ job_items m after (lines_in rest) → lines_in rest ≡ rest ∷ [] → Gives (Err faults.Unended ∷ []) given stand → Gives (job_items n lines (lines_in text)) given stand
+unfolding job_items
+job_unended n m lines after text rest given stand same cut gives =
+    answers_like (Err faults.Unended ∷ []) (job_items n lines (lines_in text)) given stand (same ∙ ap (λ (ls : List (List ℕ)). job_items m after ls) cut) gives
+
+-- the first line
+pub first_unended : (kind : Kind) (text : List ℕ) (given : Result Item CertFault) (stand : Stand) → lines_in text ≡ text ∷ [] → Gives (Err faults.Unended ∷ []) given stand → Gives (items kind text) given stand
+unfolding items
+first_unended kind text given stand cut gives = answers_like (Err faults.Unended ∷ []) (items kind text) given stand (ap (λ (ls : List (List ℕ)). items_of_lines kind ls) cut) gives
+
+bad_any : (kind : Kind) (line : List ℕ) (rest : List (List ℕ)) → 0 < length rest → format_of kind line ≡ None → items_of_lines kind (line ∷ rest) ≡ Err (faults.BadLine 1) ∷ []
+bad_any kind line [] some e = absurd (omega arith)
+bad_any kind line (next ∷ more) some e = ap (λ (o : Option Format). elim o [ Some format ↦ job_items 2 (no_lines format) (next ∷ more) | None ↦ Err (faults.BadLine 1) ∷ [] ]) e
+
+pub first_bad : (kind : Kind) (line text rest : List ℕ) (given : Result Item CertFault) (stand : Stand) → lines_in text ≡ line ∷ lines_in rest → format_of kind line ≡ None → Gives (Err (faults.BadLine 1) ∷ []) given stand → Gives (items kind text) given stand
+unfolding items
+first_bad kind line text rest given stand cut e gives =
+    answers_like (Err (faults.BadLine 1) ∷ []) (items kind text) given stand (ap (λ (ls : List (List ℕ)). items_of_lines kind ls) cut ∙ bad_any kind line (lines_in rest) (some_line rest) e) gives
+
+good_any : (kind : Kind) (format : Format) (line : List ℕ) (rest : List (List ℕ)) → 0 < length rest → format_of kind line ≡ Some format → items_of_lines kind (line ∷ rest) ≡ job_items 2 (no_lines format) rest
+good_any kind format line [] some e = absurd (omega arith)
+good_any kind format line (next ∷ more) some e = ap (λ (o : Option Format). elim o [ Some format ↦ job_items 2 (no_lines format) (next ∷ more) | None ↦ Err (faults.BadLine 1) ∷ [] ]) e
+
+pub first_good : (kind : Kind) (format : Format) (line text rest : List ℕ) (given : Result Item CertFault) (stand : Stand) → lines_in text ≡ line ∷ lines_in rest → format_of kind line ≡ Some format
+    → Gives (job_items 2 (no_lines format) (lines_in rest)) given stand → Gives (items kind text) given stand
+unfolding items
+first_good kind format line text rest given stand cut e gives =
+    answers_like (job_items 2 (no_lines format) (lines_in rest)) (items kind text) given stand (ap (λ (ls : List (List ℕ)). items_of_lines kind ls) cut ∙ good_any kind format line (lines_in rest) (some_line rest) e) gives
+
+-- the line behind the job lines may not follow them
+pub not_judged : (n : ℕ) (lines : JobLinesData) (line : List ℕ) (rest : List (List ℕ)) → may_be_judged lines line ≡ false → items_behind n lines line rest ≡ Err (faults.BadLine n) ∷ []
+not_judged n lines line rest may = ap (λ (b : Bool). if b then judged_items n lines (line ∷ rest) else Err (faults.BadLine n) ∷ []) may
+
+judged_by : (n : ℕ) (lines : JobLinesData) (line : List ℕ) (rest : List (List ℕ)) (valid : Bool) → may_be_judged lines line ≡ true → (lines.is_sound && is_job (job_of lines)) ≡ valid
+    → items_behind n lines line rest ≡ (if valid then Ok (given.Job (job_of lines)) ∷ plan_items lines.format (job_of lines) n (first_section lines.format) (line ∷ rest) else Err faults.BadJob ∷ [])
+judged_by n lines line rest valid may is =
+    ap (λ (b : Bool). if b then judged_items n lines (line ∷ rest) else Err (faults.BadLine n) ∷ []) may
+    ∙ ap (λ (b : Bool). if b then Ok (given.Job (job_of lines)) ∷ plan_items lines.format (job_of lines) n (first_section lines.format) (line ∷ rest) else Err faults.BadJob ∷ []) is
+
+-- it may, and they are a valid job, or not
+pub judged_some : (n : ℕ) (lines : JobLinesData) (line : List ℕ) (rest : List (List ℕ)) (job : JobData) → may_be_judged lines line ≡ true → IsJudged (Some job) lines → GivesJob lines n (line ∷ rest) (Ok job) (items_behind n lines line rest)
+judged_some n lines line rest job may is = (
+  judged_by n lines line rest true may is.1 ∙ ap (λ (j : JobData). Ok (given.Job j) ∷ plan_items lines.format j n (first_section lines.format) (line ∷ rest)) (sym is.0),
+  subst (λ j. IsJob j) (sym is.0) ((job_decided (job_of lines)).0 ((and_parts lines.is_sound (is_job (job_of lines)) is.1).1)),
+)
+
+pub judged_none : (n : ℕ) (lines : JobLinesData) (line : List ℕ) (rest : List (List ℕ)) → may_be_judged lines line ≡ true → IsJudged None lines → items_behind n lines line rest ≡ Err faults.BadJob ∷ []
+judged_none n lines line rest may is = judged_by n lines line rest false may is
+
+-- what `job_from` says of the values
+pub judged : (lines : JobLinesData) (job : Option JobData) → lines.is_sound ≡ true → IsJobFrom job (job_of lines) → IsJudged job lines
+judged lines (Some job) sound from =
+    let valid : is_job (job_of lines) ≡ true = (job_decided (job_of lines)).1 from.1 in
+    (from.0, ap (λ (b : Bool). b && is_job (job_of lines)) sound ∙ valid)
+judged lines None sound none =
+    ap (λ (b : Bool). b && is_job (job_of lines)) sound ∙ false_from_ne_true (is_job (job_of lines)) (λ t. none ((job_decided (job_of lines)).0 t))
+
+pub unsound : (lines : JobLinesData) → lines.is_sound ≡ false → IsJudged None lines
+unsound lines no_sound = ap (λ (b : Bool). b && is_job (job_of lines)) no_sound
+
+-- a line that was taken
+pub takes_some : (result : Option (Unit {0})) (old new : JobLines) (there : Option JobLinesData) (none : Bool) → Takes result old new there → is_some result ≡ not none → none ≡ false → there ≡ Some (job_lines_data new)
+takes_some (Some x) old new there none takes is no_none = takes
+takes_some None old new there none takes is no_none = absurd (false≢true (is ∙ ap not no_none))
+
+pub true_by : (b : Bool) → not b ≡ false → b ≡ true
+true_by true e = refl
+true_by false e = absurd (false≢true (sym e))

@@ -1,0 +1,28 @@
+use Rattle.std.proofs.Common.{◌≡◌, Ok, Err, subst, sym}
+use Rattle.std.specs.Prelude.{◌⊎◌}
+use Rattle.std.proofs.lemmas.Result.{err_from_is_err_and}
+use Rattle.toml_fields.specs.Results.{GivesOr}
+use Rattle.plan_cert.specs.declared.item.CertFault.TheVariants.{NoMemory}
+use Rattle.plan_cert.specs.Cert.{cert_data}
+use Rattle.plan_cert.specs.CertReading.{cert_file_data, cert_file_of, BeginsWith}
+use Rattle.plan_cert.proofs.Collecting.{read_ok, read_err}
+use Rattle.plan_cert.proofs.ReadWell.{read_file}
+use Rattle.plan_cert.proofs.cert_reading.read_cert.Goals as goal
+
+pub returns-in_err-collect-clause-value : goal.returns-in_err-collect-clause-value
+returns-in_err-collect-clause-value c =
+    let begins = subst (λ r. BeginsWith r (Ok c.in_ok-job.job) c.first_job.new.reader) c.new-reader.ensures c.in_ok-job.ensures in
+    let answer = err_from_is_err_and c.from_residual-in_err-collect.result c.from_residual-in_err-collect.ensures.1 in
+    let told = subst (λ f. (f ≡ NoMemory) ⊎ (cert_file_of c.args.text.now ≡ Err f)) (sym answer.2)
+    (read_err c.args.text.now c.in_ok-job.job c.first_job.new.reader (cert_data c.no_cert-cert.result) c.in_err-collect.field-0.0 begins c.no_cert-cert.ensures c.in_err-collect.ensures) in
+    subst (λ r. GivesOr NoMemory cert_file_data r (cert_file_of c.args.text.now)) (sym answer.1) told
+
+pub returns-clause-value : goal.returns-clause-value
+returns-clause-value c =
+    let begins = subst (λ r. BeginsWith r (Ok c.in_ok-job.job) c.first_job.new.reader) c.new-reader.ensures c.in_ok-job.ensures in
+    read_ok c.args.text.now c.in_ok-job.job c.first_job.new.reader (cert_data c.no_cert-cert.result) (cert_data c.collect.new.cert) c.version.result begins c.no_cert-cert.ensures c.in_ok-collect.ensures c.version.ensures
+
+pub returns-clause-whole : goal.returns-clause-whole
+returns-clause-whole c =
+    let begins = subst (λ r. BeginsWith r (Ok c.in_ok-job.job) c.first_job.new.reader) c.new-reader.ensures c.in_ok-job.ensures in
+    read_file c.args.text.now _ (read_ok c.args.text.now c.in_ok-job.job c.first_job.new.reader (cert_data c.no_cert-cert.result) (cert_data c.collect.new.cert) c.version.result begins c.no_cert-cert.ensures c.in_ok-collect.ensures c.version.ensures)

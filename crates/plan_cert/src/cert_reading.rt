@@ -1,0 +1,165 @@
+//! A whole certificate from its text.
+ghost use Rattle.std.specs.Prelude.{◌≡◌, ◌⊎◌, ◌+◌, ◌-◌, ◌^◌, min, ◌<◌, ◌≤◌, ℕ, [], ◌∷◌, ◌++◌, drop, length, Result, Ok, Err, OnOk, OnErr, IfOk, IfErr};
+ghost use Rattle.toml_fields.specs.Results.{GivesOr};
+ghost use Rattle.plan_cert.specs.declared.item.CertFault.TheVariants.{NoMemory};
+ghost use Rattle.plan_cert.specs.declared.format.Kind.TheVariants.{Certificate};
+ghost use Rattle.plan_cert.specs.Cert.{cert_data};
+ghost use Rattle.plan_cert.specs.Items.{items};
+ghost use Rattle.plan_cert.specs.CertReading.{cert_file_data, cert_file_of, cert_of, with_item, with_step, with_note, is_last, no_cert, version_in, answers_left, Collects, AnswersLeft, BeginsWith};
+ghost use Rattle.plan_cert.specs.CertItems.{IsReadFrom};
+
+use crate::cert::{Cert, Note, RowHead};
+use crate::item::{CertFault, Item};
+use crate::reader::CertReader;
+use arrayvec::ArrayVec;
+use brake_base::{Reason, Step, Worth};
+use job_setup::Job;
+use std::alloc::{AllocError, Global};
+
+/// A certificate with its job and the version of its text.
+#[derive(Drop)]
+pub struct CertFile {
+    pub job: Job,
+    pub cert: Cert,
+    pub version: u8,
+}
+
+/// The version that the first line names.
+fn version(text: &[u8]) -> u8
+    ensures { result ≡ version_in text.now }
+{
+    if text.starts_with(b"brake-cert 1\n") {
+        1
+    } else {
+        2
+    }
+}
+
+/// A certificate of which nothing is read.
+fn no_cert(alloc: Global) -> Cert
+    ensures { cert_data result ≡ no_cert }
+{
+    Cert {
+        claim: Worth::Blocked,
+        steps: ArrayVec::new(),
+        rows: Vec::new(alloc),
+        notes: Vec::new(alloc),
+    }
+}
+
+/// Adds a step, of which a certificate has at most 12.
+fn add_step(cert: &mut Cert, step: Step)
+    ensures { cert_data cert.new ≡ with_step (cert_data cert.old) step }
+{
+    if cert.steps.len() < 12 {
+        cert.steps.push(step);
+    }
+}
+
+/// The number of the last row, which stands still at the greatest number.
+fn last_row(cert: &Cert) -> u32
+    ensures { result ≡ min (length cert.now.rows.items - 1) (2 ^ 32 - 1) }
+{
+    (cert.rows.len().saturating_sub(1)).min(0xFFFF_FFFF) as u32
+}
+
+/// Adds a reason against an action at the last row.
+fn add_note(cert: &mut Cert, action: u8, reason: Reason) -> Result<(), AllocError>
+    ensures { OnOk result (cert_data cert.new ≡ with_note (cert_data cert.old) action reason) }
+{
+    let row = last_row(cert);
+    cert.notes.push(Note {
+        row,
+        action,
+        reason,
+    })?;
+    Ok(())
+}
+
+/// Adds a row.
+fn add_row(cert: &mut Cert, row: RowHead) -> Result<(), AllocError>
+    ensures { OnOk result (cert_data cert.new
+        ≡ record (cert_data cert.old) { rows = (cert_data cert.old).rows ++ row ∷ [] }) }
+{
+    cert.rows.push(row)?;
+    Ok(())
+}
+
+/// Adds what an item says.
+fn add_item(cert: &mut Cert, item: Item) -> Result<(), AllocError>
+    ensures { OnOk result (cert_data cert.new ≡ with_item (cert_data cert.old) item) }
+{
+    match item {
+        Item::Claim(claim) => {
+            cert.claim = claim;
+            Ok(())
+        }
+        Item::Step(step) => {
+            add_step(cert, step);
+            Ok(())
+        }
+        Item::Row(row) => add_row(cert, row),
+        Item::Note { action, reason } => add_note(cert, action, reason),
+        Item::Job(_) | Item::End => Ok(()),
+    }
+}
+
+/// Whether the item is the last.
+fn is_last(item: &Item) -> bool
+    ensures { result ≡ is_last item.now }
+{
+    matches!(item, Item::End)
+}
+
+/// Reads an item and adds what it says. Whether it was the last.
+fn take_item(cert: &mut Cert, reader: &mut CertReader) -> Result<bool, CertFault>
+    requires { AnswersLeft reader.old }
+    ensures value { Collects result (cert_data cert.old) reader.old (cert_data cert.new) reader.new }
+    ensures after { reader.new ≡ record reader.old { answered = reader.old.answered + 1 } }
+{
+    let item = reader.next()?;
+    let is_last = is_last(&item);
+    add_item(cert, item)?;
+    Ok(is_last)
+}
+
+/// Reads the items up to the end.
+fn collect(cert: &mut Cert, reader: &mut CertReader) -> Result<(), CertFault>
+    requires { AnswersLeft reader.old }
+    ensures { GivesOr NoMemory (λ _. cert_data cert.new) result
+        (cert_of (cert_data cert.old) (answers_left reader.old)) }
+{
+    let mut is_open = true;
+    while is_open {
+        is_open = !take_item(cert, reader)?;
+    }
+    Ok(())
+}
+
+/// The job, which is the first item.
+fn first_job(reader: &mut CertReader) -> Result<Job, CertFault>
+    requires kind { reader.old.kind ≡ Certificate }
+    requires start { reader.old.answered ≡ 0 }
+    ensures { BeginsWith reader.old result reader.new }
+{
+    match reader.next()? {
+        Item::Job(job) => Ok(job),
+        _ => Err(CertFault::Unended),
+    }
+}
+
+/// The certificate that the text is, with its job and its version, or the first refusal.
+pub fn read_cert(alloc: Global, text: &[u8]) -> Result<CertFile, CertFault>
+    ensures value { GivesOr NoMemory cert_file_data result (cert_file_of text.now) }
+    ensures whole { IfOk result (λ file. IsReadFrom (cert_file_data file) text.now) }
+{
+    let mut reader = CertReader::new(text);
+    let job = first_job(&mut reader)?;
+    let mut cert = no_cert(alloc);
+    collect(&mut cert, &mut reader)?;
+    Ok(CertFile {
+        job,
+        cert,
+        version: version(text),
+    })
+}

@@ -1,0 +1,55 @@
+//! What a reader gives.
+
+use crate::cert::RowHead;
+use brake_base::{Reason, Step, Worth};
+use job_setup::Job;
+use std::alloc::{AllocError, AllocFailed};
+
+/// What a line of a certificate or a table file gives, or its job lines together.
+#[derive(Drop)]
+pub enum Item {
+    Job(Job),
+    Claim(Worth),
+    Step(Step),
+    Row(RowHead),
+    /// A reason against an action, by its number, at the key of the last row.
+    Note { action: u8, reason: Reason },
+    End,
+}
+
+/// Why a text is refused.
+#[derive(Clone, Copy, Debug, PartialEq, Eq)]
+pub enum CertFault {
+    /// The first whole line, counted from 1, that the grammar doesn't allow there.
+    BadLine { line: u32 },
+    /// The text ends before a whole `end` line.
+    Unended,
+    /// A byte follows the `end` line.
+    Trailing,
+    /// The job lines are no valid job.
+    BadJob,
+    /// There was no memory.
+    NoMemory,
+}
+
+impl From<AllocError> for CertFault {
+    ghost use Rattle.std.specs.Prelude.{◌≡◌};
+    ghost use Rattle.plan_cert.specs.declared.item.CertFault.TheVariants.{NoMemory};
+
+    ghost from_gives = { λ _ fault. fault ≡ NoMemory };
+
+    fn from(_: AllocError) -> Self {
+        CertFault::NoMemory
+    }
+}
+
+impl<T: Drop> From<AllocFailed<T>> for CertFault {
+    ghost use Rattle.std.specs.Prelude.{◌≡◌};
+    ghost use Rattle.plan_cert.specs.declared.item.CertFault.TheVariants.{NoMemory};
+
+    ghost from_gives = { λ _ fault. fault ≡ NoMemory };
+
+    fn from(_: AllocFailed<T>) -> Self {
+        CertFault::NoMemory
+    }
+}
