@@ -132,6 +132,22 @@ fn is_stroke_right(
     is_right
 }
 
+/// With how many sides at the back the table has a bend's stroke right.
+fn right_sides(table: &mut StrokeTable, job: &Job, places: &[Place], mask: Mask, lead: u8) -> u32
+    requires job { job.now ≡ table.old }
+    requires count { length places.now ≡ length job.now.part.faces }
+    requires places { ArePlaces (shape_of job.now) mask places.now }
+    requires mask { mask.0 < 2 ^ (length job.now.part.faces - 1) }
+    requires first { 1 ≤ lead }
+    requires last { lead < length job.now.part.faces }
+    requires flat { has mask lead ≡ false }
+    ensures job { table.new ≡ table.old }
+{
+    let parent = is_stroke_right(table, job, places, mask, lead, Back::Parent);
+    let child = is_stroke_right(table, job, places, mask, lead, Back::Child);
+    u32::from(parent).wrapping_add(u32::from(child))
+}
+
 /// How many strokes of a set of bends the table has right, in the order of the bends or against it.
 fn right_strokes(table: &mut StrokeTable, job: &Job, mask: Mask, backwards: bool) -> u32
     requires job { job.now ≡ table.old }
@@ -147,11 +163,7 @@ fn right_strokes(table: &mut StrokeTable, job: &Job, mask: Mask, backwards: bool
             bend
         };
         if !mask.contains(lead) {
-            for back in [Back::Parent, Back::Child] {
-                if is_stroke_right(table, job, places.as_slice(), mask, lead, back) {
-                    right = right.wrapping_add(1);
-                }
-            }
+            right = right.wrapping_add(right_sides(table, job, places.as_slice(), mask, lead));
         }
     }
     right

@@ -1,7 +1,7 @@
 //! The worked strokes: where the part lies before them, and the first reason against them.
-ghost use Rattle.std.specs.Prelude.{◌≡◌, length};
-ghost use Rattle.fold_boxes.specs.Pose.{IsGroup};
+ghost use Rattle.fold_boxes.specs.Pose.{IsGroup, pose_data};
 ghost use Rattle.job_setup.specs.Setup.{shape_of};
+ghost use Rattle.job_setup.specs.Reasons.{IsPoseAt};
 
 use crate::finding::pose_at;
 use crate::tests::job_of;
@@ -22,6 +22,7 @@ fn machine_with(alloc: Global, keys: &str, pieces: &str) -> Result<String, Fail>
 /// The part before a stroke at the first stage.
 fn posed(job: &Job, mask: Mask, group: Mask, back: Back) -> Pose
     requires { IsGroup (shape_of job.now) mask group }
+    ensures { IsPoseAt job.now 0 (pose_data result) }
 {
     let places = place(job.shape(), mask);
     pose_at(job, places.as_slice(), mask, group, back, 0)
@@ -31,8 +32,7 @@ fn posed(job: &Job, mask: Mask, group: Mask, back: Back) -> Pose
 fn reason_of(job: &Job, mask: Mask, group: Mask, back: Back) -> Option<Reason>
     requires { IsGroup (shape_of job.now) mask group }
 {
-    let places = place(job.shape(), mask);
-    let pose = pose_at(job, places.as_slice(), mask, group, back, 0);
+    let pose = posed(job, mask, group, back);
     first_reason(job, &pose, 0)
 }
 
@@ -40,8 +40,7 @@ fn reason_of(job: &Job, mask: Mask, group: Mask, back: Back) -> Option<Reason>
 fn is_reason(job: &Job, mask: Mask, group: Mask, back: Back, reason: Reason) -> bool
     requires { IsGroup (shape_of job.now) mask group }
 {
-    let places = place(job.shape(), mask);
-    let pose = pose_at(job, places.as_slice(), mask, group, back, 0);
+    let pose = posed(job, mask, group, back);
     match reason {
         Reason::NoGauge => false,
         other => holds(job, &pose, 0, other),
