@@ -1,0 +1,57 @@
+-- A text is that of one job and one certificate, and a good text has one answer.
+use Rattle.std.proofs.Common.{◌≡◌, List, ℕ, Option, Some, None, Result, Ok, Err, refl, sym, ◌∙◌, ap, subst}
+use Rattle.std.proofs.lemmas.Option.{same_Some}
+use Rattle.std.specs.Result.{result_ok}
+use Rattle.brake_base.specs.declared.stroke.Worth.{Worth}
+use Rattle.job_setup.specs.Setup.{JobData}
+use Rattle.plan_cert.specs.declared.item.CertFault.{CertFault}
+use Rattle.plan_cert.specs.Cert.{CertData}
+use Rattle.plan_cert.specs.CertReading.{CertFileData, cert_file_of}
+use Rattle.plan_cert.specs.GoodCert.{IsGoodCert}
+use Rattle.plan_cert.proofs.ReadWell.{read_file}
+use Rattle.cert_check.specs.declared.fault.CheckFault.{CheckFault}
+use Rattle.cert_check.specs.declared.fault.CheckFault.TheVariants.{Cert, BadStep, BadCost, BadReason, NotClosed, TooLow, NoMemory, Unfinished}
+use Rattle.cert_check.specs.Texts.{IsTextOf}
+use Rattle.cert_check.specs.Checking.{CheckedData, verdict_of, IsGoodText, IsFaulty, IsAnswer}
+use Rattle.cert_check.proofs.Truth.{fault_is_not_good}
+
+same_file : (text : List ℕ) (f g : CertFileData) → cert_file_of text ≡ Ok f → cert_file_of text ≡ Ok g → f ≡ g
+same_file text f g first second = same_Some f g (ap result_ok (sym first ∙ second))
+
+abbrev file : JobData → CertData → ℕ → CertFileData
+file job cert version = record { job = job; cert = cert; version = version }
+
+module _ (text : List ℕ) (job other : JobData) (cert another : CertData) (first : IsTextOf text job cert) (second : IsTextOf text other another) where
+  same : file job cert first.version ≡ file other another second.version
+  same = same_file text (file job cert first.version) (file other another second.version) first.reads second.reads
+
+  -- a text is that of one job and one certificate
+  pub one_text : (job ≡ other) × (cert ≡ another)
+  one_text = (ap (λ (f : CertFileData). f.job) same, ap (λ (f : CertFileData). f.cert) same)
+
+-- a good text has no fault
+no_fault : (text : List ℕ) (job : JobData) (cert : CertData) (fault : CheckFault) → IsGoodText text job cert → IsFaulty text fault → ⊥
+no_fault text job cert fault good faulty =
+    let same = one_text text faulty.job job faulty.cert cert faulty.written good.written in
+    let read = read_file text (record { job = faulty.job; cert = faulty.cert; version = faulty.written.version }) faulty.written.reads in
+    fault_is_not_good faulty.job read.job faulty.cert read.form fault faulty.cause
+    (subst (λ (c : CertData). IsGoodCert faulty.job c) (sym same.1) (subst (λ (j : JobData). IsGoodCert j cert) (sym same.0) good.good))
+
+-- the text of a good certificate is accepted, with its claim and its job
+pub good_text_accepted : (text : List ℕ) (job : JobData) (cert : CertData) (checked : Result CheckedData CheckFault) → IsGoodText text job cert → IsAnswer text checked
+    → checked ≡ Ok (record { verdict = verdict_of cert.claim; job = job })
+good_text_accepted text job cert (Ok checked) good is =
+    let same = one_text text checked.job job is.cert cert is.good.written good.written in
+    let verdict = is.verdict ∙ ap (λ (c : CertData). verdict_of c.claim) same.1 in
+    λ i. Ok (record { verdict = verdict i; job = same.0 i })
+good_text_accepted text job cert (Err (Cert fault)) good is = absurd (refused (sym good.written.reads ∙ is))
+  where
+    refused : {f : CertFileData} → Ok f ≡ Err fault → ⊥
+    refused same = cc
+good_text_accepted text job cert (Err (BadStep index fault)) good is = absurd (no_fault text job cert _ good is)
+good_text_accepted text job cert (Err BadCost) good is = absurd (no_fault text job cert _ good is)
+good_text_accepted text job cert (Err (BadReason row action)) good is = absurd (no_fault text job cert _ good is)
+good_text_accepted text job cert (Err (NotClosed row action)) good is = absurd (no_fault text job cert _ good is)
+good_text_accepted text job cert (Err TooLow) good is = absurd (no_fault text job cert _ good is)
+good_text_accepted text job cert (Err NoMemory) good is = absurd (no_fault text job cert _ good is)
+good_text_accepted text job cert (Err Unfinished) good is = absurd (no_fault text job cert _ good is)

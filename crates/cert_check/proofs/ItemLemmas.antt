@@ -1,0 +1,174 @@
+-- The answers of a reader one after the other, and what a certificate is made of them.
+use Rattle.std.proofs.Common.{◌≡◌, inl, inr, ℕ, zero, suc, ◌+◌, ◌-◌, ◌<◌, ◌≤◌, Bool, true, false, not, List, [], ◌∷◌, ◌++◌, length, drop, drop-cons, get_or, add-one, Some, Result, Ok, Err, refl, sym, ◌∙◌, ap, subst, arith}
+use Rattle.std.specs.Prelude.{slice_get, IfOk, if◌then◌else◌}
+use Rattle.std.proofs.lemmas.List.{length-drop}
+use Rattle.std.specs.Result.{result_ok}
+use Rattle.std.proofs.lemmas.Option.{same_Some, slice_get_within, get_or_from_slice_get}
+use Rattle.job_setup.specs.Setup.{JobData}
+use Rattle.plan_cert.specs.declared.item.Item.{Item}
+use Rattle.plan_cert.specs.declared.item.Item.TheVariants as given
+use Rattle.plan_cert.specs.declared.item.CertFault.{CertFault}
+use Rattle.plan_cert.specs.declared.item.CertFault.TheVariants.{Unended}
+use Rattle.plan_cert.specs.declared.format.Kind.{Kind}
+use Rattle.plan_cert.specs.declared.format.Kind.TheVariants.{Certificate}
+use Rattle.plan_cert.specs.Reading.{Reading}
+use Rattle.plan_cert.specs.Cert.{CertData}
+use Rattle.plan_cert.specs.Items.{items}
+use Rattle.plan_cert.specs.CertReading.{CertFileData, version_in, no_cert, with_item, is_last, cert_of, with_job, cert_file_of, answers_left}
+use Rattle.plan_cert.proofs.Collecting.{goes_on}
+use Rattle.cert_check.specs.declared.heads.Heads.{Heads}
+use Rattle.cert_check.specs.Heads.{HasHeads, ItemAnswer, JobAnswer, behind, job_in}
+
+answers : Reading → List (Result Item CertFault)
+answers r = items r.kind r.text
+
+-- the next answer stands before those that are left behind it
+pub left_on : (r : Reading) (answer : Result Item CertFault) → slice_get (items r.kind r.text) r.answered ≡ Some answer → answers_left r ≡ answer ∷ answers_left (behind r)
+left_on r answer given =
+    let within = slice_get_within (items r.kind r.text) r.answered answer given in
+    drop-cons (items r.kind r.text) r.answered answer within
+    ∙ (ap (λ (a : Result Item CertFault). a ∷ drop (suc r.answered) (items r.kind r.text)) (get_or_from_slice_get (items r.kind r.text) r.answered answer answer given)
+    ∙ ap (λ (n : ℕ). answer ∷ drop n (items r.kind r.text)) (sym (add-one r.answered)))
+
+-- some are left
+pub some_left : (r : Reading) → r.answered < length (items r.kind r.text) → 0 < length (answers_left r)
+some_left r within = let rest = length-drop r.answered (items r.kind r.text) in omega (arith, rest, within)
+
+pub left_some : (r : Reading) → 0 < length (answers_left r) → r.answered < length (items r.kind r.text)
+left_some r some = let rest = length-drop r.answered (items r.kind r.text) in omega (arith, rest, some)
+
+pub less_left : (r : Reading) (answer : Result Item CertFault) → slice_get (items r.kind r.text) r.answered ≡ Some answer → length (answers_left r) ≡ suc (length (answers_left (behind r)))
+less_left r answer given = ap length (left_on r answer given)
+
+-- ---- what a certificate is made of
+module _ (before : CertData) (more : List (Result Item CertFault)) where
+  pub of_fault : (fault : CertFault) → cert_of before (Err fault ∷ more) ≡ Err fault
+  unfolding cert_of
+  of_fault fault = refl
+
+  pub of_end : cert_of before (Ok given.End ∷ more) ≡ Ok before
+  unfolding cert_of
+  of_end = refl
+
+  pub of_item : (item : Item) → is_last item ≡ false → cert_of before (Ok item ∷ more) ≡ cert_of (with_item before item) more
+  unfolding cert_of
+  of_item item goes = ap (λ (b : Bool). if b then Ok before else cert_of (with_item before item) more) goes
+
+  pub of_none : cert_of before [] ≡ Err Unended
+  unfolding cert_of
+  of_none = refl
+
+abbrev file_by : List ℕ → JobData → Result CertData CertFault → Result CertFileData CertFault
+file_by text job (Ok cert) = Ok (record { job = job; cert = cert; version = version_in text })
+file_by text job (Err fault) = Err fault
+
+-- a certificate's text begins with its job
+pub file_of : (text : List ℕ) (job : JobData) (more : List (Result Item CertFault)) (cert : CertData) → items Certificate text ≡ Ok (given.Job job) ∷ more → cert_of no_cert more ≡ Ok cert
+    → cert_file_of text ≡ Ok (record { job = job; cert = cert; version = version_in text })
+unfolding cert_file_of with_job
+file_of text job more cert begins completes = ap (with_job text) begins ∙ ap (file_by text job) completes
+
+pub file_fault : (text : List ℕ) (job : JobData) (more : List (Result Item CertFault)) (fault : CertFault) → items Certificate text ≡ Ok (given.Job job) ∷ more → cert_of no_cert more ≡ Err fault
+    → cert_file_of text ≡ Err fault
+unfolding cert_file_of with_job
+file_fault text job more fault begins refuses = ap (with_job text) begins ∙ ap (file_by text job) refuses
+
+pub first_fault : (text : List ℕ) (more : List (Result Item CertFault)) (fault : CertFault) → items Certificate text ≡ Err fault ∷ more → cert_file_of text ≡ Err fault
+unfolding cert_file_of with_job
+first_fault text more fault begins = ap (with_job text) begins
+
+abbrev is_job_item : Item → Bool
+is_job_item (given.Job job) = true
+is_job_item _ = false
+
+other_first : (text : List ℕ) (item : Item) (more : List (Result Item CertFault)) → items Certificate text ≡ Ok item ∷ more → is_job_item item ≡ false → cert_file_of text ≡ Err Unended
+unfolding cert_file_of with_job
+other_first text (given.Job job) more begins other = absurd cc
+other_first text (given.Claim claim) more begins other = ap (with_job text) begins
+other_first text (given.Step step) more begins other = ap (with_job text) begins
+other_first text (given.Row head) more begins other = ap (with_job text) begins
+other_first text (given.Note action reason) more begins other = ap (with_job text) begins
+other_first text given.End more begins other = ap (with_job text) begins
+
+-- the first item is the job, or the text is refused
+pub first_item : (text : List ℕ) (item : Item) (more : List (Result Item CertFault)) → items Certificate text ≡ Ok item ∷ more → JobAnswer text (job_in item) more
+first_item text (given.Job job) more begins = begins
+first_item text (given.Claim claim) more begins = other_first text (given.Claim claim) more begins refl
+first_item text (given.Step step) more begins = other_first text (given.Step step) more begins refl
+first_item text (given.Row head) more begins = other_first text (given.Row head) more begins refl
+first_item text (given.Note action reason) more begins = other_first text (given.Note action reason) more begins refl
+first_item text given.End more begins = other_first text given.End more begins refl
+
+-- where answers make a certificate there are some
+pub some_answer : (before cert : CertData) (left : List (Result Item CertFault)) → cert_of before left ≡ Ok cert → 0 < length left
+some_answer before cert [] is = absurd (refused cert (sym (of_none before []) ∙ is))
+  where
+    refused : (cert : CertData) → Err Unended ≡ Ok cert → ⊥
+    refused cert same = cc
+some_answer before cert (answer ∷ left) is = omega arith
+
+pub last_item : (before : CertData) (left : List (Result Item CertFault)) (item : Item) → is_last item ≡ true → cert_of before (Ok item ∷ left) ≡ Ok before
+last_item before left given.End is = of_end before left
+last_item before left (given.Job job) is = absurd cc
+last_item before left (given.Claim claim) is = absurd cc
+last_item before left (given.Step step) is = absurd cc
+last_item before left (given.Row head) is = absurd cc
+last_item before left (given.Note action reason) is = absurd cc
+
+at_end : (heads : Heads) (before : CertData) (item : Item) → is_last item ≡ true → HasHeads heads (with_item before item) → HasHeads heads before
+at_end heads before given.End is has = has
+at_end heads before (given.Job job) is has = absurd cc
+at_end heads before (given.Claim claim) is has = absurd cc
+at_end heads before (given.Step step) is has = absurd cc
+at_end heads before (given.Row head) is has = absurd cc
+at_end heads before (given.Note action reason) is has = absurd cc
+
+-- what was read of an item, where the heads are those of what was read before it
+pub item_read : (heads : Heads) (before : CertData) (item : Item) (left : List (Result Item CertFault)) → HasHeads heads (with_item before item) → (is_last item ≡ false → 0 < length left)
+    → ItemAnswer (Ok (not (is_last item))) before (Ok item ∷ left) heads left
+item_read heads before item left has more = by_last (is_last item) refl
+  where
+    by_last : (last : Bool) → is_last item ≡ last → ItemAnswer (Ok (not last)) before (Ok item ∷ left) heads left
+    by_last false is = (with_item before item, has, of_item before left item is, more is)
+    by_last true is = (before, at_end heads before item is has, last_item before left item is)
+
+-- ---- a reader and the one behind it
+-- all answers, where the first is given
+pub begins : (r : Reading) (answer : Result Item CertFault) → r.kind ≡ Certificate → r.answered ≡ 0 → slice_get (items r.kind r.text) r.answered ≡ Some answer
+    → items Certificate r.text ≡ answer ∷ answers_left (behind r)
+begins r answer kind first given =
+    ap (λ (k : Kind). items k r.text) (sym kind) ∙ (ap (λ (n : ℕ). drop n (items r.kind r.text)) (sym first) ∙ left_on r answer given)
+
+-- behind an item but the end an answer is left
+pub answer_behind : (r : Reading) (item : Item) → slice_get (items r.kind r.text) r.answered ≡ Some (Ok item) → is_last item ≡ false → 0 < length (answers_left (behind r))
+answer_behind r item given goes = some_left (behind r) (goes_on r.kind r.text r.answered item given goes)
+
+-- behind the job an answer is left
+pub job_behind : (r : Reading) (item : Item) → slice_get (items r.kind r.text) r.answered ≡ Some (Ok item) → IfOk (job_in item) (λ _. r.answered + 1 < length (items r.kind r.text))
+job_behind r (given.Job job) is = goes_on r.kind r.text r.answered (given.Job job) is refl
+job_behind r (given.Claim claim) is = tt
+job_behind r (given.Step step) is = tt
+job_behind r (given.Row head) is = tt
+job_behind r (given.Note action reason) is = tt
+job_behind r given.End is = tt
+
+-- ---- the items of a certificate's text
+by_file : (text : List ℕ) (job : JobData) (r : Result CertData CertFault) (f : CertFileData) → file_by text job r ≡ Ok f → r ≡ Ok f.cert
+by_file text job (Ok cert) f is = ap (λ (g : CertFileData). Ok g.cert) (same_Some _ f (ap result_ok is))
+by_file text job (Err fault) f is = absurd cc
+
+with_job_items : (text : List ℕ) (xs : List (Result Item CertFault)) (f : CertFileData) → with_job text xs ≡ Ok f → cert_of no_cert xs ≡ Ok f.cert
+unfolding with_job
+with_job_items text [] f is = absurd cc
+with_job_items text (Err fault ∷ more) f is = absurd cc
+with_job_items text (Ok (given.Job job) ∷ more) f is = of_item no_cert more (given.Job job) refl ∙ by_file text job (cert_of no_cert more) f is
+with_job_items text (Ok (given.Claim claim) ∷ more) f is = absurd cc
+with_job_items text (Ok (given.Step step) ∷ more) f is = absurd cc
+with_job_items text (Ok (given.Row head) ∷ more) f is = absurd cc
+with_job_items text (Ok (given.Note action reason) ∷ more) f is = absurd cc
+with_job_items text (Ok given.End ∷ more) f is = absurd cc
+
+-- all answers together make the certificate, for the job adds nothing to it
+pub text_items : (text : List ℕ) (f : CertFileData) → cert_file_of text ≡ Ok f → cert_of no_cert (items Certificate text) ≡ Ok f.cert
+unfolding cert_file_of
+text_items text f is = with_job_items text (items Certificate text) f is

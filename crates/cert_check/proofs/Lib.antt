@@ -1,0 +1,16 @@
+pub mod Texts
+pub mod RowOrder
+pub mod Indexes
+pub mod SetLemmas
+pub mod StepLemmas
+pub mod Numbers
+pub mod Conditions
+pub mod Truth
+pub mod Accepting
+pub mod ItemLemmas
+pub mod NoteLemmas
+pub mod HeadLemmas
+pub mod RowLemmas
+pub mod Accounting
+pub mod Deciding
+pub mod StrokeFaults

@@ -1,0 +1,78 @@
+-- What is proved of a key, and the actions of a row.
+use Rattle.std.proofs.Common.{◌≡◌, ◌≢◌, inl, inr, ℕ, zero, suc, ◌+◌, ◌-◌, ◌*◌, ◌^◌, ◌<◌, ◌≤◌, Bool, true, false, List, length, Option, Some, None, arith, refl, sym, ◌∙◌, ap, subst}
+use Rattle.std.specs.Prelude.{IsTrue}
+use Rattle.std.proofs.lemmas.Bool.Decides.{eqb_tells}
+use Rattle.brake_base.specs.declared.mask.Mask.{Mask}
+use Rattle.brake_base.specs.declared.stroke.Key.{Key}
+use Rattle.brake_base.specs.declared.stroke.Action.{Action}
+use Rattle.brake_base.specs.declared.stroke.Worth.{Worth}
+use Rattle.brake_base.specs.declared.stroke.Worth.TheVariants.{Cost, Blocked}
+use Rattle.brake_base.specs.declared.reason.Reason.{Reason}
+use Rattle.brake_base.specs.Masks.{has, union}
+use Rattle.brake_base.specs.Worths.{IsAtMost, plus}
+use Rattle.job_setup.specs.Setup.{JobData, bend_count, stage_count}
+use Rattle.job_setup.specs.ValidJob.{IsJob}
+use Rattle.job_setup.specs.StrokeGroup.{group_of, is_lead}
+use Rattle.handling_cost.specs.StepCost.{IsKeyOf, IsActionAt, attitude_at, key_after}
+use Rattle.handling_cost.specs.Bound.{bound_of}
+use Rattle.plan_cert.specs.declared.cert.RowHead.{RowHead}
+use Rattle.plan_cert.specs.Lines.{action_at}
+use Rattle.plan_cert.specs.WellFormed.{IsRow}
+use Rattle.cert_check.specs.RowTable.{IsWorthAt}
+use Rattle.cert_check.specs.RowFaults.{IsTried}
+use Rattle.cert_check.specs.Rows.{ProvesAfter, IsMet, AreMet, noted_of}
+use Rattle.cert_check.specs.Sets.{AreLeads}
+use Rattle.cert_check.proofs.Numbers.{bend_of_number}
+
+module _ (job : JobData) (rows : List RowHead) (key : Key) (cost : ℕ) (worth : Worth) where
+  pub proved_by_bound : IsAtMost worth (Cost (cost + bound_of job key)) → ProvesAfter job rows key cost worth
+  proved_by_bound enough = (Cost (bound_of job key), inl refl, enough)
+
+  pub proved_by_row : (next : Worth) → IsWorthAt rows key (Some next) → IsAtMost worth (plus cost next) → ProvesAfter job rows key cost worth
+  proved_by_row next at enough = (next, inr at.0, enough)
+
+  pub not_proved_by_row : (next : Worth) → (IsAtMost worth (Cost (cost + bound_of job key)) → ⊥) → IsWorthAt rows key (Some next) → (IsAtMost worth (plus cost next) → ⊥) → ProvesAfter job rows key cost worth → ⊥
+  not_proved_by_row next low at less (other, inl bound, enough) = low (subst (λ (w : Worth). IsAtMost worth (plus cost w)) bound enough)
+  not_proved_by_row next low at less (other, inr row, enough) = less (subst (λ (w : Worth). IsAtMost worth (plus cost w)) (at.1 other row) enough)
+
+  pub not_proved_by_none : (IsAtMost worth (Cost (cost + bound_of job key)) → ⊥) → IsWorthAt rows key None → ProvesAfter job rows key cost worth → ⊥
+  not_proved_by_none low none (other, inl bound, enough) = low (subst (λ (w : Worth). IsAtMost worth (plus cost w)) bound enough)
+  not_proved_by_none low none (other, inr row, enough) = none other row
+
+-- the key to which an action leads
+pub next_is : (job : JobData) (key : Key) (action : Action) (mask : Mask) (attitude : ℕ) → mask ≡ union key.mask (group_of job key.mask action.bend) → attitude ≡ attitude_at job key.mask action
+    → record { mask = mask; attitude = attitude; stage = action.stage } ≡ key_after job key action
+unfolding key_after
+next_is job key action mask attitude masks attitudes = λ i. record { mask = masks i; attitude = attitudes i; stage = action.stage }
+
+-- the key of a row is in range
+pub row_key : (job : JobData) (head : RowHead) → IsRow job head → IsKeyOf job head.key
+row_key job head row = let mask = row.mask in record { mask = omega (arith, mask); attitude = row.attitude; stage = row.stage }
+
+-- ---- the actions of a row one after the other
+module _ (job : JobData) (head : RowHead) (leads : Mask) (are : AreLeads job head.key.mask leads) (number : ℕ) (within : number < 2 * bend_count job * stage_count job) where
+  -- a lead's number is one of an action at the row's key
+  pub lead_is_tried : has leads (action_at (stage_count job) number).bend ≡ true → IsActionAt job head.key (action_at (stage_count job) number)
+  lead_is_tried lead =
+      let range = bend_of_number (bend_count job) (stage_count job) number within in
+      record { first = range.0; last = range.1; stage = range.2; lead = sym (are _ range.0 range.1) ∙ lead }
+
+  pub other_is_not : has leads (action_at (stage_count job) number).bend ≡ false → IsTried job head number → ⊥
+  other_is_not none tried =
+      let at = tried.1 in
+      let lead : has leads (action_at (stage_count job) number).bend ≡ true = are _ at.first at.last ∙ at.lead in
+      absurd cc
+
+pub met_start : (job : JobData) (rows : List RowHead) (head : RowHead) (reasons : List (Option Reason)) → AreMet job rows head reasons 0
+met_start job rows head reasons number less tried = absurd (omega (arith, less))
+
+pub met_on : (job : JobData) (rows : List RowHead) (head : RowHead) (reasons : List (Option Reason)) (count : ℕ) → AreMet job rows head reasons count → (IsTried job head count → IsMet job rows head count (noted_of reasons count))
+    → AreMet job rows head reasons (count + 1)
+met_on job rows head reasons count met here number less tried = elim (eqb_tells number count) [
+  | inl same ↦ subst (λ (n : ℕ). IsMet job rows head n (noted_of reasons n)) (sym same.1) (here (subst (IsTried job head) same.1 tried))
+  | inr other ↦ met number (let no = other.1 in omega (arith, less, no)) tried
+]
+
+pub true_unless : (b : Bool) → (b ≡ false → ⊥) → b ≡ true
+true_unless true never = refl
+true_unless false never = absurd (never refl)

@@ -1,0 +1,30 @@
+use Rattle.std.proofs.Common.{◌≡◌, ◌∷◌, ℕ, Bool, List, Ok, refl, ap, subst}
+use Rattle.plan_cert.specs.declared.item.Item.TheVariants as given
+use Rattle.plan_cert.specs.declared.format.Kind.TheVariants.{Certificate}
+use Rattle.plan_cert.specs.Reading.{Reading}
+use Rattle.plan_cert.specs.Items.{items}
+use Rattle.plan_cert.specs.CertReading.{no_cert, answers_left}
+use Rattle.cert_check.proofs.ItemLemmas.{left_some}
+use Rattle.cert_check.proofs.HeadLemmas.{Reads, ReadsBy, reads_on, refused_on}
+use Rattle.cert_check.proofs.heads.read_heads.Goals as goal
+
+pub loop-is_open-init : goal.loop-is_open-init
+loop-is_open-init c = record {
+  behind_job = answers_left c.first_job.new.reader;
+  starts = subst (λ (t : List ℕ). items Certificate t ≡ Ok (given.Job c.in_ok-job.job) ∷ answers_left c.first_job.new.reader) (ap (λ (q : Reading). q.text) c.new-reader.ensures) c.in_ok-job.ensures.job;
+  read = no_cert;
+  has = record { claim = refl; steps = c.new.ensures; rows = c.new-2.ensures.items };
+  same = refl;
+  more = c.in_ok-job.ensures.more;
+}
+
+pub returns-in-Err : goal.returns-in-Err
+returns-in-Err c =
+    let now : Reads c.args.text.now c.loop-is_open.heads c.loop-is_open.reader = subst (λ (b : Bool). ReadsBy b c.args.text.now c.loop-is_open.heads c.loop-is_open.reader) c.loop-is_open-test.true c.loop-is_open.invariant in
+    refused_on c.args.text.now c.loop-is_open.heads c.loop-is_open.reader now c.take_item.new.heads c.take_item.new.reader c.in-Err.fault (c.in-Err.ensures.item now.read now.has)
+
+pub loop-is_open-preserved : goal.loop-is_open-preserved
+loop-is_open-preserved c =
+    let now : Reads c.args.text.now c.loop-is_open.heads c.loop-is_open.reader = subst (λ (b : Bool). ReadsBy b c.args.text.now c.loop-is_open.heads c.loop-is_open.reader) c.loop-is_open-test.true c.loop-is_open.invariant in
+    reads_on c.args.text.now c.loop-is_open.heads c.loop-is_open.reader now c.take_item.new.heads c.take_item.new.reader c.in-Ok.more c.take_item.ensures.job (left_some c.take_item.new.reader)
+    (c.in-Ok.ensures.item now.read now.has)

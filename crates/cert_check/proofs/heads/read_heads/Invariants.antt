@@ -1,0 +1,11 @@
+use Rattle.std.proofs.Common.{◌≡◌, Ok, length}
+use Rattle.cert_check.proofs.NoteLemmas.{unread}
+use Rattle.cert_check.proofs.HeadLemmas.{ReadsBy}
+use Rattle.plan_cert.specs.CertReading.{answers_left}
+use Rattle.cert_check.proofs.heads.read_heads.Given as goal
+
+abbrev pub invariant-loop-is_open : goal.invariant-loop-is_open
+invariant-loop-is_open l = ReadsBy l.is_open l.text l.heads l.reader
+
+abbrev pub decreases-loop-is_open : goal.decreases-loop-is_open
+decreases-loop-is_open l = unread l.is_open (length (answers_left l.reader))

@@ -1,0 +1,95 @@
+use Rattle.std.proofs.Common.{◌≡◌, ◌<◌, ℕ, List, Option, length, Ok, Err, refl, sym, ◌∙◌, ap, subst, arith}
+use Rattle.brake_base.specs.declared.reason.Reason.{Reason}
+use Rattle.job_setup.specs.Setup.{JobData}
+use Rattle.plan_cert.specs.declared.cert.RowHead.{RowHead}
+use Rattle.plan_cert.specs.declared.format.Kind.TheVariants.{Certificate}
+use Rattle.plan_cert.specs.Reading.{Reading}
+use Rattle.plan_cert.specs.Cert.{CertData}
+use Rattle.plan_cert.specs.CertReading.{AnswersLeft, no_cert, cert_of, answers_left}
+use Rattle.plan_cert.proofs.Collecting.{some_answer}
+use Rattle.cert_check.specs.Texts.{IsTextOf}
+use Rattle.cert_check.specs.Heads.{IsTextOfRows}
+use Rattle.cert_check.specs.RowFaults.{RowsAreAccounted}
+use Rattle.cert_check.specs.Rows.{RowAnswer}
+use Rattle.cert_check.proofs.ItemLemmas.{text_items, left_some}
+use Rattle.cert_check.proofs.NoteLemmas.{holds_none}
+use Rattle.cert_check.proofs.Accepting.{one_text}
+use Rattle.cert_check.proofs.Deciding.{text_form}
+use Rattle.cert_check.proofs.Accounting.{ready_first, ready_on, read_to, ahead_of, rows_on, row_fault, most_actions, fewer_rows}
+use Rattle.cert_check.proofs.notes.check_notes.Goals as goal
+
+-- the rows are those of the text's certificate
+rows_same : (text : List ℕ) (job : JobData) (rows : List RowHead) (is : IsTextOfRows text job rows) (cert : CertData) → IsTextOf text job cert → rows ≡ cert.rows
+rows_same text job rows is cert written = is.same ∙ ap (λ (c : CertData). c.rows) (one_text text job job is.cert cert is.written written).1
+
+-- what a new reader has still to answer makes the certificate
+new_completes : (text : List ℕ) (job : JobData) (reader : Reading) (cert : CertData) → reader ≡ record { kind = Certificate; text = text; answered = 0 } → IsTextOf text job cert → cert_of no_cert (answers_left reader) ≡ Ok cert
+new_completes text job reader cert is written =
+    subst (λ (q : Reading). cert_of no_cert (answers_left q) ≡ Ok cert) (sym is) (text_items text (record { job = job; cert = cert; version = written.version }) written.reads)
+
+pub read_notes-requires : goal.read_notes-requires
+read_notes-requires c = subst AnswersLeft (sym c.new-reader.ensures) (some_answer Certificate c.args.text.now)
+
+pub returns-in_err-read_notes-clause-answer : goal.returns-in_err-read_notes-clause-answer
+returns-in_err-read_notes-clause-answer c = λ cert written.
+    absurd (c.in_err-read_notes.ensures.notes no_cert cert (new_completes c.args.text.now c.args.job.now c.new-reader.result cert c.new-reader.ensures written) holds_none)
+
+pub loop-row-init : goal.loop-row-init
+loop-row-init c = record {
+  sets = refl;
+  each = λ cert written same. (
+    ready_first cert c.read_notes.new.reasons (answers_left c.read_notes.new.reader)
+        (c.in_ok-read_notes.ensures.notes no_cert cert (new_completes c.args.text.now c.args.job.now c.new-reader.result cert c.new-reader.ensures written) holds_none),
+    λ row head less at. absurd (omega (arith, less)),
+  );
+}
+
+pub returns-in_err-read_notes-2-clause-answer : goal.returns-in_err-read_notes-2-clause-answer
+returns-in_err-read_notes-2-clause-answer c = λ cert written.
+    let same = rows_same c.args.text.now c.args.job.now c.args.rows.now.rows c.requires.text cert written in
+    let count = ap length same in
+    let within : c.loop-row.row < length cert.rows = let test = c.loop-row-test.true in let len = c.len-row-end.ensures in omega (arith, test, len, count) in
+    let ahead = ahead_of cert c.loop-row.row c.loop-row.reasons (answers_left c.loop-row.reader) within (c.loop-row.invariant.each cert written same).0 in
+    absurd (c.in_err-read_notes-2.ensures.notes ahead.read cert ahead.completes ahead.holds)
+
+pub returns-in-Err-clause-answer : goal.returns-in-Err-clause-answer
+returns-in-Err-clause-answer c = λ cert written.
+    let job = c.args.job.now in
+    let row = c.loop-row.row in
+    let same = rows_same c.args.text.now job c.args.rows.now.rows c.requires.text cert written in
+    let count = ap length same in
+    let within : row < length cert.rows = let test = c.loop-row-test.true in let len = c.len-row-end.ensures in omega (arith, test, len, count) in
+    let each = c.loop-row.invariant.each cert written same in
+    let ahead = ahead_of cert row c.loop-row.reasons (answers_left c.loop-row.reader) within each.0 in
+    let after = c.read_notes-in-loop-row.new in
+    let to = read_to cert row c.loop-row.reasons after.reasons (answers_left c.loop-row.reader) (answers_left after.reader) ahead (c.in_ok-read_notes-2.ensures.notes ahead.read cert ahead.completes ahead.holds) in
+    let form = text_form c.args.text.now job cert written in
+    let answer : RowAnswer job cert.rows row after.reasons (Err c.in-Err.fault) = subst (λ (rows : List RowHead). RowAnswer job rows row after.reasons (Err c.in-Err.fault)) same c.in-Err.ensures.answer in
+    row_fault job cert row after.reasons (answers_left after.reader) (fewer_rows job cert form.0 form.1) to within answer.0 (most_actions job form.0) c.in-Err.fault answer.1 each.1 answer.2
+
+pub loop-row-preserved : goal.loop-row-preserved
+loop-row-preserved c = record {
+  sets = c.check_row.ensures.sets ∙ c.loop-row.invariant.sets;
+  each = λ cert written same.
+      let job = c.args.job.now in
+      let row = c.loop-row.row in
+      let count = ap length same in
+      let within : row < length cert.rows = let test = c.loop-row-test.true in let len = c.len-row-end.ensures in omega (arith, test, len, count) in
+      let each = c.loop-row.invariant.each cert written same in
+      let ahead = ahead_of cert row c.loop-row.reasons (answers_left c.loop-row.reader) within each.0 in
+      let after = c.read_notes-in-loop-row.new in
+      let to = read_to cert row c.loop-row.reasons after.reasons (answers_left c.loop-row.reader) (answers_left after.reader) ahead (c.in_ok-read_notes-2.ensures.notes ahead.read cert ahead.completes ahead.holds) in
+      let form = text_form c.args.text.now job cert written in
+      let answer = subst (λ (rows : List RowHead). RowAnswer job rows row after.reasons (Ok tt)) same c.in_default.ensures.answer in
+      let few = fewer_rows job cert form.0 form.1 in (
+        ready_on cert row after.reasons (answers_left after.reader) few within to,
+        rows_on job cert row after.reasons (answers_left after.reader) few to within answer.0 (most_actions job form.0) answer.1 each.1 answer.2,
+      );
+}
+
+pub returns-clause-answer : goal.returns-clause-answer
+returns-clause-answer c = λ cert written.
+    let same = rows_same c.args.text.now c.args.job.now c.args.rows.now.rows c.requires.text cert written in
+    let count = ap length same in
+    let end : c.loop-row.row ≡ length cert.rows = let test = c.loop-row-test.false in let far = c.loop-row.auto.row-end in let len = c.len-row-end.ensures in omega (arith, test, far, len, count) in
+    subst (RowsAreAccounted c.args.job.now cert) end (c.loop-row.invariant.each cert written same).1

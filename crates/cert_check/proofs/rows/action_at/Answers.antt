@@ -1,0 +1,18 @@
+use Rattle.std.proofs.Common.{◌≡◌, ◌≤◌, ◌+◌, ◌-◌, ℕ, length, arith, sym, subst}
+use Rattle.job_setup.specs.Setup.{bend_count, stage_count}
+use Rattle.handling_cost.proofs.Actions.{few_bends}
+use Rattle.plan_cert.specs.Lines.{action_at}
+use Rattle.plan_cert.proofs.Actions.{action_is, few_actions}
+use Rattle.cert_check.proofs.Numbers.{bend_of_number}
+use Rattle.cert_check.proofs.rows.action_at.Goals as goal
+
+pub returns-clause-value : goal.returns-clause-value
+returns-clause-value c =
+    let job = c.args.job.now in
+    let below = few_actions c.args.number (bend_count job) (stage_count job) (few_bends job c.stages.ensures.valid) c.requires in
+    subst (λ (s : ℕ). c.action_of.result ≡ action_at s c.args.number) c.stages.ensures.value
+    (action_is c.stages.result c.args.number c.action_of.result (rw c.stages.ensures.value below) c.action_of.ensures.action c.action_of.ensures.value)
+
+pub returns-clause-last : goal.returns-clause-last
+returns-clause-last c =
+    rw (returns-clause-value c) (bend_of_number (bend_count c.args.job.now) (stage_count c.args.job.now) c.args.number c.requires).1

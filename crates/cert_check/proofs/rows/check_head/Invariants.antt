@@ -1,0 +1,9 @@
+use Rattle.std.proofs.Common.{◌≡◌}
+use Rattle.cert_check.specs.Rows.{AreMet}
+use Rattle.cert_check.proofs.rows.check_head.Given as goal
+
+abbrev pub invariant-loop-number : goal.invariant-loop-number
+invariant-loop-number l = record {
+  met : AreMet l.job l.rows.rows l.head l.reasons l.number;
+  sets : l.sets ≡ l.initial.sets;
+}

@@ -1,0 +1,112 @@
+-- What checking a text comes to.
+use Rattle.std.specs.Prelude.{◌≡◌, ◌≢◌, ◌⊎◌, ◌*◌, ◌≤◌, ℕ, List, length, Result, Ok, Err}
+use Rattle.brake_base.specs.declared.stroke.Step.{Step}
+use Rattle.brake_base.specs.declared.stroke.Worth.{Worth}
+use Rattle.brake_base.specs.declared.stroke.Worth.TheVariants.{Cost, Blocked}
+use Rattle.job_setup.specs.Setup.{JobData}
+use Rattle.job_setup.specs.ValidJob.{IsJob}
+use Rattle.handling_cost.specs.Plan.{IsPlan, total, start}
+use Rattle.handling_cost.specs.Good.{AreClaimed}
+use Rattle.plan_cert.specs.declared.item.CertFault.TheVariants as reading
+use Rattle.plan_cert.specs.declared.cert.RowHead.{RowHead}
+use Rattle.plan_cert.specs.Cert.{CertData}
+use Rattle.plan_cert.specs.GoodCert.{IsGoodCert}
+use Rattle.cert_check.specs.declared.verdict.Verdict.{Verdict}
+use Rattle.cert_check.specs.declared.verdict.Verdict.TheVariants.{Optimal, NoPlan}
+use Rattle.cert_check.specs.declared.verdict.Checked.{Checked}
+use Rattle.cert_check.specs.declared.fault.CheckFault.{CheckFault}
+use Rattle.cert_check.specs.declared.fault.CheckFault.TheVariants.{Cert, BadStep, BadCost, BadReason, NotClosed, TooLow, NoMemory, Unfinished}
+use Rattle.cert_check.specs.StepFaults.{IsFirstBadStep, AreUnfinished, IsBadCost}
+use Rattle.cert_check.specs.RowFaults.{RowsAreAccounted, IsFirstFault, IsBadReason, IsNotClosed, IsProved}
+use Rattle.cert_check.specs.Texts.{IsTextOf, IsRefusedFor}
+
+-- an accepted claim, and the job of which it is proved
+pub record CheckedData : Type 0 where
+  pub verdict : Verdict
+  pub job : JobData
+
+abbrev pub checked_data : Checked → CheckedData
+checked_data checked = record { verdict = checked.verdict; job = checked.job }
+
+abbrev pub verdict_of : Worth → Verdict
+verdict_of (Cost cost) = Optimal cost
+verdict_of Blocked = NoPlan
+
+-- the text is that of a certificate that is good for a valid job
+pub record IsGoodText (text : List ℕ) (job : JobData) (cert : CertData) : Type 0 where
+  pub written : IsTextOf text job cert
+  pub good : IsGoodCert job cert
+
+-- the steps are as claimed, and each action at each row is accounted for
+pub record HasGoodRows (job : JobData) (cert : CertData) : Type 0 where
+  pub claimed : AreClaimed job cert.claim cert.steps
+  pub rows : RowsAreAccounted job cert (length cert.rows)
+
+-- the first cause for which a certificate of a job isn't good
+abbrev pub IsFault : JobData → CertData → CheckFault → Type 0
+IsFault job cert (Cert fault) = ⊥
+IsFault job cert (BadStep index fault) = IsFirstBadStep job start cert.steps index fault
+IsFault job cert Unfinished = AreUnfinished job cert.claim cert.steps
+IsFault job cert BadCost = IsBadCost job cert.claim cert.steps
+IsFault job cert (BadReason row action) = AreClaimed job cert.claim cert.steps × IsFirstFault job cert row action (IsBadReason job cert row action)
+IsFault job cert (NotClosed row action) = AreClaimed job cert.claim cert.steps × IsFirstFault job cert row action (IsNotClosed job cert row action)
+IsFault job cert TooLow = HasGoodRows job cert × (IsProved job cert → ⊥)
+IsFault job cert NoMemory = ⊥
+
+-- the text is accepted: it is that of a good certificate of the job, whose claim is the verdict
+pub record IsAccepted (text : List ℕ) (checked : CheckedData) : Type 0 where
+  pub cert : CertData
+  pub good : IsGoodText text checked.job cert
+  pub verdict : checked.verdict ≡ verdict_of cert.claim
+
+-- the text is that of a certificate that isn't good, and this is the first cause
+pub record IsFaulty (text : List ℕ) (fault : CheckFault) : Type 0 where
+  pub job : JobData
+  pub cert : CertData
+  pub written : IsTextOf text job cert
+  pub cause : IsFault job cert fault
+
+-- the text is refused for this as the first cause: it is no certificate's text, or its certificate isn't good
+abbrev pub IsRefused : List ℕ → CheckFault → Type 0
+IsRefused text (Cert fault) = IsRefusedFor text fault
+IsRefused text fault = IsFaulty text fault
+
+-- what a check of the text comes to
+abbrev pub IsAnswer : List ℕ → Result CheckedData CheckFault → Type 0
+IsAnswer text (Ok checked) = IsAccepted text checked
+IsAnswer text (Err fault) = IsRefused text fault
+
+-- what was answered is that, unless memory ran out
+abbrev pub Answers : List ℕ → Result Checked CheckFault → Type 0
+Answers text (Ok checked) = IsAnswer text (Ok (checked_data checked))
+Answers text (Err fault) = (fault ≡ NoMemory) ⊎ IsAnswer text (Err fault)
+
+-- the verdict is true of the job: its cost is the least cost of a plan, or there is no plan
+abbrev pub IsTrueOf : JobData → Verdict → Type 0
+IsTrueOf job (Optimal cost) =
+    ((steps : List Step) × IsPlan job steps × (total job start steps ≡ cost)) × ((steps : List Step) → IsPlan job steps → cost ≤ total job start steps)
+IsTrueOf job NoPlan = (steps : List Step) → IsPlan job steps → ⊥
+
+-- what the rows of a certificate come to: each action is accounted for and the claim is proved, or the first cause for which it isn't so
+abbrev pub IsRowsFault : JobData → CertData → CheckFault → Type 0
+IsRowsFault job cert (BadReason row action) = IsFirstFault job cert row action (IsBadReason job cert row action)
+IsRowsFault job cert (NotClosed row action) = IsFirstFault job cert row action (IsNotClosed job cert row action)
+IsRowsFault job cert TooLow = RowsAreAccounted job cert (length cert.rows) × (IsProved job cert → ⊥)
+IsRowsFault job cert _ = ⊥
+
+abbrev pub RowsVerdict : JobData → CertData → Result (Unit {0}) CheckFault → Type 0
+RowsVerdict job cert (Ok _) = RowsAreAccounted job cert (length cert.rows) × IsProved job cert
+RowsVerdict job cert (Err fault) = (fault ≡ NoMemory) ⊎ IsRowsFault job cert fault
+
+-- what a certificate comes to: it is good, or the first cause for which it isn't
+abbrev pub CertAnswer : JobData → CertData → Result (Unit {0}) CheckFault → Type 0
+CertAnswer job cert (Ok _) = HasGoodRows job cert × IsProved job cert
+CertAnswer job cert (Err fault) = (fault ≡ NoMemory) ⊎ IsFault job cert fault
+
+-- the text is that of the job's certificate, of which these are all parts but the notes
+pub record AreParts (text : List ℕ) (job : JobData) (claim : Worth) (steps : List Step) (rows : List RowHead) : Type 0 where
+  pub cert : CertData
+  pub written : IsTextOf text job cert
+  pub claim_is : claim ≡ cert.claim
+  pub steps_are : steps ≡ cert.steps
+  pub rows_are : rows ≡ cert.rows

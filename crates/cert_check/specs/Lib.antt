@@ -1,0 +1,11 @@
+pub mod FaultWords
+pub mod Texts
+pub mod StepFaults
+pub mod Steps
+pub mod RowFaults
+pub mod Sets
+pub mod RowTable
+pub mod Rows
+pub mod Heads
+pub mod Notes
+pub mod Checking

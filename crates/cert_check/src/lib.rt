@@ -1,0 +1,20 @@
+//! The checker of certificates: from the text alone it confirms that no plan costs less than is
+//! claimed, or that there is none. It shares with the search the definitions and the rules, and
+//! nothing of how a plan is found.
+#![tactic(auto)]
+
+mod fault;
+mod fault_words;
+mod heads;
+mod notes;
+mod row_table;
+mod rows;
+mod set_table;
+mod steps;
+mod verdict;
+
+pub use fault::{CheckFault, StepFault};
+pub use verdict::{Checked, Verdict, check};
+
+#[cfg(test)]
+mod tests;

@@ -1,0 +1,104 @@
+//! The second reading of a certificate: its notes, row by row. The notes of one row are held at a
+//! time.
+ghost use Rattle.std.specs.Prelude.{◌≡◌, IfOk, IsTrue, Ok, length};
+ghost use Rattle.plan_cert.specs.Cert.{CertData};
+ghost use Rattle.plan_cert.specs.CertReading.{AnswersLeft, answers_left, cert_of};
+ghost use Rattle.cert_check.specs.Texts.{IsTextOf};
+ghost use Rattle.cert_check.specs.Heads.{IsTextOfRows, behind};
+ghost use Rattle.cert_check.specs.Notes.{HoldsNotes, IsSameText, NoteAnswer, NotesAnswer, RowsAnswer, is_within_row, with_item_reason, with_reason};
+
+use crate::fault::CheckFault;
+use crate::row_table::RowTable;
+use crate::rows::check_row;
+use crate::set_table::SetTable;
+use brake_base::Reason;
+use job_setup::Job;
+use plan_cert::{CertReader, Item};
+
+/// Refuses the first row and action that aren't accounted for.
+pub(crate) fn check_notes(
+    text: &[u8],
+    job: &Job,
+    rows: &RowTable,
+    sets: &mut SetTable,
+) -> Result<(), CheckFault>
+    requires text { IsTextOfRows text.now job.now rows.now.rows }
+    requires rows { rows.now.job ≡ job.now }
+    requires sets { sets.old ≡ job.now }
+    ensures answer { (cert : CertData) → IsTextOf text.now job.now cert → RowsAnswer job.now cert result }
+    ensures sets { sets.new ≡ sets.old }
+{
+    let _ = job.setup();
+    let mut reader = CertReader::new(text);
+    let mut reasons = [None; 144];
+    read_notes(&mut reader, &mut reasons)?;
+    for row in 0..rows.len() {
+        read_notes(&mut reader, &mut reasons)?;
+        if let Err(fault) = check_row(job, rows, sets, row, &reasons) {
+            return Err(fault);
+        }
+        reasons = [None; 144];
+    }
+    Ok(())
+}
+
+/// Reads up to and with the head of the next row or the end, and keeps the reasons of the notes before
+/// it, by the numbers of their actions.
+fn read_notes(
+    reader: &mut CertReader,
+    reasons: &mut [Option<Reason>; 144],
+) -> Result<(), CheckFault>
+    requires { AnswersLeft reader.old }
+    ensures reader { IsSameText reader.old reader.new }
+    ensures notes { (before cert : CertData) → cert_of before (answers_left reader.old) ≡ Ok cert
+        → HoldsNotes before reasons.old
+        → NotesAnswer before cert reasons.new (answers_left reader.new) result }
+{
+    let mut is_open = true;
+    while is_open {
+        is_open = take_note(reader, reasons)?;
+    }
+    Ok(())
+}
+
+/// Reads an item and keeps its reason, where it is a note. Whether it is neither the head of a row
+/// nor the end.
+fn take_note(
+    reader: &mut CertReader,
+    reasons: &mut [Option<Reason>; 144],
+) -> Result<bool, CheckFault>
+    requires { AnswersLeft reader.old }
+    ensures reader { reader.new ≡ behind reader.old }
+    ensures more { IfOk result (λ more. IsTrue more → AnswersLeft reader.new) }
+    ensures note { (before cert : CertData) → cert_of before (answers_left reader.old) ≡ Ok cert
+        → NoteAnswer before cert reasons.old reasons.new (answers_left reader.new) result }
+{
+    match reader.next() {
+        Ok(item) => Ok(note_item(reasons, item)),
+        Err(fault) => Err(CheckFault::Cert(fault)),
+    }
+}
+
+/// Keeps the reason of an item that is a note. Whether it is neither the head of a row nor the end.
+fn note_item(reasons: &mut [Option<Reason>; 144], item: Item) -> bool
+    ensures more { result ≡ is_within_row item }
+    ensures noted { reasons.new ≡ with_item_reason reasons.old item }
+{
+    match item {
+        Item::Note { action, reason } => {
+            note(reasons, action, reason);
+            true
+        }
+        Item::Row(_) | Item::End => false,
+        Item::Job(_) | Item::Claim(_) | Item::Step(_) => true,
+    }
+}
+
+/// Keeps the reason against the action of a number, of which there are at most 144.
+fn note(reasons: &mut [Option<Reason>; 144], action: u8, reason: Reason)
+    ensures { reasons.new ≡ with_reason reasons.old action reason }
+{
+    if action < 144 {
+        reasons[usize::from(action)] = Some(reason);
+    }
+}

@@ -1,0 +1,134 @@
+//! The steps of a certificate: a plan that costs what is claimed.
+ghost use Rattle.std.specs.Prelude.{◌≡◌, ◌<◌, ◌≤◌, ◌<ℤ◌, All, IfNone, IfSome, IfOk, length};
+ghost use Rattle.unfolder.specs.Near.{IsWithin as IsNear};
+ghost use Rattle.fold_boxes.specs.Pose.{pose_data};
+ghost use Rattle.fold_boxes.specs.Posing.{IsNearPoseBox};
+ghost use Rattle.job_setup.specs.ValidJob.{IsJob};
+ghost use Rattle.job_setup.specs.StageOf.{stage_of};
+ghost use Rattle.job_setup.specs.StrokeGroup.{group_of};
+ghost use Rattle.job_setup.specs.Reasons.{pose_at};
+ghost use Rattle.handling_cost.specs.StepCost.{IsKeyOf, IsActionAt};
+ghost use Rattle.handling_cost.specs.Plan.{IsLegal, start};
+ghost use Rattle.plan_cert.specs.WellFormed.{IsStep, HasSteps};
+ghost use Rattle.cert_check.specs.StepFaults.{IsStepFault};
+ghost use Rattle.cert_check.specs.Steps.{FollowAnswer, CostAnswer, StepsAnswer};
+
+use crate::fault::{CheckFault, StepFault};
+use brake_base::{Action, Key, Step, Worth};
+use fold_boxes::{Pose, pose};
+use gauge_rules::legal;
+use handling_cost::{is_full, is_lead, next_key, start_key, step_cost};
+use job_setup::{Job, group};
+use sweep_check::first_reason;
+
+/// Refuses steps that aren't a plan of the claimed cost. A claim that there is no plan has no step.
+pub(crate) fn check_steps(job: &Job, claim: Worth, steps: &[Step]) -> Result<(), CheckFault>
+    requires count { HasSteps job.now claim steps.now }
+    requires each { All (IsStep job.now) steps.now }
+    ensures { StepsAnswer job.now claim steps.now result }
+{
+    let _ = job.setup();
+    let (last, cost) = follow(job, steps)?;
+    match claim {
+        Worth::Cost(claimed) => check_cost(job, &last, cost, claimed),
+        Worth::Blocked => Ok(()),
+    }
+}
+
+/// Refuses steps that leave a bend unfolded, or cost another sum than is claimed.
+fn check_cost(job: &Job, last: &Key, cost: u64, claimed: u64) -> Result<(), CheckFault>
+    requires last { IsKeyOf job.now last.now }
+    ensures { CostAnswer job.now last.now cost claimed result }
+{
+    if !is_full(job, last) {
+        Err(CheckFault::Unfinished)
+    } else if cost != claimed {
+        Err(CheckFault::BadCost)
+    } else {
+        Ok(())
+    }
+}
+
+/// The key to which the steps lead from the start and what they cost, or the first that isn't legal.
+fn follow(job: &Job, steps: &[Step]) -> Result<(Key, u64), CheckFault>
+    requires few { length steps.now ≤ 12 }
+    requires each { All (IsStep job.now) steps.now }
+    ensures answer { FollowAnswer job.now start steps.now result }
+    ensures range { IfOk result (λ end. IsKeyOf job.now end.0) }
+{
+    let _ = job.setup();
+    let mut key = start_key();
+    let mut cost = 0;
+    for (index, step) in steps.iter().enumerate() {
+        if let Some(fault) = step_fault(job, &key, *step) {
+            return Err(CheckFault::BadStep {
+                index: index as u8,
+                fault,
+            });
+        }
+        cost += step_cost(job, key, step.action);
+        key = next_key(job, key, step.action);
+    }
+    Ok((key, cost))
+}
+
+/// The first cause for which the step isn't legal at the key.
+fn step_fault(job: &Job, key: &Key, step: Step) -> Option<StepFault>
+    requires step { IsStep job.now step }
+    ensures legal { IfNone result (IsLegal job.now key.now step) }
+    ensures fault { IfSome result (λ fault. IsStepFault job.now key.now step fault) }
+{
+    let _ = job.setup();
+    if key.mask.contains(step.action.bend) {
+        return Some(StepFault::AlreadyFolded);
+    }
+    if !is_lead(job, key.mask, step.action.bend) {
+        return Some(StepFault::NotLead);
+    }
+    stroke_fault(job, key, step)
+}
+
+/// The first cause for which the stroke of a step isn't legal: a reason, or its gauge.
+fn stroke_fault(job: &Job, key: &Key, step: Step) -> Option<StepFault>
+    requires action { IsActionAt job.now key.now step.action }
+    ensures legal { IfNone result (IsLegal job.now key.now step) }
+    ensures fault { IfSome result (λ fault. IsStepFault job.now key.now step fault) }
+{
+    let pose = pose_of(job, key, step.action);
+    match first_reason(job, &pose, step.action.stage) {
+        Some(reason) => Some(StepFault::Hit(reason)),
+        None => {
+            if legal(job, &pose, step.gauge) {
+                None
+            } else {
+                Some(StepFault::BadGauge)
+            }
+        }
+    }
+}
+
+/// The part on the machine before the stroke of an action.
+fn pose_of(job: &Job, key: &Key, action: Action) -> Pose
+    requires action { IsActionAt job.now key.now action }
+    ensures value { pose_data result ≡ pose_at job.now key.now.mask
+        (group_of job.now key.now.mask action.bend) action.back action.stage }
+    ensures near { All IsNearPoseBox result.boxes.items }
+    ensures valid { IsJob job.now }
+{
+    let group = group(job, key.mask, action.bend);
+    let (x0, x1) = stage_range(job, action.stage);
+    pose(job.shape(), key.mask, group, action.back, x0, x1)
+}
+
+/// The range of a stage along the bed.
+fn stage_range(job: &Job, stage: u8) -> (i64, i64)
+    requires { stage < length job.now.setup.stages }
+    ensures from { result.0 ≡ (stage_of job.now stage).x0 }
+    ensures to { result.1 ≡ (stage_of job.now stage).x1 }
+    ensures range { result.0 <ℤ result.1 }
+    ensures near_from { IsNear 1000000000 result.0 }
+    ensures near_to { IsNear 1000000000 result.1 }
+{
+    let stage = &job.setup().stages.as_slice()[usize::from(stage)];
+    (stage.x0, stage.x1)
+}

@@ -1,0 +1,136 @@
+//! The check of a certificate.
+ghost use Rattle.std.specs.Prelude.{◌≡◌, IfOk};
+ghost use Rattle.plan_cert.specs.Cert.{CertData};
+ghost use Rattle.cert_check.specs.Texts.{IsTextOf};
+ghost use Rattle.cert_check.specs.Heads.{AreRowParts};
+ghost use Rattle.cert_check.specs.Checking.{Answers, AreParts, CertAnswer, IsTrueOf, RowsVerdict, verdict_of};
+ghost use Rattle.cert_check.specs.Rows.{ProvesAnswer};
+
+use crate::fault::CheckFault;
+use crate::heads::{Heads, read_heads};
+use crate::notes::check_notes;
+use crate::row_table::RowTable;
+use crate::rows::is_proved;
+use crate::set_table::SetTable;
+use crate::steps::check_steps;
+use brake_base::{Step, Worth};
+use handling_cost::start_key;
+use job_setup::Job;
+use plan_cert::RowHead;
+use std::alloc::Global;
+
+/// What an accepted certificate proves: that no plan costs less than this, and one costs it; or that
+/// there is no plan.
+#[derive(Clone, Copy, Debug, PartialEq, Eq)]
+pub enum Verdict {
+    Optimal { cost: u64 },
+    NoPlan,
+}
+
+/// An accepted certificate's claim, and its job.
+#[derive(Drop)]
+pub struct Checked {
+    pub verdict: Verdict,
+    pub job: Job,
+}
+
+/// Whether the text is that of a good certificate, and what it proves; else the first cause for
+/// which it isn't.
+pub fn check(alloc: Global, text: &[u8]) -> Result<Checked, CheckFault>
+    ensures answer { Answers text.now result }
+
+    // The verdict is the least cost of a plan of the job, or there is no plan.
+    ensures truth { IfOk result (λ checked. IsTrueOf checked.job checked.verdict) }
+{
+    match read_heads(alloc, text) {
+        Ok(heads) => check_heads(alloc, text, heads),
+        Err(fault) => Err(fault),
+    }
+}
+
+/// The same where all of the certificate but its notes is read.
+fn check_heads(alloc: Global, text: &[u8], heads: Heads) -> Result<Checked, CheckFault>
+    requires { AreParts text.now heads.job heads.claim heads.steps.items heads.rows.items }
+    ensures answer { Answers text.now result }
+    ensures truth { IfOk result (λ checked. IsTrueOf checked.job checked.verdict) }
+{
+    let Heads {
+        job,
+        claim,
+        steps,
+        rows,
+    } = heads;
+    match check_cert(alloc, text, &job, claim, steps.as_slice(), rows) {
+        Ok(()) => Ok(Checked {
+            verdict: verdict_of(claim),
+            job,
+        }),
+        Err(fault) => Err(fault),
+    }
+}
+
+/// Refuses a certificate that isn't good.
+fn check_cert(
+    alloc: Global,
+    text: &[u8],
+    job: &Job,
+    claim: Worth,
+    steps: &[Step],
+    rows: Vec<RowHead>,
+) -> Result<(), CheckFault>
+    requires { AreParts text.now job.now claim steps.now rows.items }
+    ensures { (cert : CertData) → IsTextOf text.now job.now cert → CertAnswer job.now cert result }
+{
+    match check_steps(job, claim, steps) {
+        Ok(()) => check_rows(alloc, text, job, claim, rows),
+        Err(fault) => Err(fault),
+    }
+}
+
+/// Refuses rows and notes that don't prove the claim.
+fn check_rows(
+    alloc: Global,
+    text: &[u8],
+    job: &Job,
+    claim: Worth,
+    rows: Vec<RowHead>,
+) -> Result<(), CheckFault>
+    requires { AreRowParts text.now job.now claim rows.items }
+    ensures { (cert : CertData) → IsTextOf text.now job.now cert → RowsVerdict job.now cert result }
+{
+    let rows = RowTable::open(alloc, job, rows)?;
+    let mut sets = SetTable::open(alloc, job)?;
+    match check_notes(text, job, &rows, &mut sets) {
+        Ok(()) => check_claim(job, &rows, &mut sets, claim),
+        Err(fault) => Err(fault),
+    }
+}
+
+/// What a claim that is proved says.
+fn verdict_of(claim: Worth) -> Verdict
+    ensures { result ≡ verdict_of claim }
+{
+    match claim {
+        Worth::Cost(cost) => Verdict::Optimal { cost },
+        Worth::Blocked => Verdict::NoPlan,
+    }
+}
+
+/// Refuses a claim that is greater than what is proved of the start.
+fn check_claim(
+    job: &Job,
+    rows: &RowTable,
+    sets: &mut SetTable,
+    claim: Worth,
+) -> Result<(), CheckFault>
+    requires rows { rows.now.job ≡ job.now }
+    requires sets { sets.old ≡ job.now }
+    ensures { ProvesAnswer job.now rows.now.rows claim result }
+{
+    let _ = job.setup();
+    if is_proved(job, rows, sets, &start_key(), 0, claim) {
+        Ok(())
+    } else {
+        Err(CheckFault::TooLow)
+    }
+}
