@@ -1,5 +1,7 @@
 //! The worked parts, searched with ample and with little budget.
 
+ghost use Rattle.std.specs.Prelude.{◌<◌};
+
 use crate::{Outcome, Search, nodes};
 use brake_base::{Action, Back, Gauge, Key, Mask, Quarter, Reason, Step, Turn, Worth};
 use common_files::{L_SECTION, MACHINE, STAGE, TOOLS, U_CHANNEL};
@@ -7,8 +9,8 @@ use job_setup::{Job, make_job};
 use machine_file::read_machine;
 use part_file::read_part;
 use part_gen::made_job;
-use plan_cert::{Note, RowHead};
-use std::alloc::Global;
+use plan_cert::{Cert, Note, RowHead};
+use std::alloc::{AllocError, Global};
 use std::test::Fail;
 use tool_library::read_tools;
 
@@ -64,8 +66,25 @@ fn job_of(alloc: Global, part: &str, piece: &str) -> Result<Option<Job>, Fail> {
     Ok(make_job(part, &tools, &machine).ok())
 }
 
+/// What a search of the job answers within a budget.
+fn outcome_of(alloc: Global, job: &Job, budget: u32) -> Result<Outcome, AllocError> {
+    let mut search = Search::open(alloc, job, budget)?;
+    Ok(search.run(job))
+}
+
+/// The certificate of the job, searched with ample budget; None where that is used up.
+fn certificate_of(alloc: Global, job: &Job) -> Result<Option<Cert>, AllocError> {
+    let mut search = Search::open(alloc, job, nodes(job))?;
+    match search.run(job) {
+        Outcome::Spent => Ok(None),
+        _ => Ok(Some(search.certificate(alloc, job)?)),
+    }
+}
+
 /// The key with these bends folded, held so, at stage 0.
-fn key(mask: u16, attitude: u8) -> Key {
+fn key(mask: u16, attitude: u8) -> Key
+    requires { attitude < 24 }
+{
     Key {
         mask: Mask(mask),
         attitude: Turn::from_number(attitude),
@@ -73,10 +92,10 @@ fn key(mask: u16, attitude: u8) -> Key {
     }
 }
 
-/// A row of a certificate.
-fn row(mask: u16, attitude: u8, worth: Worth) -> RowHead {
+/// A row of a certificate, of a part that is held as its file describes it.
+fn row(mask: u16, worth: Worth) -> RowHead {
     RowHead {
-        key: key(mask, attitude),
+        key: key(mask, 0),
         worth,
     }
 }
@@ -104,17 +123,18 @@ fn outcomes_of_the_worked_parts(rt: HostRuntime) -> Result<(), Fail> {
     let u_channel = job_of(alloc, U_CHANNEL, "[100000]")?.expect(&rt, "a job");
     let high_channel = job_of(alloc, &high, "[100000]")?.expect(&rt, "a job");
     let four = job_of(alloc, FOUR_FLANGES, "[45000]")?.expect(&rt, "a job");
-    let cases = [
-        (&l_section, 1, Outcome::Best { cost: 100 }),
-        (&u_channel, 1, Outcome::Spent),
-        (&u_channel, 5, Outcome::Best { cost: 200 }),
-        (&high_channel, 49, Outcome::Blocked),
-        (&four, 8, Outcome::Best { cost: 400 }),
-    ];
-    for (job, budget, outcome) in cases {
-        let mut search = Search::open(alloc, job, budget)?;
-        assert_eq!(rt; search.run(job), outcome);
-    }
+    assert_eq!(rt; nodes(&u_channel), 49);
+    assert_eq!(rt;
+        outcome_of(alloc, &l_section, 1)?,
+        Outcome::Best { cost: 100 }
+    );
+    assert_eq!(rt; outcome_of(alloc, &u_channel, 1)?, Outcome::Spent);
+    assert_eq!(rt;
+        outcome_of(alloc, &u_channel, 5)?,
+        Outcome::Best { cost: 200 }
+    );
+    assert_eq!(rt; outcome_of(alloc, &high_channel, 49)?, Outcome::Blocked);
+    assert_eq!(rt; outcome_of(alloc, &four, 8)?, Outcome::Best { cost: 400 });
     Ok(())
 }
 
@@ -122,23 +142,20 @@ fn outcomes_of_the_worked_parts(rt: HostRuntime) -> Result<(), Fail> {
 fn the_u_channel_is_proved(rt: HostRuntime) -> Result<(), Fail> {
     let alloc = rt.alloc();
     let job = job_of(alloc, U_CHANNEL, "[100000]")?.expect(&rt, "a job");
-    assert_eq!(rt; nodes(&job), 49);
-    let mut search = Search::open(alloc, &job, 49)?;
-    assert_eq!(rt; search.run(&job), Outcome::Best { cost: 200 });
-    let cert = search.certificate(alloc, &job)?;
+    let cert = certificate_of(alloc, &job)?.expect(&rt, "a certificate");
     let steps = [step(2, Back::Parent, 1), step(1, Back::Child, 1)];
-    assert!(rt; search.plan() == steps.as_slice() && cert.steps.as_slice() == steps.as_slice());
     let rows = [
-        row(0, 0, Worth::Cost(200)),
-        row(1, 0, Worth::Cost(130)),
-        row(2, 0, Worth::Cost(100)),
+        row(0, Worth::Cost(200)),
+        row(1, Worth::Cost(130)),
+        row(2, Worth::Cost(100)),
     ];
-    assert!(rt; cert.claim == Worth::Cost(200) && cert.rows.as_slice() == rows.as_slice());
     let note = Note {
         row: 1,
         action: 2,
         reason: Reason::NoGauge,
     };
+    assert!(rt; cert.claim == Worth::Cost(200) && cert.steps.as_slice() == steps.as_slice());
+    assert!(rt; cert.rows.as_slice() == rows.as_slice());
     assert!(rt; cert.notes.as_slice() == [note].as_slice());
     Ok(())
 }
@@ -148,20 +165,20 @@ fn the_high_u_channel_has_no_plan(rt: HostRuntime) -> Result<(), Fail> {
     let alloc = rt.alloc();
     let high = U_CHANNEL.replace(alloc, "length = 30000", "length = 80000")?;
     let job = job_of(alloc, &high, "[100000]")?.expect(&rt, "a job");
-    let mut search = Search::open(alloc, &job, nodes(&job))?;
-    assert_eq!(rt; search.run(&job), Outcome::Blocked);
-    let cert = search.certificate(alloc, &job)?;
+    let cert = certificate_of(alloc, &job)?.expect(&rt, "a certificate");
     let keys = [key(0, 0), key(1, 0), key(1, 2), key(2, 0), key(2, 2)];
+    let rows = keys.map(|key| RowHead {
+        key,
+        worth: Worth::Blocked,
+    });
+    let note = Note {
+        row: 4,
+        action: 1,
+        reason: Reason::Upper(2, Quarter::Q1, 1),
+    };
     assert!(rt; cert.claim == Worth::Blocked && cert.steps.is_empty());
-    assert_eq!(rt; cert.rows.len(), 5);
-    assert_eq!(rt; cert.notes.len(), 8);
-    for (row, key) in cert.rows.as_slice().iter().zip(keys) {
-        assert!(rt; row.key == key && row.worth == Worth::Blocked);
-    }
-    for (place, note) in cert.notes.as_slice().iter().enumerate() {
-        let piece = if place < 4 { 1 } else { 2 };
-        assert!(rt; note.reason == Reason::Upper(piece, Quarter::Q1, 1));
-    }
+    assert!(rt; cert.rows.as_slice() == rows.as_slice());
+    assert!(rt; cert.notes.len() == 8 && cert.notes.as_slice().last() == Some(&note));
     Ok(())
 }
 
@@ -170,8 +187,7 @@ fn the_first_made_jobs_have_no_plan(rt: HostRuntime) -> Result<(), Fail> {
     let alloc = rt.alloc();
     for n in 0..4 {
         let job = made_job(n);
-        let mut search = Search::open(alloc, &job, nodes(&job))?;
-        assert_eq!(rt; search.run(&job), Outcome::Blocked);
+        assert_eq!(rt; outcome_of(alloc, &job, nodes(&job))?, Outcome::Blocked);
     }
     Ok(())
 }
