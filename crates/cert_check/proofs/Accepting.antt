@@ -1,10 +1,8 @@
 -- A text is that of one job and one certificate, and a good text has one answer.
-use Rattle.std.proofs.Common.{◌≡◌, List, ℕ, Option, Some, None, Result, Ok, Err, refl, sym, ◌∙◌, ap, subst}
+use Rattle.std.proofs.Common.{◌≡◌, List, ℕ, Result, Ok, Err, sym, ◌∙◌, ap, subst}
 use Rattle.std.proofs.lemmas.Option.{same_Some}
 use Rattle.std.specs.Result.{result_ok}
-use Rattle.brake_base.specs.declared.stroke.Worth.{Worth}
 use Rattle.job_setup.specs.Setup.{JobData}
-use Rattle.plan_cert.specs.declared.item.CertFault.{CertFault}
 use Rattle.plan_cert.specs.Cert.{CertData}
 use Rattle.plan_cert.specs.CertReading.{CertFileData, cert_file_of}
 use Rattle.plan_cert.specs.GoodCert.{IsGoodCert}

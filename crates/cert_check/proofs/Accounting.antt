@@ -1,7 +1,6 @@
 -- The rows of a certificate one after the other, as its notes are read.
-use Rattle.std.proofs.Common.{◌≡◌, ◌≢◌, ◌⊎◌, inl, inr, ℕ, zero, suc, replicate, ◌+◌, ◌-◌, ◌*◌, ◌^◌, ◌<◌, ◌≤◌, Bool, true, false, List, [], ◌∷◌, ◌++◌, length, Option, Some, None, Result, Ok, Err, arith, refl, sym, ◌∙◌, ap, subst}
-use Rattle.std.specs.Prelude.{Contains, min, slice_get}
-use Rattle.std.proofs.lemmas.Bool.{cases_lt}
+use Rattle.std.proofs.Common.{◌≡◌, ◌⊎◌, inl, inr, ℕ, replicate, ◌+◌, ◌*◌, ◌^◌, ◌<◌, ◌≤◌, List, length, Option, Some, None, Result, Ok, Err, arith, refl, sym, ◌∙◌, ap, subst}
+use Rattle.std.specs.Prelude.{Contains, slice_get}
 use Rattle.std.proofs.lemmas.Bool.Decides.{eqb_tells}
 use Rattle.std.proofs.lemmas.List.{length_push}
 use Rattle.std.proofs.lemmas.Option.{same_Some}
@@ -22,10 +21,10 @@ use Rattle.plan_cert.specs.Cert.{CertData}
 use Rattle.plan_cert.specs.CertReading.{no_cert, with_item, cert_of}
 use Rattle.cert_check.specs.declared.fault.CheckFault.{CheckFault}
 use Rattle.cert_check.specs.declared.fault.CheckFault.TheVariants.{BadReason, NotClosed}
-use Rattle.cert_check.specs.RowFaults.{IsNoted, IsUnnoted, IsTried, IsAccounted, AreAccounted, RowsAreAccounted, IsFirstFault, IsBadReason, IsNotClosed}
-use Rattle.cert_check.specs.Rows.{IsMet, IsUnmet, AreMet, IsRowFault, HeadAnswer, RowAnswer, noted_of}
+use Rattle.cert_check.specs.RowFaults.{IsNoted, IsUnnoted, IsTried, IsAccounted, AreAccounted, RowsAreAccounted}
+use Rattle.cert_check.specs.Rows.{IsMet, IsUnmet, AreMet, IsRowFault, noted_of}
 use Rattle.cert_check.specs.Notes.{last_row, HoldsNotes, HasRowAhead, NotesAnswer, RowsAnswer}
-use Rattle.cert_check.proofs.NoteLemmas.{Grows, grows, holds_next, holds_first}
+use Rattle.cert_check.proofs.NoteLemmas.{grows, holds_next, holds_first}
 
 -- so far the notes of all rows up to the last one were read, and the next row's head or the end
 pub record IsReadTo (cert : CertData) (row : ℕ) (reasons : List (Option Reason)) (left : List (Result Item CertFault)) : Type 0 where

@@ -1,9 +1,8 @@
 -- The condition on rows, row by row and number by number.
-use Rattle.std.proofs.Common.{◌≡◌, inl, inr, ℕ, zero, suc, ◌+◌, ◌-◌, ◌*◌, ◌^◌, ◌<◌, ◌≤◌, ◌⊎◌, List, [], length, map, get_or, Option, Some, None, arith, refl, sym, ◌∙◌, ap, subst}
-use Rattle.std.specs.Prelude.{Contains, slice_get, option_map}
+use Rattle.std.proofs.Common.{◌≡◌, inl, inr, ℕ, ◌<◌, length, map, get_or, Some, arith, refl, sym, ◌∙◌, ap, subst}
+use Rattle.std.specs.Prelude.{slice_get, option_map}
 use Rattle.std.proofs.lemmas.Bool.{cases_lt}
-use Rattle.std.proofs.lemmas.Bool.Decides.{eqb_tells}
-use Rattle.std.proofs.lemmas.List.{length-map, get_or-map, get_or_default}
+use Rattle.std.proofs.lemmas.List.{length-map, get_or_default}
 use Rattle.std.proofs.lemmas.Option.{same_Some, slice_get_within, get_or_from_slice_get, slice_get-get_or, slice_get-map}
 use Rattle.brake_base.specs.declared.stroke.Key.{Key}
 use Rattle.brake_base.specs.declared.stroke.Action.{Action}
@@ -22,10 +21,10 @@ use Rattle.plan_cert.specs.declared.cert.Note.{Note}
 use Rattle.plan_cert.specs.Cert.{CertData}
 use Rattle.plan_cert.specs.Lines.{action_at}
 use Rattle.plan_cert.specs.WellFormed.{IsWellFormed, NoteIsBefore}
-use Rattle.plan_cert.specs.GoodCert.{HasRow, HasNote, worths_in, reasons_in}
+use Rattle.plan_cert.specs.GoodCert.{HasRow, HasNote, worths_in}
 use Rattle.cert_check.specs.RowTable.{AreRowsOf, key_number}
-use Rattle.cert_check.specs.RowFaults.{IsNoted, IsUnnoted, HoldsAt, IsClosedAt, IsTried, IsAccounted, RowsAreAccounted}
-use Rattle.cert_check.proofs.RowOrder.{no_row, row_at, row_of, same_row, have_row}
+use Rattle.cert_check.specs.RowFaults.{IsNoted, IsTried, IsAccounted, RowsAreAccounted}
+use Rattle.cert_check.proofs.RowOrder.{no_row, row_at, row_of, same_row}
 use Rattle.cert_check.proofs.Numbers.{number_is, number_below, action_of_number}
 
 -- a note where there is none

@@ -1,26 +1,25 @@
 -- From what the steps, the notes and the claim come to, to what the text comes to.
-use Rattle.std.proofs.Common.{◌≡◌, ◌⊎◌, inl, inr, ℕ, ◌+◌, ◌≤◌, List, length, Result, Ok, Err, refl, sym, ◌∙◌, ap, subst, arith}
+use Rattle.std.proofs.Common.{◌≡◌, ◌⊎◌, inl, inr, ℕ, List, length, Result, Ok, Err, refl, sym, ap, subst, arith}
 use Rattle.brake_base.specs.declared.stroke.Worth.{Worth}
 use Rattle.brake_base.specs.declared.stroke.Worth.TheVariants.{Cost, Blocked}
 use Rattle.brake_base.specs.Worths.{IsAtMost, plus}
 use Rattle.job_setup.specs.Setup.{JobData}
 use Rattle.job_setup.specs.ValidJob.{IsJob}
 use Rattle.handling_cost.specs.Plan.{start}
-use Rattle.handling_cost.specs.Good.{Proves, AreClaimed}
+use Rattle.handling_cost.specs.Good.{AreClaimed}
 use Rattle.plan_cert.specs.Cert.{CertData}
 use Rattle.plan_cert.specs.WellFormed.{IsWellFormed}
-use Rattle.plan_cert.specs.GoodCert.{HasRow, IsGoodCert}
+use Rattle.plan_cert.specs.GoodCert.{IsGoodCert}
 use Rattle.plan_cert.proofs.ReadWell.{read_file}
 use Rattle.cert_check.specs.declared.fault.CheckFault.{CheckFault}
 use Rattle.cert_check.specs.declared.fault.CheckFault.TheVariants.{Cert, BadStep, BadCost, BadReason, NotClosed, TooLow, NoMemory, Unfinished}
-use Rattle.cert_check.specs.declared.heads.Heads.{Heads}
 use Rattle.cert_check.specs.Texts.{IsTextOf}
 use Rattle.cert_check.specs.Heads.{HeadsAnswer}
 use Rattle.cert_check.specs.Steps.{AreFaulty}
 use Rattle.cert_check.specs.RowFaults.{RowsAreAccounted, IsProved}
 use Rattle.cert_check.specs.Rows.{ProvesAfter, ProvesAnswer}
 use Rattle.cert_check.specs.Notes.{RowsAnswer}
-use Rattle.cert_check.specs.Checking.{CheckedData, IsFault, IsRefused, IsAnswer, IsRowsFault, RowsVerdict, CertAnswer, HasGoodRows, verdict_of}
+use Rattle.cert_check.specs.Checking.{CheckedData, IsFault, IsRefused, IsAnswer, IsRowsFault, RowsVerdict, CertAnswer, verdict_of}
 use Rattle.cert_check.proofs.Truth.{is_good}
 
 -- the job of a certificate's text is valid, and the certificate is well formed

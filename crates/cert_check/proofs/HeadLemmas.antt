@@ -1,5 +1,5 @@
 -- The loop over the items of a text, which keeps all but the notes.
-use Rattle.std.proofs.Common.{◌≡◌, ℕ, ◌<◌, Bool, true, false, List, ◌∷◌, length, Result, Ok, Err, refl, sym, ◌∙◌, ap, subst}
+use Rattle.std.proofs.Common.{◌≡◌, ℕ, ◌<◌, Bool, true, false, List, ◌∷◌, length, Result, Ok, Err, sym, ◌∙◌, ap}
 use Rattle.job_setup.specs.Setup.{JobData}
 use Rattle.plan_cert.specs.declared.item.Item.{Item}
 use Rattle.plan_cert.specs.declared.item.Item.TheVariants as given
@@ -12,7 +12,6 @@ use Rattle.plan_cert.specs.CertReading.{no_cert, cert_of, answers_left, version_
 use Rattle.cert_check.specs.declared.fault.CheckFault.{CheckFault}
 use Rattle.cert_check.specs.declared.fault.CheckFault.TheVariants.{Cert, NoMemory}
 use Rattle.cert_check.specs.declared.heads.Heads.{Heads}
-use Rattle.cert_check.specs.Texts.{IsTextOf}
 use Rattle.cert_check.specs.Heads.{HasHeads, HeadsAnswer, ItemAnswer}
 use Rattle.cert_check.proofs.ItemLemmas.{file_of, file_fault}
 

@@ -1,11 +1,9 @@
 -- How the rows are entered at the numbers of their keys, and found there.
-use Rattle.std.proofs.Common.{◌≡◌, ◌≢◌, inl, inr, ℕ, zero, suc, replicate, ◌+◌, ◌-◌, ◌*◌, ◌^◌, ◌<◌, ◌≤◌, List, [], length, set, get_or, Option, Some, None, arith, refl, sym, ◌∙◌, ap, subst, length-set}
-use Rattle.std.proofs.lemmas.Bool.{cases_lt}
+use Rattle.std.proofs.Common.{◌≡◌, inl, inr, ℕ, zero, suc, replicate, ◌+◌, ◌<◌, List, length, set, get_or, Some, None, arith, refl, sym, ◌∙◌, ap, subst}
 use Rattle.std.proofs.lemmas.Bool.Decides.{eqb_tells}
 use Rattle.std.proofs.lemmas.List.{get_or_default, get_or-set_same, get_or-set_other}
 use Rattle.brake_base.specs.declared.stroke.Key.{Key}
-use Rattle.brake_base.specs.declared.stroke.Worth.{Worth}
-use Rattle.job_setup.specs.Setup.{JobData, bend_count, stage_count}
+use Rattle.job_setup.specs.Setup.{JobData}
 use Rattle.job_setup.specs.ValidJob.{IsJob}
 use Rattle.handling_cost.specs.StepCost.{IsKeyOf}
 use Rattle.plan_cert.specs.declared.cert.RowHead.{RowHead}

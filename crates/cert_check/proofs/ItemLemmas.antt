@@ -1,5 +1,5 @@
 -- The answers of a reader one after the other, and what a certificate is made of them.
-use Rattle.std.proofs.Common.{◌≡◌, inl, inr, ℕ, zero, suc, ◌+◌, ◌-◌, ◌<◌, ◌≤◌, Bool, true, false, not, List, [], ◌∷◌, ◌++◌, length, drop, drop-cons, get_or, add-one, Some, Result, Ok, Err, refl, sym, ◌∙◌, ap, subst, arith}
+use Rattle.std.proofs.Common.{◌≡◌, ℕ, suc, ◌+◌, ◌<◌, Bool, true, false, not, List, [], ◌∷◌, length, drop, drop-cons, add-one, Some, Result, Ok, Err, refl, sym, ◌∙◌, ap, arith}
 use Rattle.std.specs.Prelude.{slice_get, IfOk, if◌then◌else◌}
 use Rattle.std.proofs.lemmas.List.{length-drop}
 use Rattle.std.specs.Result.{result_ok}

@@ -1,11 +1,11 @@
 -- The notes of a certificate by their rows, as its items come one after the other.
-use Rattle.std.proofs.Common.{◌≡◌, ◌≢◌, ◌⊎◌, inl, inr, ℕ, zero, suc, ◌+◌, ◌-◌, ◌^◌, ◌<◌, ◌≤◌, ◌==◌, nat_lt, Bool, true, false, List, [], ◌∷◌, ◌++◌, length, set, replicate, get_or, Option, Some, None, Result, Ok, Err, refl, sym, ◌∙◌, ap, subst, arith, length-set, append_assoc}
+use Rattle.std.proofs.Common.{◌≡◌, ◌⊎◌, inl, inr, ℕ, zero, suc, ◌-◌, ◌^◌, ◌<◌, ◌≤◌, nat_lt, Bool, true, false, List, [], ◌∷◌, ◌++◌, length, set, replicate, get_or, Option, Some, None, Result, Ok, Err, refl, sym, ◌∙◌, ap, subst, arith, length-set}
 use Rattle.std.specs.Result.{result_ok}
-use Rattle.std.specs.Prelude.{All, Contains, min, slice_get, if◌then◌else◌}
+use Rattle.std.specs.Prelude.{Contains, min, if◌then◌else◌}
 use Rattle.std.proofs.lemmas.Bool.{cases_lt, lt-ltb, le-ltb}
 use Rattle.std.proofs.lemmas.Bool.Decides.{eqb_tells}
-use Rattle.std.proofs.lemmas.List.{length-replicate, length_push, get_or-set_same, get_or-set_other, get_or_default, get_or_append_left}
-use Rattle.std.proofs.lemmas.List.Elements.{Contains-append_left, Contains-append_right, Contains-append_cases, Contains-push, All-contains}
+use Rattle.std.proofs.lemmas.List.{length-replicate, length_push, get_or-set_same, get_or-set_other}
+use Rattle.std.proofs.lemmas.List.Elements.{Contains-append_left, Contains-append_cases, Contains-push}
 use Rattle.std.proofs.lemmas.Option.{same_Some, none-some}
 use Rattle.brake_base.specs.declared.reason.Reason.{Reason}
 use Rattle.brake_base.specs.declared.stroke.Step.{Step}
@@ -16,8 +16,7 @@ use Rattle.plan_cert.specs.declared.item.Item.TheVariants as given
 use Rattle.plan_cert.specs.declared.item.CertFault.{CertFault}
 use Rattle.plan_cert.specs.Cert.{CertData}
 use Rattle.plan_cert.specs.CertReading.{no_cert, with_item, with_step, is_last, cert_of}
-use Rattle.cert_check.specs.Rows.{noted_of}
-use Rattle.cert_check.specs.Notes.{last_row, HoldsNotes, HasRowAhead, NoteAnswer, NotesAnswer, with_reason, with_item_reason, is_within_row}
+use Rattle.cert_check.specs.Notes.{last_row, HoldsNotes, NoteAnswer, NotesAnswer, with_reason, with_item_reason, is_within_row}
 use Rattle.cert_check.proofs.ItemLemmas.{of_fault, of_end, of_item, of_none, last_item, some_answer}
 
 pub ok_is_no_fault : {cert : CertData} {fault : CertFault} → Err fault ≡ Ok cert → ⊥

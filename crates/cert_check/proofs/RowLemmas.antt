@@ -1,18 +1,16 @@
 -- What is proved of a key, and the actions of a row.
-use Rattle.std.proofs.Common.{◌≡◌, ◌≢◌, inl, inr, ℕ, zero, suc, ◌+◌, ◌-◌, ◌*◌, ◌^◌, ◌<◌, ◌≤◌, Bool, true, false, List, length, Option, Some, None, arith, refl, sym, ◌∙◌, ap, subst}
-use Rattle.std.specs.Prelude.{IsTrue}
+use Rattle.std.proofs.Common.{◌≡◌, inl, inr, ℕ, ◌+◌, ◌*◌, ◌<◌, Bool, true, false, List, Option, Some, None, arith, refl, sym, ◌∙◌, subst}
 use Rattle.std.proofs.lemmas.Bool.Decides.{eqb_tells}
 use Rattle.brake_base.specs.declared.mask.Mask.{Mask}
 use Rattle.brake_base.specs.declared.stroke.Key.{Key}
 use Rattle.brake_base.specs.declared.stroke.Action.{Action}
 use Rattle.brake_base.specs.declared.stroke.Worth.{Worth}
-use Rattle.brake_base.specs.declared.stroke.Worth.TheVariants.{Cost, Blocked}
+use Rattle.brake_base.specs.declared.stroke.Worth.TheVariants.{Cost}
 use Rattle.brake_base.specs.declared.reason.Reason.{Reason}
 use Rattle.brake_base.specs.Masks.{has, union}
 use Rattle.brake_base.specs.Worths.{IsAtMost, plus}
 use Rattle.job_setup.specs.Setup.{JobData, bend_count, stage_count}
-use Rattle.job_setup.specs.ValidJob.{IsJob}
-use Rattle.job_setup.specs.StrokeGroup.{group_of, is_lead}
+use Rattle.job_setup.specs.StrokeGroup.{group_of}
 use Rattle.handling_cost.specs.StepCost.{IsKeyOf, IsActionAt, attitude_at, key_after}
 use Rattle.handling_cost.specs.Bound.{bound_of}
 use Rattle.plan_cert.specs.declared.cert.RowHead.{RowHead}

@@ -1,12 +1,9 @@
 -- What is found of a step's stroke makes it legal, or is its first fault.
-use Rattle.std.proofs.Common.{◌≡◌, Some, None, sym, subst}
-use Rattle.brake_base.specs.declared.mask.Mask.{Mask}
+use Rattle.std.proofs.Common.{◌≡◌, None}
 use Rattle.brake_base.specs.declared.stroke.Key.{Key}
-use Rattle.brake_base.specs.declared.stroke.Action.{Action}
 use Rattle.brake_base.specs.declared.stroke.Step.{Step}
-use Rattle.fold_boxes.specs.Shapes.{ShapeData}
-use Rattle.fold_boxes.specs.Pose.{PoseData, IsGroup}
-use Rattle.job_setup.specs.Setup.{JobData, shape_of}
+use Rattle.fold_boxes.specs.Pose.{PoseData}
+use Rattle.job_setup.specs.Setup.{JobData}
 use Rattle.job_setup.specs.ValidJob.{IsJob}
 use Rattle.job_setup.specs.StrokeGroup.{group_of}
 use Rattle.job_setup.specs.Reasons.{IsPoseAt, pose_at}

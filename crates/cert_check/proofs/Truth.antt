@@ -1,17 +1,15 @@
 -- What a good certificate's claim says of its job, and that a certificate with a fault isn't good.
-use Rattle.std.proofs.Common.{◌≡◌, ◌≢◌, inl, inr, ℕ, zero, suc, ◌+◌, ◌-◌, ◌*◌, ◌^◌, ◌<◌, ◌≤◌, List, [], length, get_or, Some, arith, refl, sym, ◌∙◌, ap, subst}
-use Rattle.std.proofs.Math.Pow.{pow_pos}
+use Rattle.std.proofs.Common.{◌≡◌, inl, inr, ℕ, ◌+◌, ◌^◌, ◌<◌, List, get_or, arith, refl, sym, ap, subst}
 use Rattle.brake_base.specs.declared.stroke.Key.{Key}
 use Rattle.brake_base.specs.declared.stroke.Step.{Step}
 use Rattle.brake_base.specs.declared.stroke.Worth.{Worth}
 use Rattle.brake_base.specs.declared.stroke.Worth.TheVariants.{Cost, Blocked}
-use Rattle.brake_base.specs.declared.reason.Reason.{Reason}
-use Rattle.brake_base.specs.Worths.{IsAtMost, plus}
+use Rattle.brake_base.specs.Worths.{IsAtMost}
 use Rattle.job_setup.specs.Setup.{JobData, bend_count, stage_count}
 use Rattle.job_setup.specs.ValidJob.{IsJob}
 use Rattle.handling_cost.specs.StepCost.{IsFull}
-use Rattle.handling_cost.specs.Plan.{IsPlan, total, start}
-use Rattle.handling_cost.specs.Good.{AreClaimed, Proves}
+use Rattle.handling_cost.specs.Plan.{total, start}
+use Rattle.handling_cost.specs.Good.{AreClaimed}
 use Rattle.handling_cost.proofs.Keys.{number_of_full}
 use Rattle.handling_cost.proofs.Least.{good_is_least}
 use Rattle.plan_cert.specs.declared.cert.RowHead.{RowHead}

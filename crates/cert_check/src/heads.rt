@@ -109,7 +109,9 @@ fn keep(heads: &mut Heads, item: Item) -> Result<bool, AllocError>
 /// Adds a step, of which a certificate has at most 12.
 fn add_step(steps: &mut ArrayVec<Step, 12>, step: Step)
     ensures { steps.new.items
-        ≡ (if nat_lt (length steps.old.items) 12 then steps.old.items ++ step ∷ [] else steps.old.items) }
+        ≡ (if nat_lt (length steps.old.items) 12
+        then steps.old.items ++ step ∷ []
+        else steps.old.items) }
 {
     if steps.len() < 12 {
         steps.push(step);

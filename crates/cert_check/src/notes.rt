@@ -25,11 +25,13 @@ pub(crate) fn check_notes(
     requires text { IsTextOfRows text.now job.now rows.now.rows }
     requires rows { rows.now.job ≡ job.now }
     requires sets { sets.old ≡ job.now }
-    ensures answer { (cert : CertData) → IsTextOf text.now job.now cert → RowsAnswer job.now cert result }
+    ensures answer { (cert : CertData) → IsTextOf text.now job.now cert
+        → RowsAnswer job.now cert result }
     ensures sets { sets.new ≡ sets.old }
 {
     let _ = job.setup();
     let mut reader = CertReader::new(text);
+    // What stands before the head of the first row.
     let mut reasons = [None; 144];
     read_notes(&mut reader, &mut reasons)?;
     for row in 0..rows.len() {
@@ -42,8 +44,8 @@ pub(crate) fn check_notes(
     Ok(())
 }
 
-/// Reads up to and with the head of the next row or the end, and keeps the reasons of the notes before
-/// it, by the numbers of their actions.
+/// Reads up to and with the head of the next row or the end, and keeps the reasons of the notes
+/// before it, by the numbers of their actions.
 fn read_notes(
     reader: &mut CertReader,
     reasons: &mut [Option<Reason>; 144],

@@ -49,7 +49,8 @@ fn check_cost(job: &Job, last: &Key, cost: u64, claimed: u64) -> Result<(), Chec
     }
 }
 
-/// The key to which the steps lead from the start and what they cost, or the first that isn't legal.
+/// The key to which the steps lead from the start and what they cost, or the first that isn't
+/// legal.
 fn follow(job: &Job, steps: &[Step]) -> Result<(Key, u64), CheckFault>
     requires few { length steps.now ≤ 12 }
     requires each { All (IsStep job.now) steps.now }

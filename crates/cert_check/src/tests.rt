@@ -27,20 +27,67 @@ box 8000 20000 -60000 0
 pieces 100000
 ";
 
-/// What stands behind them.
-const REST: &str = "claim 200
+/// The same with legs of 80000, of which no second one can be bent.
+const HIGH_JOB: &str = "brake-cert 1
+part S235 2000 2000 1919
+face web 100000 60000
+face north 0 N 0 100000 80000 up
+face south 0 S 0 100000 80000 up
+bed 0 3000000
+upper 0 3000000 -60000 60000 0 300000
+lower 0 3000000 -30000 30000 -300000 0
+uncovered 5000
+gauge 5000 600000 5000 10000 10000 20000 10000 10000
+cost 100 20 30 60 80 40
+stage 200000 300000
+punch P100 100000 6000
+box -6000 6000 6000 100000
+die D16 60000 16000 11000
+box -20000 -8000 -60000 0
+box -8000 8000 -60000 -8000
+box 8000 20000 -60000 0
+pieces 100000
+";
+
+/// The rows that prove it.
+const HIGH_ROWS: &str = "row 0 0 0 none
+row 1 0 0 none
+x 2 P 0 4 1 1 1
+x 2 C 0 4 1 1 1
+row 1 2 0 none
+x 2 P 0 4 1 1 1
+x 2 C 0 4 1 1 1
+row 2 0 0 none
+x 1 P 0 4 2 1 1
+x 1 C 0 4 2 1 1
+row 2 2 0 none
+x 1 P 0 4 2 1 1
+x 1 C 0 4 2 1 1
+end
+";
+
+/// The claim and the steps.
+const STEPS: &str = "claim 200
 step 2 P 0 1 1
 step 1 C 0 1 1
-row 0 0 0 200
+";
+
+/// The rows with their notes, and the end.
+const ROWS: &str = "row 0 0 0 200
 row 1 0 0 130
 x 2 P 0 8
 row 2 0 0 100
 end
 ";
 
-/// What checking a text comes to: the verdict or the first fault.
-fn answer_of(alloc: Global, job: &str, rest: &str) -> Result<Result<Verdict, CheckFault>, Fail> {
-    let text = format!(in alloc; "{job}{rest}")?;
+/// What checking a text of three parts comes to: the verdict or the first fault.
+fn answer_of(
+    alloc: Global,
+    job: &str,
+    steps: &str,
+    rows: &str,
+) -> Result<Result<Verdict, CheckFault>, Fail> {
+    let text = format!(in alloc; "{job}{steps}{rows}")?;
     match check(alloc, text.as_bytes()) {
         Ok(checked) => Ok(Ok(checked.verdict)),
         Err(fault) => Ok(Err(fault)),
@@ -48,80 +95,93 @@ fn answer_of(alloc: Global, job: &str, rest: &str) -> Result<Result<Verdict, Che
 }
 
 #[test]
-fn the_certificate_of_a_u_channel_is_accepted(rt: HostRuntime) -> Result<(), Fail> {
+fn a_good_certificate_is_accepted(rt: HostRuntime) -> Result<(), Fail> {
+    let alloc = rt.alloc();
     let optimal = Ok(Verdict::Optimal { cost: 200 });
-    assert_eq!(rt; answer_of(rt.alloc(), JOB, REST)?, optimal);
+    assert_eq!(rt; answer_of(alloc, JOB, STEPS, ROWS)?, optimal);
     // The bound alone proves the claim.
-    let bare = "claim 200\nstep 2 P 0 1 1\nstep 1 C 0 1 1\nend\n";
-    assert_eq!(rt; answer_of(rt.alloc(), JOB, bare)?, optimal);
+    assert_eq!(rt; answer_of(alloc, JOB, STEPS, "end\n")?, optimal);
+    assert_eq!(rt;
+        answer_of(alloc, HIGH_JOB, "claim none\n", HIGH_ROWS)?,
+        Ok(Verdict::NoPlan)
+    );
     Ok(())
 }
 
 #[test]
-fn an_altered_certificate_is_refused_by_its_first_fault(rt: HostRuntime) -> Result<(), Fail> {
-    let alloc = rt.alloc();
+fn altered_rows_are_refused_by_their_first_fault(rt: HostRuntime) -> Result<(), Fail> {
     let cases = [
         (
-            "claim 200\nstep 2 P 0 1 1\nstep 1 C 0 1 1\nrow 0 0 0 200\nrow 1 0 0 130\nx 2 P 0 4 0 1 0\nrow 2 0 0 100\nend\n",
+            "row 0 0 0 200\nrow 1 0 0 130\nx 2 P 0 4 0 1 0\nrow 2 0 0 100\nend\n",
             CheckFault::BadReason { row: 1, action: 2 },
         ),
         (
-            "claim 200\nstep 2 P 0 1 1\nstep 1 C 0 1 1\nrow 0 0 0 200\nrow 1 0 0 130\nrow 2 0 0 100\nend\n",
+            "row 0 0 0 200\nrow 1 0 0 130\nrow 2 0 0 100\nend\n",
             CheckFault::NotClosed { row: 1, action: 2 },
         ),
         (
-            "claim 200\nstep 2 P 0 1 1\nstep 1 C 0 1 1\nrow 0 0 0 210\nrow 1 0 0 130\nx 2 P 0 8\nrow 2 0 0 100\nend\n",
+            "row 0 0 0 210\nrow 1 0 0 130\nx 2 P 0 8\nrow 2 0 0 100\nend\n",
             CheckFault::NotClosed { row: 0, action: 2 },
         ),
         (
-            "claim 200\nstep 2 P 0 1 1\nstep 1 C 0 1 1\nrow 0 0 0 200\nrow 1 0 0 130\nx 2 P 0 8\nrow 2 0 0 100\nrow 2 0 0 100\nend\n",
+            "row 0 0 0 200\nrow 1 0 0 130\nx 2 P 0 8\nrow 2 0 0 100\nrow 2 0 0 100\nend\n",
             CheckFault::Cert(CertFault::BadLine { line: 27 }),
         ),
         (
-            "claim 200\nstep 2 P 0 1 1\nstep 1 C 0 1 1\nrow 0 0 0 200\nrow 1 0 0 130\nx 2 P 0 8\nrow 2 0 0 100\n",
+            "row 0 0 0 200\nrow 1 0 0 130\nx 2 P 0 8\nrow 2 0 0 100\n",
             CheckFault::Cert(CertFault::Unended),
         ),
         (
-            "claim 200\nstep 2 P 0 1 1\nstep 1 C 0 1 1\nrow 0 0 0 200\nrow 1 0 0 130\nx 2 P 0 8\nrow 2 0 0 100\nend\n\n",
+            "row 0 0 0 200\nrow 1 0 0 130\nx 2 P 0 8\nrow 2 0 0 100\nend\n\n",
             CheckFault::Cert(CertFault::Trailing),
         ),
         (
-            "claim 190\nstep 2 P 0 1 1\nstep 1 C 0 1 1\nrow 0 0 0 200\nrow 1 0 0 130\nx 2 P 0 8\nrow 2 0 0 100\nend\n",
-            CheckFault::BadCost,
-        ),
-        (
-            "claim 200\nstep 2 P 0 1 1\nstep 1 C 0 1 1\nrow 0 0 0 200\nrow 1 0 0 130\nx 2 P 0 8\nrow 02 0 0 100\nend\n",
+            "row 0 0 0 200\nrow 1 0 0 130\nx 2 P 0 8\nrow 02 0 0 100\nend\n",
             CheckFault::Cert(CertFault::BadLine { line: 26 }),
         ),
         (
-            "claim 200\nstep 2 P 0 1 1\nstep 1 C 0 1 1\nrow 0 0 0 200\nrow 1 0 0 130\nx 1 P 0 8\nrow 2 0 0 100\nend\n",
+            "row 0 0 0 200\nrow 1 0 0 130\nx 1 P 0 8\nrow 2 0 0 100\nend\n",
             CheckFault::Cert(CertFault::BadLine { line: 25 }),
         ),
         (
-            "claim 200\nstep 2 P 0 1 1\nstep 1 C 0 1 1\nrow 3 0 0 0\nrow 1 0 0 130\nx 2 P 0 8\nrow 2 0 0 100\nend\n",
+            "row 3 0 0 0\nrow 1 0 0 130\nx 2 P 0 8\nrow 2 0 0 100\nend\n",
             CheckFault::Cert(CertFault::BadLine { line: 23 }),
         ),
+    ];
+    for (rows, fault) in cases {
+        assert_eq!(rt; answer_of(rt.alloc(), JOB, STEPS, rows)?, Err(fault));
+    }
+    Ok(())
+}
+
+#[test]
+fn altered_steps_are_refused_by_their_first_fault(rt: HostRuntime) -> Result<(), Fail> {
+    let cases = [
         (
-            "claim 200\nstep 2 P 0 2 2\nstep 1 C 0 1 1\nrow 0 0 0 200\nrow 1 0 0 130\nx 2 P 0 8\nrow 2 0 0 100\nend\n",
+            "claim 190\nstep 2 P 0 1 1\nstep 1 C 0 1 1\n",
+            CheckFault::BadCost,
+        ),
+        (
+            "claim 200\nstep 2 P 0 2 2\nstep 1 C 0 1 1\n",
             CheckFault::BadStep {
                 index: 0,
                 fault: StepFault::BadGauge,
             },
         ),
         (
-            "claim 200\nstep 2 P 0 1 1\nstep 2 C 0 1 1\nrow 0 0 0 200\nrow 1 0 0 130\nx 2 P 0 8\nrow 2 0 0 100\nend\n",
+            "claim 200\nstep 2 P 0 1 1\nstep 2 C 0 1 1\n",
             CheckFault::BadStep {
                 index: 1,
                 fault: StepFault::AlreadyFolded,
             },
         ),
         (
-            "claim 230\nstep 1 C 0 1 1\nstep 2 C 0 2 2\nrow 0 0 0 200\nrow 1 0 0 130\nx 2 P 0 8\nrow 2 0 0 100\nend\n",
+            "claim 230\nstep 1 C 0 1 1\nstep 2 C 0 2 2\n",
             CheckFault::TooLow,
         ),
     ];
-    for (rest, fault) in cases {
-        assert_eq!(rt; answer_of(alloc, JOB, rest)?, Err(fault));
+    for (steps, fault) in cases {
+        assert_eq!(rt; answer_of(rt.alloc(), JOB, steps, ROWS)?, Err(fault));
     }
     Ok(())
 }

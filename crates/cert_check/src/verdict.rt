@@ -19,8 +19,8 @@ use job_setup::Job;
 use plan_cert::RowHead;
 use std::alloc::Global;
 
-/// What an accepted certificate proves: that no plan costs less than this, and one costs it; or that
-/// there is no plan.
+/// What an accepted certificate proves: that no plan costs less than this, and one costs it; or
+/// that there is no plan.
 #[derive(Clone, Copy, Debug, PartialEq, Eq)]
 pub enum Verdict {
     Optimal { cost: u64 },

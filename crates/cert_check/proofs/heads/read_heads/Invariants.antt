@@ -1,4 +1,4 @@
-use Rattle.std.proofs.Common.{◌≡◌, Ok, length}
+use Rattle.std.proofs.Common.{length}
 use Rattle.cert_check.proofs.NoteLemmas.{unread}
 use Rattle.cert_check.proofs.HeadLemmas.{ReadsBy}
 use Rattle.plan_cert.specs.CertReading.{answers_left}

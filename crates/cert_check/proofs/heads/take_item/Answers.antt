@@ -1,4 +1,4 @@
-use Rattle.std.proofs.Common.{◌≡◌, ◌∷◌, ◌<◌, Bool, List, length, Result, Ok, Err, not, sym, ◌∙◌, ap, subst}
+use Rattle.std.proofs.Common.{Bool, List, Result, Ok, Err, not, sym, ◌∙◌, ap, subst}
 use Rattle.plan_cert.specs.declared.item.Item.{Item}
 use Rattle.plan_cert.specs.declared.item.CertFault.{CertFault}
 use Rattle.plan_cert.specs.Reading.{Reading}

@@ -1,5 +1,4 @@
-use Rattle.std.proofs.Common.{◌≡◌, ◌<◌, ℕ, List, Option, length, Ok, Err, refl, sym, ◌∙◌, ap, subst, arith}
-use Rattle.brake_base.specs.declared.reason.Reason.{Reason}
+use Rattle.std.proofs.Common.{◌≡◌, ◌<◌, ℕ, List, length, Ok, Err, refl, sym, ◌∙◌, ap, subst, arith}
 use Rattle.job_setup.specs.Setup.{JobData}
 use Rattle.plan_cert.specs.declared.cert.RowHead.{RowHead}
 use Rattle.plan_cert.specs.declared.format.Kind.TheVariants.{Certificate}
@@ -11,7 +10,7 @@ use Rattle.cert_check.specs.Texts.{IsTextOf}
 use Rattle.cert_check.specs.Heads.{IsTextOfRows}
 use Rattle.cert_check.specs.RowFaults.{RowsAreAccounted}
 use Rattle.cert_check.specs.Rows.{RowAnswer}
-use Rattle.cert_check.proofs.ItemLemmas.{text_items, left_some}
+use Rattle.cert_check.proofs.ItemLemmas.{text_items}
 use Rattle.cert_check.proofs.NoteLemmas.{holds_none}
 use Rattle.cert_check.proofs.Accepting.{one_text}
 use Rattle.cert_check.proofs.Deciding.{text_form}

@@ -1,4 +1,4 @@
-use Rattle.std.proofs.Common.{◌≡◌, Bool, ◌∙◌, ap, subst}
+use Rattle.std.proofs.Common.{Bool, ◌∙◌, ap, subst}
 use Rattle.plan_cert.specs.Reading.{Reading}
 use Rattle.plan_cert.specs.CertReading.{answers_left}
 use Rattle.cert_check.proofs.NoteLemmas.{Gathers, GathersBy, gathers_on}

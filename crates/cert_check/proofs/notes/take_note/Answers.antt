@@ -1,7 +1,5 @@
-use Rattle.std.proofs.Common.{◌≡◌, ◌∷◌, ◌<◌, Bool, List, Option, length, Result, Ok, Err, sym, ◌∙◌, ap, subst}
+use Rattle.std.proofs.Common.{Bool, List, Option, Ok, Err, sym, ◌∙◌, ap, subst}
 use Rattle.brake_base.specs.declared.reason.Reason.{Reason}
-use Rattle.plan_cert.specs.declared.item.Item.{Item}
-use Rattle.plan_cert.specs.declared.item.CertFault.{CertFault}
 use Rattle.plan_cert.specs.Reading.{Reading}
 use Rattle.plan_cert.specs.CertReading.{AnswersLeft, answers_left, cert_of}
 use Rattle.plan_cert.proofs.Collecting.{goes_on}

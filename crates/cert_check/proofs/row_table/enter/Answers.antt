@@ -1,7 +1,6 @@
-use Rattle.std.proofs.Common.{◌≡◌, ◌<◌, ◌≤◌, ◌+◌, ℕ, List, length, set, get_or, arith, refl, sym, ◌∙◌, ap, subst, length-set}
-use Rattle.brake_base.specs.declared.stroke.Key.{Key}
+use Rattle.std.proofs.Common.{◌≡◌, ◌+◌, ℕ, length, set, get_or, arith, refl, sym, ◌∙◌, ap, subst, length-set}
 use Rattle.plan_cert.specs.declared.cert.RowHead.{RowHead}
-use Rattle.cert_check.specs.RowTable.{IsIndexed, key_number, key_count}
+use Rattle.cert_check.specs.RowTable.{IsIndexed, key_number}
 use Rattle.cert_check.proofs.RowOrder.{few_rows, number_within}
 use Rattle.cert_check.proofs.Indexes.{index_starts, index_grows}
 use Rattle.cert_check.proofs.row_table.enter.Goals as goal

@@ -1,4 +1,4 @@
-use Rattle.std.proofs.Common.{◌≡◌, ◌≤◌, ◌+◌, ◌-◌, ℕ, length, arith, sym, subst}
+use Rattle.std.proofs.Common.{◌≡◌, ℕ, subst}
 use Rattle.job_setup.specs.Setup.{bend_count, stage_count}
 use Rattle.handling_cost.proofs.Actions.{few_bends}
 use Rattle.plan_cert.specs.Lines.{action_at}

@@ -1,4 +1,4 @@
-use Rattle.std.proofs.Common.{◌≡◌, ◌≤◌, ◌∙◌, ℕ, length, arith, ap, sym}
+use Rattle.std.proofs.Common.{◌≡◌, ◌∙◌, ℕ, length, arith, ap}
 use Rattle.handling_cost.specs.Bound.{bound_with, bound_of, leads_left, farthest}
 use Rattle.handling_cost.proofs.Small.{bound_small}
 use Rattle.cert_check.proofs.RowOrder.{few_stages}

@@ -1,6 +1,5 @@
-use Rattle.std.proofs.Common.{◌≡◌, Option, None, refl, sym, subst}
+use Rattle.std.proofs.Common.{Option, refl, sym, subst}
 use Rattle.brake_base.specs.declared.reason.Reason.{Reason}
-use Rattle.brake_base.specs.declared.stroke.Action.{Action}
 use Rattle.handling_cost.proofs.Actions.{lead_is}
 use Rattle.cert_check.specs.declared.fault.CheckFault.TheVariants.{NotClosed}
 use Rattle.cert_check.specs.Rows.{ClosesAt, IsUnmet}

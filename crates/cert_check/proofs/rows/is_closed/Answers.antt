@@ -1,9 +1,8 @@
-use Rattle.std.proofs.Common.{◌≡◌, ◌≤◌, ◌∙◌, ℕ, arith, sym, ap, subst}
-use Rattle.brake_base.specs.declared.mask.Mask.{Mask}
+use Rattle.std.proofs.Common.{◌≡◌, ◌∙◌, ℕ, arith, sym, ap, subst}
 use Rattle.brake_base.specs.declared.stroke.Key.{Key}
 use Rattle.brake_base.specs.Masks.{union}
 use Rattle.job_setup.specs.StrokeGroup.{group_of}
-use Rattle.handling_cost.specs.StepCost.{IsKeyOf, key_after, cost_of, cost_to, attitude_at}
+use Rattle.handling_cost.specs.StepCost.{IsKeyOf, cost_of, cost_to, attitude_at}
 use Rattle.handling_cost.proofs.Actions.{few_bends}
 use Rattle.handling_cost.proofs.Keys.{next_in_range}
 use Rattle.cert_check.specs.Rows.{ProvesAfter}

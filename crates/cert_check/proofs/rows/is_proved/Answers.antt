@@ -1,7 +1,7 @@
-use Rattle.std.proofs.Common.{◌≡◌, ◌+◌, ℕ, Bool, true, false, refl, sym, subst}
+use Rattle.std.proofs.Common.{◌+◌, ℕ, refl, sym, subst}
 use Rattle.brake_base.specs.declared.stroke.Worth.TheVariants.{Cost}
 use Rattle.handling_cost.specs.Bound.{bound_of}
-use Rattle.brake_base.specs.Worths.{IsAtMost, plus}
+use Rattle.brake_base.specs.Worths.{IsAtMost}
 use Rattle.cert_check.proofs.RowLemmas.{proved_by_bound, proved_by_row, not_proved_by_row, not_proved_by_none, true_unless}
 use Rattle.cert_check.proofs.rows.is_proved.Goals as goal
 

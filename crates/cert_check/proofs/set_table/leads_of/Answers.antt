@@ -1,5 +1,4 @@
-use Rattle.std.proofs.Common.{◌≡◌, ◌+◌, length, arith, sym, ◌∙◌, ap, subst}
-use Rattle.brake_base.specs.declared.mask.Mask.{Mask}
+use Rattle.std.proofs.Common.{◌+◌, length, arith, sym, ◌∙◌, ap, subst}
 use Rattle.fold_boxes.specs.Shapes.{ShapeData}
 use Rattle.cert_check.proofs.SetLemmas.{HasLeadsBelow, leads_start, leads_more, leads_less}
 use Rattle.cert_check.proofs.set_table.leads_of.Goals.{then-is_lead, else-is_lead}

@@ -1,5 +1,4 @@
 use Rattle.std.proofs.Common.{sym, subst}
-use Rattle.brake_base.specs.declared.mask.Mask.{Mask}
 use Rattle.fold_boxes.specs.Shapes.{ShapeData}
 use Rattle.fold_boxes.specs.Pose.{IsGroup}
 use Rattle.job_setup.specs.Setup.{shape_of}

@@ -1,5 +1,4 @@
-use Rattle.std.proofs.Common.{◌≡◌, Option, Some, None, sym, ◌∙◌, ap, subst}
-use Rattle.brake_base.specs.declared.reason.Reason.{Reason}
+use Rattle.std.proofs.Common.{sym, subst}
 use Rattle.fold_boxes.specs.Pose.{PoseData, pose_data}
 use Rattle.job_setup.specs.StrokeGroup.{group_of}
 use Rattle.job_setup.specs.LegalGauge.{IsLegalPair}

@@ -1,4 +1,4 @@
-use Rattle.std.proofs.Common.{◌≡◌, refl, sym, ◌∙◌, ap, subst}
+use Rattle.std.proofs.Common.{refl, sym, ◌∙◌, ap, subst}
 use Rattle.cert_check.specs.Checking.{IsTrueOf, verdict_of}
 use Rattle.cert_check.proofs.Truth.{is_good, claim_is_true}
 use Rattle.cert_check.proofs.Deciding.{text_form, text_refused, text_accepted}

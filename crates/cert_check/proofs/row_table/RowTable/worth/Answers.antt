@@ -1,7 +1,6 @@
-use Rattle.std.proofs.Common.{◌≡◌, ℕ, ◌+◌, ◌-◌, List, get_or, Some, None, arith, sym, ◌∙◌, ap, subst}
+use Rattle.std.proofs.Common.{◌≡◌, ℕ, ◌+◌, ◌-◌, get_or, Some, None, arith, sym, ◌∙◌, ap, subst}
 use Rattle.std.proofs.lemmas.List.{get_or_default}
 use Rattle.brake_base.specs.declared.stroke.Worth.TheVariants.{Blocked}
-use Rattle.job_setup.specs.Setup.{JobData}
 use Rattle.handling_cost.specs.StepCost.{IsKeyOf}
 use Rattle.plan_cert.specs.declared.cert.RowHead.{RowHead}
 use Rattle.cert_check.specs.RowTable.{RowsOf, IsWorthAt, key_number}
