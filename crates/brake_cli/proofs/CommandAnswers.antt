@@ -1,5 +1,12 @@
 -- From what a call answers to what a command answers.
-use Rattle.std.proofs.Common.{◌≡◌, Result, Ok}
+use Rattle.std.proofs.Common.{◌≡◌, ◌⊎◌, inl, inr, ℕ, List, Result, Ok, Err}
+use Rattle.brake_base.specs.declared.stroke.Worth.{Worth}
+use Rattle.brake_base.specs.declared.stroke.Worth.TheVariants.{Cost, Blocked}
+use Rattle.plan_cert.specs.WellFormed.{IsWorth}
+use Rattle.cert_check.specs.declared.fault.CheckFault.{CheckFault}
+use Rattle.cert_check.specs.declared.fault.CheckFault.TheVariants as check
+use Rattle.cert_check.specs.Checking.{CheckedData, IsAccepted, IsAnswer, verdict_of}
+use Rattle.brake_cli.specs.CheckAnswer.{IsClaim}
 use Rattle.job_setup.specs.Setup.{JobData}
 use Rattle.job_setup.specs.JobOf.{FileFault}
 use Rattle.command_runner.specs.Answers.{AnswerData}
@@ -17,3 +24,16 @@ stop_answers P NoMemory read answer stops told = absurd told
 -- the answer to files that give a job
 pub job_answers : (P : JobData → AnswerData → Type 0) (job : JobData) (read : Result JobData FileFault) (answer : AnswerData) → read ≡ Ok job → P job answer → AnswersJob P read answer
 job_answers P job read answer reads is = rw reads is
+
+worth_claim : (worth : Worth) → IsWorth worth → IsClaim (verdict_of worth)
+worth_claim (Cost cost) small = small
+worth_claim Blocked small = tt
+
+-- what is accepted may be claimed
+pub accepted_claim : (text : List ℕ) (checked : CheckedData) → IsAccepted text checked → IsClaim checked.verdict
+accepted_claim text checked is = rw is.verdict (worth_claim is.cert.claim is.good.good.form.claim)
+
+-- a refusal other than for want of memory is what a check comes to
+pub refused_is : (text : List ℕ) (fault : CheckFault) → (fault ≡ check.NoMemory) ⊎ IsAnswer text (Err fault) → (fault ≡ check.NoMemory → ⊥) → IsAnswer text (Err fault)
+refused_is text fault (inl memory) other = absurd (other memory)
+refused_is text fault (inr is) other = is

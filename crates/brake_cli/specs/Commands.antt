@@ -13,6 +13,7 @@ use Rattle.brake_cli.specs.declared.command.Command.{Command}
 use Rattle.brake_cli.specs.declared.command.Command.TheVariants.{Blank, Plan, PlanWithin, Check, CheckFiles, Trial, Why, Setups, Settle, SettleOver, Merge, Prove}
 use Rattle.brake_cli.specs.BlankAnswer.{blank_answer}
 use Rattle.brake_cli.specs.PlanAnswer.{IsPlanAnswer}
+use Rattle.brake_cli.specs.CheckAnswer.{IsCheckAnswer, IsCheckFilesAnswer}
 
 -- the forms: the kinds of the words of each command
 abbrev pub form_of : Command → List Kind
@@ -63,6 +64,8 @@ abbrev pub meaning_of : Command → Meaning
 meaning_of Blank words contents answer = answer ≡ blank_answer contents
 meaning_of Plan words contents answer = IsPlanAnswer (word_at words 4) None contents answer
 meaning_of PlanWithin words contents answer = IsPlanAnswer (word_at words 4) (budget_in words) contents answer
+meaning_of Check words contents answer = IsCheckAnswer contents answer
+meaning_of CheckFiles words contents answer = IsCheckFilesAnswer contents answer
 meaning_of _ words contents answer = answer ≡ usage
 
 -- the first of some commands whose form the words have

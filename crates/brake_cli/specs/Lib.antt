@@ -4,6 +4,7 @@ pub mod BlankAnswer
 pub mod JobAnswer
 pub mod Claim
 pub mod PlanAnswer
+pub mod CheckAnswer
 pub mod Commands
 pub mod Run
 pub mod Headline

@@ -5,7 +5,7 @@ ghost use Rattle.command_runner.specs.Kinds.{is_form};
 ghost use Rattle.brake_cli.specs.Commands.{form_of, budget_in, meaning_of, first_of, command_of};
 
 use crate::usage::usage;
-use crate::{blank, plan};
+use crate::{blank, check, plan};
 use command_runner::{Answer, Keyword, Kind, is_form, number_in};
 use std::alloc::{AllocError, Global};
 
@@ -176,6 +176,8 @@ impl command_runner::Command for Command {
             Command::PlanWithin => {
                 plan::answer(alloc, words[4].as_str(), Some(budget_in(words)), contents)
             }
+            Command::Check => check::answer(alloc, contents),
+            Command::CheckFiles => check::answer_with_files(alloc, contents),
             _ => usage(alloc),
         }
     }

@@ -3,6 +3,9 @@
 
 mod blank;
 mod brake;
+mod check;
+#[cfg(test)]
+mod check_tests;
 mod command;
 mod job_files;
 mod plan;

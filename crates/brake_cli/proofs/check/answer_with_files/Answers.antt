@@ -1,0 +1,26 @@
+use Rattle.std.proofs.Common.{◌≡◌, map}
+use Rattle.std.specs.Prelude.{IfOk}
+use Rattle.std.specs.Vec.{vec_items}
+use Rattle.std.proofs.lemmas.Result.{IfOk-weaker}
+use Rattle.command_runner.specs.Answers.{answer_data}
+use Rattle.command_runner.specs.Fetching.{word_at}
+use Rattle.brake_cli.specs.FaultNumbers.{file_refused}
+use Rattle.brake_cli.specs.Stops.{IsRefusalAnd}
+use Rattle.brake_cli.specs.JobAnswer.{job_of_files}
+use Rattle.brake_cli.specs.CheckAnswer.{IsAnswerFor, IsCheckFilesAnswer}
+use Rattle.brake_cli.proofs.CommandAnswers.{stop_answers, job_answers}
+use Rattle.brake_cli.proofs.check.answer_with_files.Goals as goal
+
+pub returns-in-Ok-clause-answer : goal.returns-in-Ok-clause-answer
+returns-in-Ok-clause-answer c =
+    let contents = map vec_items c.args.contents.now in
+    let text = word_at contents 0 in
+    let answered : IfOk c.answer_of_job.result (λ answer. IsAnswerFor text c.in-Ok.job (answer_data answer)) = rw c.content_at.ensures at c.answer_of_job.ensures.answer in
+    IfOk-weaker c.answer_of_job.result (λ answer. IsAnswerFor text c.in-Ok.job (answer_data answer)) (λ answer. IsCheckFilesAnswer contents (answer_data answer))
+    (λ answer is. job_answers (IsAnswerFor text) c.in-Ok.job (job_of_files 1 contents) (answer_data answer) c.in-Ok.ensures is) answered
+
+pub returns-in-Err-clause-answer : goal.returns-in-Err-clause-answer
+returns-in-Err-clause-answer c =
+    let contents = map vec_items c.args.contents.now in
+    IfOk-weaker c.stopped.result (λ answer. IsRefusalAnd c.in-Err.stop (λ fault. answer_data answer ≡ file_refused fault)) (λ answer. IsCheckFilesAnswer contents (answer_data answer))
+    (λ answer told. stop_answers (IsAnswerFor (word_at contents 0)) c.in-Err.stop (job_of_files 1 contents) (answer_data answer) c.in-Err.ensures told) c.stopped.ensures.answer
