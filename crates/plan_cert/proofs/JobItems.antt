@@ -31,7 +31,7 @@ pub taken : (n : ℕ) (lines after : JobLinesData) (line text behind : List ℕ)
 taken n lines after line text behind cut e = ap (λ (ls : List (List ℕ)). job_items n lines ls) cut ∙ taken_any n lines after line (lines_in behind) (some_line behind) e
 
 -- another line ends the job lines
-stopped_any : (n : ℕ) (lines : JobLinesData) (line : List ℕ) (rest : List (List ℕ)) → 0 < length rest → take_line lines line ≡ None → job_items n lines (line ∷ rest) ≡ items_behind n lines line rest
+pub stopped_any : (n : ℕ) (lines : JobLinesData) (line : List ℕ) (rest : List (List ℕ)) → 0 < length rest → take_line lines line ≡ None → job_items n lines (line ∷ rest) ≡ items_behind n lines line rest
 unfolding job_items
 stopped_any n lines line [] some e = absurd (omega arith)
 stopped_any n lines line (next ∷ more) some e = ap (λ (o : Option JobLinesData). elim o [ Some t ↦ job_items (next_number n) t (next ∷ more) | None ↦ items_behind n lines line (next ∷ more) ]) e
@@ -83,7 +83,7 @@ unfolding items
 first_bad kind line text rest given stand cut e gives =
     answers_like (Err (faults.BadLine 1) ∷ []) (items kind text) given stand (ap (λ (ls : List (List ℕ)). items_of_lines kind ls) cut ∙ bad_any kind line (lines_in rest) (some_line rest) e) gives
 
-good_any : (kind : Kind) (format : Format) (line : List ℕ) (rest : List (List ℕ)) → 0 < length rest → format_of kind line ≡ Some format → items_of_lines kind (line ∷ rest) ≡ job_items 2 (no_lines format) rest
+pub good_any : (kind : Kind) (format : Format) (line : List ℕ) (rest : List (List ℕ)) → 0 < length rest → format_of kind line ≡ Some format → items_of_lines kind (line ∷ rest) ≡ job_items 2 (no_lines format) rest
 good_any kind format line [] some e = absurd (omega arith)
 good_any kind format line (next ∷ more) some e = ap (λ (o : Option Format). elim o [ Some format ↦ job_items 2 (no_lines format) (next ∷ more) | None ↦ Err (faults.BadLine 1) ∷ [] ]) e
 
@@ -97,7 +97,7 @@ first_good kind format line text rest given stand cut e gives =
 pub not_judged : (n : ℕ) (lines : JobLinesData) (line : List ℕ) (rest : List (List ℕ)) → may_be_judged lines line ≡ false → items_behind n lines line rest ≡ Err (faults.BadLine n) ∷ []
 not_judged n lines line rest may = ap (λ (b : Bool). if b then judged_items n lines (line ∷ rest) else Err (faults.BadLine n) ∷ []) may
 
-judged_by : (n : ℕ) (lines : JobLinesData) (line : List ℕ) (rest : List (List ℕ)) (valid : Bool) → may_be_judged lines line ≡ true → (lines.is_sound && is_job (job_of lines)) ≡ valid
+pub judged_by : (n : ℕ) (lines : JobLinesData) (line : List ℕ) (rest : List (List ℕ)) (valid : Bool) → may_be_judged lines line ≡ true → (lines.is_sound && is_job (job_of lines)) ≡ valid
     → items_behind n lines line rest ≡ (if valid then Ok (given.Job (job_of lines)) ∷ plan_items lines.format (job_of lines) n (first_section lines.format) (line ∷ rest) else Err faults.BadJob ∷ [])
 judged_by n lines line rest valid may is =
     ap (λ (b : Bool). if b then judged_items n lines (line ∷ rest) else Err (faults.BadLine n) ∷ []) may

@@ -18,3 +18,11 @@ pub mod WellRead
 pub mod ItemLists
 pub mod FormatKept
 pub mod ReadWell
+pub mod WordsRead
+pub mod LinesRead
+pub mod PlanLinesRead
+pub mod TextLines
+pub mod JobRun
+pub mod JobWritten
+pub mod PlanWritten
+pub mod Written

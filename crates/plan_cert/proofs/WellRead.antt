@@ -122,7 +122,7 @@ trans a b c (inr x) (inr y) = inr (x.0 ∙ y.0, behind x.1 y.1)
     behind (inr x) (inl y) = inl (omega (arith, x.0, y))
     behind (inr x) (inr y) = inr (x.0 ∙ y.0, stages x.1 y.1)
 
-rank_less : (job : JobData) (a b : RowHead) → stage_count job ≤ 6 → IsRow job a → IsRow job b → KeyIsBefore a.key b.key → rank a.key < rank b.key
+pub rank_less : (job : JobData) (a b : RowHead) → stage_count job ≤ 6 → IsRow job a → IsRow job b → KeyIsBefore a.key b.key → rank a.key < rank b.key
 rank_less job a b few one other (inl less) = omega (arith, less, one.attitude, one.stage, few)
 rank_less job a b few one other (inr (same, inl less)) = omega (arith, same, less, one.stage, few)
 rank_less job a b few one other (inr (same, inr (again, inl less))) = omega (arith, same, again, less)

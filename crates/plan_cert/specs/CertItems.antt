@@ -11,7 +11,8 @@ use Rattle.plan_cert.specs.declared.format.Kind.TheVariants.{Certificate}
 use Rattle.plan_cert.specs.Cert.{CertData}
 use Rattle.plan_cert.specs.WellFormed.{IsWellFormed}
 use Rattle.plan_cert.specs.Items.{items}
-use Rattle.plan_cert.specs.CertReading.{CertFileData}
+use Rattle.plan_cert.specs.CertText.{cert_text2}
+use Rattle.plan_cert.specs.CertReading.{CertFileData, cert_file_of}
 
 -- a row, and its notes
 abbrev pub row_items : List Note → ℕ × RowHead → List Item
@@ -30,3 +31,7 @@ pub record IsReadFrom (file : CertFileData) (text : List ℕ) : Type 0 where
   pub job : IsJob file.job
   pub form : IsWellFormed file.job file.cert
   pub items : items Certificate text ≡ map Ok (cert_items file.job file.cert)
+
+-- where the text is that of a well formed certificate of a valid job in version 2, it gives this job and this certificate
+abbrev pub ReadsWritten : List ℕ → Type 0
+ReadsWritten text = (job : JobData) (cert : CertData) → IsJob job → IsWellFormed job cert → text ≡ cert_text2 job cert → cert_file_of text ≡ Ok (record { job = job; cert = cert; version = 2 })

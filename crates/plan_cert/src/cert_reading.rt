@@ -6,7 +6,7 @@ ghost use Rattle.plan_cert.specs.declared.format.Kind.TheVariants.{Certificate};
 ghost use Rattle.plan_cert.specs.Cert.{cert_data};
 ghost use Rattle.plan_cert.specs.Items.{items};
 ghost use Rattle.plan_cert.specs.CertReading.{cert_file_data, cert_file_of, cert_of, with_item, with_step, with_note, is_last, no_cert, version_in, answers_left, Collects, AnswersLeft, BeginsWith};
-ghost use Rattle.plan_cert.specs.CertItems.{IsReadFrom};
+ghost use Rattle.plan_cert.specs.CertItems.{IsReadFrom, ReadsWritten};
 
 use crate::cert::{Cert, Note, RowHead};
 use crate::item::{CertFault, Item};
@@ -152,6 +152,7 @@ fn first_job(reader: &mut CertReader) -> Result<Job, CertFault>
 pub fn read_cert(alloc: Global, text: &[u8]) -> Result<CertFile, CertFault>
     ensures value { GivesOr NoMemory cert_file_data result (cert_file_of text.now) }
     ensures whole { IfOk result (λ file. IsReadFrom (cert_file_data file) text.now) }
+    ensures written { ReadsWritten text.now }
 {
     let mut reader = CertReader::new(text);
     let job = first_job(&mut reader)?;

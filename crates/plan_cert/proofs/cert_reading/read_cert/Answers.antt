@@ -7,6 +7,7 @@ use Rattle.plan_cert.specs.Cert.{cert_data}
 use Rattle.plan_cert.specs.CertReading.{cert_file_data, cert_file_of, BeginsWith}
 use Rattle.plan_cert.proofs.Collecting.{read_ok, read_err}
 use Rattle.plan_cert.proofs.ReadWell.{read_file}
+use Rattle.plan_cert.proofs.Written.{reads_written}
 use Rattle.plan_cert.proofs.cert_reading.read_cert.Goals as goal
 
 pub returns-in_err-collect-clause-value : goal.returns-in_err-collect-clause-value
@@ -26,3 +27,12 @@ pub returns-clause-whole : goal.returns-clause-whole
 returns-clause-whole c =
     let begins = subst (λ r. BeginsWith r (Ok c.in_ok-job.job) c.first_job.new.reader) c.new-reader.ensures c.in_ok-job.ensures in
     read_file c.args.text.now _ (read_ok c.args.text.now c.in_ok-job.job c.first_job.new.reader (cert_data c.no_cert-cert.result) (cert_data c.collect.new.cert) c.version.result begins c.no_cert-cert.ensures c.in_ok-collect.ensures c.version.ensures)
+
+pub returns-in_err-job-clause-written : goal.returns-in_err-job-clause-written
+returns-in_err-job-clause-written c = reads_written c.args.text.now
+
+pub returns-in_err-collect-clause-written : goal.returns-in_err-collect-clause-written
+returns-in_err-collect-clause-written c = reads_written c.args.text.now
+
+pub returns-clause-written : goal.returns-clause-written
+returns-clause-written c = reads_written c.args.text.now
