@@ -6,7 +6,7 @@ use Rattle.plan_cert.specs.WellFormed.{IsWorth}
 use Rattle.cert_check.specs.declared.fault.CheckFault.{CheckFault}
 use Rattle.cert_check.specs.declared.fault.CheckFault.TheVariants as check
 use Rattle.cert_check.specs.Checking.{CheckedData, IsAccepted, IsAnswer, verdict_of}
-use Rattle.brake_cli.specs.CheckAnswer.{IsClaim}
+use Rattle.brake_cli.specs.CheckAnswer.{IsClaim, ChecksTo}
 use Rattle.job_setup.specs.Setup.{JobData}
 use Rattle.job_setup.specs.JobOf.{FileFault}
 use Rattle.command_runner.specs.Answers.{AnswerData}
@@ -37,3 +37,8 @@ accepted_claim text checked is = rw is.verdict (worth_claim is.cert.claim is.goo
 pub refused_is : (text : List ℕ) (fault : CheckFault) → (fault ≡ check.NoMemory) ⊎ IsAnswer text (Err fault) → (fault ≡ check.NoMemory → ⊥) → IsAnswer text (Err fault)
 refused_is text fault (inl memory) other = absurd (other memory)
 refused_is text fault (inr is) other = is
+
+-- what a check comes to is its answer
+pub checks_answer : (text : List ℕ) (checked : Result CheckedData CheckFault) → ChecksTo text checked → IsAnswer text checked
+checks_answer text (Ok checked) checks = checks.0
+checks_answer text (Err fault) checks = checks

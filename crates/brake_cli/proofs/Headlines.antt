@@ -25,7 +25,13 @@ use Rattle.brake_cli.specs.Commands.{form_of, meaning_of}
 use Rattle.brake_cli.specs.Run.{IsPlanning, budget_for}
 use Rattle.brake_cli.specs.JobAnswer.{AnswersJob}
 use Rattle.brake_cli.specs.PlanAnswer.{last_text, IsCertAnswer, IsPlanned, by_cert, spent, IsPlanAnswer}
-use Rattle.brake_cli.specs.Headline.{EachStep, SweepCoversAvoid, TouchesLegalEdge, Headline, GiveJob, IsClaimed, HasHeadlineBy}
+use Rattle.brake_cli.specs.Headline.{EachStep, SweepCoversAvoid, TouchesLegalEdge, ConfirmsAlone, Headline, GiveJob, IsClaimed, HasHeadlineBy}
+use Rattle.brake_cli.specs.CheckAnswer.{verdict_answer, answer_of, IsCheckAnswer}
+use Rattle.cert_check.specs.Checking.{verdict_of, IsGoodText}
+use Rattle.cert_check.proofs.Accepting.{good_text_accepted}
+use Rattle.plan_cert.specs.CertText.{cert_text2}
+use Rattle.brake_cli.proofs.CertTexts.{text_is}
+use Rattle.brake_cli.proofs.CommandAnswers.{checks_answer}
 use Rattle.brake_cli.proofs.Claims.{good_claim_true}
 
 rest_avoids : (job : JobData) (key : Key) (steps : List Step) → IsRest job key steps → EachStep job (SweepCoversAvoid job) key steps
@@ -40,6 +46,11 @@ rest_touches job key (step ∷ steps) rest = (rest.0.gauge, rest_touches job (ke
 of_claimed : (job : JobData) (P : List Step → Type 0) (claim : Worth) (steps : List Step) → AreClaimed job claim steps → HasSteps job claim steps → (IsRest job start steps → P steps) → P [] → P steps
 of_claimed job P (Cost cost) steps claimed has of_plan of_none = of_plan claimed.0
 of_claimed job P Blocked steps claimed has of_plan of_none = subst P (sym has) of_none
+
+confirms : (job : JobData) (name : List ℕ) (answer : AnswerData) (is : IsCertAnswer name job answer) → ConfirmsAlone (cert_text2 job is.cert) is.cert
+confirms job name answer is other checks =
+    let good : IsGoodText (cert_text2 job is.cert) job is.cert = record { written = text_is job is.cert is.valid is.proves.proves.proves.form; good = is.proves.proves.proves } in
+    checks.2 ∙ ap answer_of (good_text_accepted (cert_text2 job is.cert) job is.cert checks.0 good (checks_answer (cert_text2 job is.cert) checks.0 checks.1))
 
 three_together : (a b c : List ℕ) → concatenation (a ∷ b ∷ c ∷ []) ≡ a ++ b ++ c
 three_together a b c = ap (λ (t : List ℕ). a ++ (b ++ t)) (append-nil c) ∙ sym (append_assoc a b c)
@@ -80,6 +91,7 @@ module _ (job : JobData) (name : List ℕ) (before now : Outside) (between : She
         costs_least = good_claim_true job cert is.valid good;
         stored_certificate = stored_since before.shelf between now.shelf _ same holds;
         proves = is.proves;
+        confirms_alone = confirms job name answer is;
       }
 
   by_planned : (budget : Option ℕ) (answer : AnswerData) → IsPlanned name budget job answer → Delivers answer (record { shelf = between; sink = before.sink }) now status → Headline job name before now status

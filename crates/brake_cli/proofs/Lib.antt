@@ -1,5 +1,6 @@
 pub mod Answering
 pub mod Claims
+pub mod CertTexts
 pub mod Headlines
 pub mod CountWords
 pub mod Searching

@@ -14,6 +14,7 @@ use Rattle.brake_cli.specs.declared.command.Command.TheVariants.{Blank, Plan, Pl
 use Rattle.brake_cli.specs.BlankAnswer.{blank_answer}
 use Rattle.brake_cli.specs.PlanAnswer.{IsPlanAnswer}
 use Rattle.brake_cli.specs.CheckAnswer.{IsCheckAnswer, IsCheckFilesAnswer}
+use Rattle.brake_cli.specs.TrialAnswer.{IsTrialAnswer}
 
 -- the forms: the kinds of the words of each command
 abbrev pub form_of : Command → List Kind
@@ -59,6 +60,10 @@ usage = one_text status.Usage usage_text
 abbrev pub budget_in : List (List ℕ) → Option ℕ
 budget_in words = number_in 1 4294967295 (word_at words 6)
 
+-- the number of a generated job among the words of `trial`
+abbrev pub seed_in : List (List ℕ) → Option ℕ
+seed_in words = number_in 0 4294967295 (word_at words 1)
+
 -- what each command answers to its words and the contents of its files
 abbrev pub meaning_of : Command → Meaning
 meaning_of Blank words contents answer = answer ≡ blank_answer contents
@@ -66,6 +71,7 @@ meaning_of Plan words contents answer = IsPlanAnswer (word_at words 4) None cont
 meaning_of PlanWithin words contents answer = IsPlanAnswer (word_at words 4) (budget_in words) contents answer
 meaning_of Check words contents answer = IsCheckAnswer contents answer
 meaning_of CheckFiles words contents answer = IsCheckFilesAnswer contents answer
+meaning_of Trial words contents answer = (n : ℕ) × (seed_in words ≡ Some n) × IsTrialAnswer n answer
 meaning_of _ words contents answer = answer ≡ usage
 
 -- the first of some commands whose form the words have

@@ -1,7 +1,7 @@
 -- The headline: what a run of `plan` has done that ends with a plan, or with there being none. A plan that is printed folds the
 -- printed blank into exactly the part; at each bend the sweep covers avoid tools, machine and the part itself, and the gauge
 -- touches a legal edge; no plan of the stated space costs less; `no plan` is answered only where that space is empty; and the
--- stored certificate proves the claim.
+-- checker confirms the claim from the stored certificate alone.
 use Rattle.std.specs.Prelude.{◌≡◌, ◌≢◌, ◌⊎◌, ℕ, List, [], ◌∷◌, ◌++◌, Option, Some, None, IfSome, Ok}
 use Rattle.brake_base.specs.declared.stroke.Key.{Key}
 use Rattle.brake_base.specs.declared.stroke.Step.{Step}
@@ -16,6 +16,7 @@ use Rattle.handling_cost.specs.Good.{AreClaimed}
 use Rattle.setup_sheet.specs.Sheets.{blank_text, setup_text}
 use Rattle.plan_cert.specs.Cert.{CertData}
 use Rattle.plan_cert.specs.CertText.{cert_text2}
+use Rattle.cert_check.specs.Checking.{verdict_of}
 use Rattle.brake_io.specs.Meanings.{Names, WhereTold, Puts}
 use Rattle.command_runner.specs.declared.status.Status.{Status}
 use Rattle.command_runner.specs.declared.status.Status.TheVariants as ended
@@ -26,6 +27,8 @@ use Rattle.brake_cli.specs.Commands.{command_of}
 use Rattle.brake_cli.specs.Run.{form_for, IsPlanning, budget_for}
 use Rattle.brake_cli.specs.JobAnswer.{job_of_files}
 use Rattle.brake_cli.specs.PlanAnswer.{claim_status, last_text, IsBlankOf, IsPlanCert}
+use Rattle.command_runner.specs.Answers.{AnswerData}
+use Rattle.brake_cli.specs.CheckAnswer.{verdict_answer, IsCheckAnswer}
 use Rattle.brake_cli.specs.Claim.{IsTrueClaim}
 
 -- a fact of each step of a plan, at the key to which the steps before it lead
@@ -41,6 +44,10 @@ SweepCoversAvoid job key step = (reason : Reason) → reason ≢ NoGauge → IsR
 abbrev pub TouchesLegalEdge : JobData → Key → Step → Type 0
 TouchesLegalEdge job key step = IsGaugeFor job key.mask step.action step.gauge
 
+-- the checker confirms the claim from this text alone: `check`, which reads no other file, has one answer to it
+abbrev pub ConfirmsAlone : List ℕ → CertData → Type 0
+ConfirmsAlone text cert = (answer : AnswerData) → IsCheckAnswer (text ∷ []) answer → answer ≡ verdict_answer (verdict_of cert.claim)
+
 -- The run's claim is that of a certificate: the least cost of a plan, or that there is none.
 pub record Headline (job : JobData) (name : List ℕ) (before now : Outside) (status : Status) : Type 0 where
   pub blank : BlankData
@@ -54,6 +61,7 @@ pub record Headline (job : JobData) (name : List ℕ) (before now : Outside) (st
   pub costs_least : IsTrueClaim job cert.claim
   pub stored_certificate : WhereTold before.shelf now.shelf (HoldsAll (record { name = name; text = cert_text2 job cert } ∷ []))
   pub proves : IsPlanCert job cert
+  pub confirms_alone : ConfirmsAlone (cert_text2 job cert) cert
 
 -- over these names the words give the job of their first three files
 abbrev pub GiveJob : Names → List (List ℕ) → Option Command → JobData → Type 0

@@ -5,6 +5,7 @@ pub mod JobAnswer
 pub mod Claim
 pub mod PlanAnswer
 pub mod CheckAnswer
+pub mod TrialAnswer
 pub mod Commands
 pub mod Run
 pub mod Headline

@@ -35,8 +35,9 @@ fn put_usage<H: Shelf, K: Sink>(alloc: Global, shelf: &mut H, out: &mut K) -> St
 
 /// Runs the command whose words these are: `blank PART TOOLS` puts the blank sheet, and `plan PART
 /// TOOLS MACHINE CERT` stores the certificate of a plan of least cost and puts the sheets; `check
-/// CERT`, with the files of a job or without, puts what the certificate proves. Words of no form,
-/// and those of a command that isn't built yet, are answered by the usage text.
+/// CERT`, with the files of a job or without, puts what the certificate proves; `trial N` plans a
+/// generated job and checks the certificate. Words of no form, and those of a command that isn't
+/// built yet, are answered by the usage text.
 pub fn brake<H: Shelf, K: Sink>(
     alloc: Global,
     words: &[String],

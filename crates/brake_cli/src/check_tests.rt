@@ -1,4 +1,4 @@
-//! The runs of `check` that the documentation names, over files in memory.
+//! The runs of `check` and `trial` that the documentation names, over files in memory.
 
 use crate::brake::brake;
 use brake_io::{MemShelf, MemSink};
@@ -161,6 +161,23 @@ fn each_call_failing_in_turn(rt: HostRuntime) -> Result<(), Fail> {
         out.fail_at(put, 7);
         assert_eq!(rt; run(alloc, WITH_FILES, &mut shelf, &mut out)?, status);
         assert_eq!(rt; out.bytes(), written.as_bytes());
+    }
+    Ok(())
+}
+
+#[test]
+fn trials(rt: HostRuntime) -> Result<(), Fail> {
+    let alloc = rt.alloc();
+    for (number, text) in [
+        ("0", "trial 0 bends 8 cost none checked\n"),
+        ("1", "trial 1 bends 7 cost none checked\n"),
+        ("2", "trial 2 bends 6 cost none checked\n"),
+    ] {
+        let mut shelf = MemShelf::new(alloc);
+        let mut out = MemSink::new(alloc);
+        let status = run(alloc, &["trial", number], &mut shelf, &mut out)?;
+        assert_eq!(rt; status, Status::NoPlan);
+        assert_eq!(rt; out.bytes(), text.as_bytes());
     }
     Ok(())
 }

@@ -2,10 +2,10 @@
 ghost use Rattle.std.specs.Prelude.{◌≡◌, IfOk, IfSome, IsTrue, map, string_bytes, Some};
 ghost use Rattle.command_runner.specs.Answers.{answer_data};
 ghost use Rattle.command_runner.specs.Kinds.{is_form};
-ghost use Rattle.brake_cli.specs.Commands.{form_of, budget_in, meaning_of, first_of, command_of};
+ghost use Rattle.brake_cli.specs.Commands.{form_of, budget_in, seed_in, meaning_of, first_of, command_of};
 
 use crate::usage::usage;
-use crate::{blank, check, plan};
+use crate::{blank, check, plan, trial};
 use command_runner::{Answer, Keyword, Kind, is_form, number_in};
 use std::alloc::{AllocError, Global};
 
@@ -153,6 +153,17 @@ fn budget_in(words: &[String]) -> u32
     }
 }
 
+/// The number of a generated job among the words of `trial`.
+fn seed_in(words: &[String]) -> u32
+    requires { IsTrue (is_form (form_of Command.Trial) (map string_bytes words.now)) }
+    ensures { seed_in (map string_bytes words.now) ≡ Some result }
+{
+    match number_in(words[1].as_bytes(), 0, u32::MAX) {
+        Some(seed) => seed,
+        None => unreachable!(),
+    }
+}
+
 impl command_runner::Command for Command {
     ghost use Rattle.brake_cli.specs.Commands.{form_of, meaning_of};
 
@@ -178,6 +189,7 @@ impl command_runner::Command for Command {
             }
             Command::Check => check::answer(alloc, contents),
             Command::CheckFiles => check::answer_with_files(alloc, contents),
+            Command::Trial => trial::answer(alloc, seed_in(words)),
             _ => usage(alloc),
         }
     }

@@ -14,6 +14,7 @@ mod plan_tests;
 mod refusal;
 #[cfg(test)]
 mod tests;
+mod trial;
 mod usage;
 mod words;
 

@@ -32,7 +32,7 @@ fn find_cert(alloc: Global, job: &Job, budget: u32) -> Result<Option<Cert>, Allo
 }
 
 /// The certificate of the least cost or of there being no plan.
-fn least_cert(alloc: Global, job: &Job) -> Result<Cert, AllocError>
+pub fn least_cert(alloc: Global, job: &Job) -> Result<Cert, AllocError>
     requires { IsJob job.now }
     ensures { IfOk result (λ cert. IsPlanCert job.now (cert_data cert)) }
 {
@@ -68,7 +68,7 @@ fn last_text(alloc: Global, job: &Job, cert: &Cert) -> Result<Vec<u8>, AllocErro
 }
 
 /// How a run ends whose claim is this.
-fn claim_status(claim: Worth) -> Status
+pub fn claim_status(claim: Worth) -> Status
     ensures value { result ≡ claim_status claim }
     ensures whole { ¬ IsCutShort result }
 {

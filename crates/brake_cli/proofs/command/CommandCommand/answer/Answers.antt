@@ -1,13 +1,15 @@
 use Rattle.std.proofs.Common.{◌≡◌, ℕ, List, Option, Some, None, length, map, string_bytes, IsTrue, IfOk, subst, sym, arith}
 use Rattle.std.specs.Vec.{vec_items}
+use Rattle.std.proofs.lemmas.Result.{IfOk-weaker}
 use Rattle.command_runner.specs.Kinds.{is_form}
 use Rattle.command_runner.specs.Answers.{answer_data}
 use Rattle.command_runner.specs.Fetching.{word_at}
 use Rattle.command_runner.proofs.Fetches.{seen_at}
 use Rattle.command_runner.proofs.Forms.{form_length}
 use Rattle.brake_cli.specs.declared.command.Command.{Command}
-use Rattle.brake_cli.specs.declared.command.Command.TheVariants.{Plan, PlanWithin}
+use Rattle.brake_cli.specs.declared.command.Command.TheVariants.{Plan, PlanWithin, Trial}
 use Rattle.brake_cli.specs.PlanAnswer.{IsPlanAnswer}
+use Rattle.brake_cli.specs.TrialAnswer.{IsTrialAnswer}
 use Rattle.brake_cli.specs.Commands.{form_of, meaning_of}
 use Rattle.brake_cli.proofs.command.CommandCommand.answer.Goals as goal
 
@@ -48,3 +50,11 @@ returns-in-PlanWithin-clause-answer c =
     subst (λ (k : Command). IfOk c.answer-in-PlanWithin.result (λ answer. meaning_of k (map string_bytes words) contents (answer_data answer))) (sym c.in-PlanWithin.is)
     (subst (λ (b : Option ℕ). IfOk c.answer-in-PlanWithin.result (λ answer. IsPlanAnswer (word_at (map string_bytes words) 4) b contents (answer_data answer))) (sym c.budget_in.ensures)
     (subst (λ (n : List ℕ). IfOk c.answer-in-PlanWithin.result (λ answer. IsPlanAnswer n (Some c.budget_in.result) contents (answer_data answer))) name answered))
+
+pub returns-in-Trial-clause-answer : goal.returns-in-Trial-clause-answer
+returns-in-Trial-clause-answer c =
+    let words = map string_bytes c.args.words.now in
+    let contents = map vec_items c.args.contents.now in
+    subst (λ (k : Command). IfOk c.answer-in-Trial.result (λ answer. meaning_of k words contents (answer_data answer))) (sym c.in-Trial.is)
+    (IfOk-weaker c.answer-in-Trial.result (λ answer. IsTrialAnswer c.seed_in.result (answer_data answer)) (λ answer. meaning_of Trial words contents (answer_data answer))
+    (λ answer is. (c.seed_in.result, c.seed_in.ensures, is)) c.answer-in-Trial.ensures.answer)
