@@ -51,7 +51,8 @@ fn verdict_answer(alloc: Global, verdict: Verdict) -> Result<Answer, AllocError>
 /// The line of a refusal, with the words of its first fault.
 #[tactic(auto, using(plan_cert::proofs::Texts::pieces))]
 fn refusal_line(alloc: Global, fault: CheckFault) -> Result<Vec<u8>, AllocError>
-    ensures { IfOk result (λ line. line.items ≡ text_line (codes "certificate refused") (check_fault_words fault)) }
+    ensures { IfOk result (λ line. line.items
+        ≡ text_line (codes "certificate refused") (check_fault_words fault)) }
 {
     let mut out = Vec::new(alloc);
     put_word(&mut out, b"certificate refused")?;
