@@ -1,0 +1,32 @@
+-- What a contract sees of `Notes`.
+use Rattle.std.specs.Prelude.{◌≡◌, ◌≢◌, ℕ, Bool, true, false, if◌then◌else◌, List, [], Option, None, slice_index_or, ◌⊎◌}
+use Rattle.brake_base.specs.declared.reason.Reason.{Reason}
+use Rattle.row_pool.specs.declared.note.Note.{Note}
+use Rattle.row_pool.specs.declared.notes.Notes.{Notes}
+use Rattle.row_pool.specs.Notes.{noted_at}
+
+-- which places are marked, the notes of the common places, and the places' own
+pub record NotesData : Type 0 where
+  pub marks : List Bool
+  pub common : List Note
+  pub own : List Note
+
+-- all three
+abbrev pub notes_data : Notes → NotesData
+notes_data notes = record { marks = notes.marks.items; common = notes.common.items; own = notes.own.items }
+
+-- nothing is marked or noted
+abbrev pub no_notes : NotesData
+no_notes = record { marks = []; common = []; own = [] }
+
+-- the reason of a place with this common place, if it has one
+abbrev pub reason_in : NotesData → ℕ → ℕ → Option Reason
+reason_in notes common place = if slice_index_or notes.marks place false then noted_at notes.common common else noted_at notes.own place
+
+-- where the place is marked, its common place has a reason
+abbrev pub IsHeld : NotesData → ℕ → ℕ → Type 0
+IsHeld notes common place = slice_index_or notes.marks place false ≡ true → noted_at notes.common common ≢ None
+
+-- no note changes but one that wasn't set
+abbrev pub StandsAfter : List Note → List Note → ℕ → Type 0
+StandsAfter before after place = (k : ℕ) → (noted_at after k ≡ noted_at before k) ⊎ ((k ≡ place) × (noted_at before k ≡ None))

@@ -1,0 +1,149 @@
+//! The reasons that a pool's rows have for their actions.
+ghost use Rattle.std.specs.Prelude.{◌≡◌, ◌<◌, ◌+◌, ◌⊎◌, ℕ, Bool, true, false, Some, IsTrue, IfOk, IfSome, IfNone, slice_index_or, vec_len, vec_capacity};
+ghost use Rattle.row_pool.specs.Notes.{noted_at};
+ghost use Rattle.row_pool.specs.Kept.{notes_data, no_notes, reason_in, IsHeld, StandsAfter};
+
+use crate::note::Note;
+use brake_base::Reason;
+use std::alloc::{AllocError, Global};
+
+/// Reasons, each at a place of its own that shares a common place with others. The first reason that
+/// came for a common place is kept there, and the places that have the same are marked: so where
+/// most are the same, each takes a byte.
+#[derive(Drop)]
+pub struct Notes {
+    /// Which places have the reason of their common place, up to the last that was set.
+    pub marks: Vec<bool>,
+    /// The reasons of the common places, up to the last that was set.
+    pub common: Vec<Note>,
+    /// The reasons of the places that aren't marked, up to the last of them that was set.
+    pub own: Vec<Note>,
+}
+
+/// Fills a list up with a value, so that the place is in it.
+#[tactic(auto, using(crate::proofs::NotesLemmas::fill_lemmas))]
+fn fill<T: Copy>(list: &mut Vec<T>, place: usize, value: T)
+    requires room { place < vec_capacity list.old }
+    ensures place { place < vec_len list.new }
+    ensures length { (vec_len list.new ≡ vec_len list.old) ⊎ (vec_len list.new ≡ place + 1) }
+    ensures same { (k : ℕ)
+        → slice_index_or list.new.items k value ≡ slice_index_or list.old.items k value }
+    ensures same_memory { vec_capacity list.new ≡ vec_capacity list.old }
+{
+    while list.len() <= place {
+        list.push_reserved(value);
+    }
+}
+
+/// Whether both reasons are one.
+fn is_same(first: Reason, second: Reason) -> bool
+    ensures { IsTrue result → first ≡ second }
+{
+    first == second
+}
+
+/// Whether the reason of a common place is this one. Where the place has none yet, it is this one
+/// from now on.
+fn is_common(common: &mut Vec<Note>, place: usize, reason: Reason) -> bool
+    requires place { place < vec_len common.old }
+    ensures yes { IsTrue result → noted_at common.new.items place ≡ Some reason }
+    ensures stands { StandsAfter common.old.items common.new.items place }
+    ensures length { vec_len common.new ≡ vec_len common.old }
+    ensures same_memory { vec_capacity common.new ≡ vec_capacity common.old }
+{
+    match common[place].reason() {
+        Some(first) => is_same(first, reason),
+        None => {
+            common[place] = Note::of(reason);
+            true
+        }
+    }
+}
+
+/// Notes the reason of a place, unless the place has the common one.
+fn set_own(own: &mut Vec<Note>, place: usize, reason: Reason, is_common: bool)
+    requires room { place < vec_capacity own.old }
+    ensures here { is_common ≡ false → noted_at own.new.items place ≡ Some reason }
+    ensures others { (k : ℕ) → (k ≡ place → ⊥)
+        → noted_at own.new.items k ≡ noted_at own.old.items k }
+    ensures length { (vec_len own.new ≡ vec_len own.old) ⊎ (vec_len own.new ≡ place + 1) }
+    ensures same_memory { vec_capacity own.new ≡ vec_capacity own.old }
+{
+    if is_common {
+        return;
+    }
+    fill(own, place, Note::Unset);
+    own[place] = Note::of(reason);
+}
+
+/// The reason that was noted at a place. None where none was, as past the last note.
+fn noted_in(notes: &[Note], place: usize) -> Option<Reason>
+    ensures { result ≡ noted_at notes.now place }
+{
+    match notes.get(place) {
+        Some(note) => note.reason(),
+        None => None,
+    }
+}
+
+/// Whether a place is marked. None past the last mark is.
+fn is_marked(marks: &[bool], place: usize) -> bool
+    ensures { result ≡ slice_index_or marks.now place false }
+{
+    match marks.get(place) {
+        Some(mark) => *mark,
+        None => false,
+    }
+}
+
+impl Notes {
+    /// No reason, and all memory for so many common places and so many places.
+    pub fn open(alloc: Global, common: usize, places: usize) -> Result<Notes, AllocError>
+        ensures none { IfOk result (λ notes. notes_data notes ≡ no_notes) }
+        ensures marks { IfOk result (λ notes. vec_capacity notes.marks ≡ places) }
+        ensures common { IfOk result (λ notes. vec_capacity notes.common ≡ common) }
+        ensures own { IfOk result (λ notes. vec_capacity notes.own ≡ places) }
+    {
+        let marks = Vec::with_capacity(alloc, places)?;
+        let common = Vec::with_capacity(alloc, common)?;
+        let own = Vec::with_capacity(alloc, places)?;
+        Ok(Notes { marks, common, own })
+    }
+
+    /// Sets the reason of a place with this common place, and leaves those of all other places.
+    pub fn set(&mut self, common: usize, place: usize, reason: Reason)
+        requires common_room { common < vec_capacity self.old.common }
+        requires marks_room { place < vec_capacity self.old.marks }
+        requires own_room { place < vec_capacity self.old.own }
+        ensures here { reason_in (notes_data self.new) common place ≡ Some reason }
+        ensures held { IsHeld (notes_data self.new) common place }
+        ensures others { (c p : ℕ) → (p ≡ place → ⊥) → IsHeld (notes_data self.old) c p
+            → reason_in (notes_data self.new) c p ≡ reason_in (notes_data self.old) c p }
+        ensures held_others { (c p : ℕ) → (p ≡ place → ⊥) → IsHeld (notes_data self.old) c p
+            → IsHeld (notes_data self.new) c p }
+        ensures marks { (vec_len self.new.marks ≡ vec_len self.old.marks)
+            ⊎ (vec_len self.new.marks ≡ place + 1) }
+        ensures own { (vec_len self.new.own ≡ vec_len self.old.own)
+            ⊎ (vec_len self.new.own ≡ place + 1) }
+        ensures marks_memory { vec_capacity self.new.marks ≡ vec_capacity self.old.marks }
+        ensures common_memory { vec_capacity self.new.common ≡ vec_capacity self.old.common }
+        ensures own_memory { vec_capacity self.new.own ≡ vec_capacity self.old.own }
+    {
+        fill(&mut self.marks, place, false);
+        fill(&mut self.common, common, Note::Unset);
+        let is_common = is_common(&mut self.common, common, reason);
+        self.marks[place] = is_common;
+        set_own(&mut self.own, place, reason, is_common);
+    }
+
+    /// The reason of a place with this common place. None where none was set.
+    pub fn reason(&self, common: usize, place: usize) -> Option<Reason>
+        ensures { result ≡ reason_in (notes_data self.now) common place }
+    {
+        if is_marked(&self.marks, place) {
+            noted_in(&self.common, common)
+        } else {
+            noted_in(&self.own, place)
+        }
+    }
+}
