@@ -3,3 +3,9 @@ mod SameGauge
 mod StrokeGroups
 mod Places
 mod Firsts
+mod ReasonOrder
+mod Merged
+mod MovedReasons
+mod StageReasons
+mod BoxSteps
+mod Records

@@ -1,12 +1,12 @@
 -- What is found on the way to a stroke.
-use Rattle.std.specs.Prelude.{ℕ, ◌<◌, List, length, Option}
+use Rattle.std.specs.Prelude.{ℕ, ◌<◌, List, length, Option, Some, None}
 use Rattle.brake_base.specs.declared.mask.Mask.{Mask}
 use Rattle.brake_base.specs.declared.stroke.Back.{Back}
 use Rattle.brake_base.specs.declared.stroke.Gauge.{Gauge}
 use Rattle.brake_base.specs.declared.reason.Reason.{Reason}
-use Rattle.fold_boxes.specs.Pose.{PoseData}
+use Rattle.brake_base.specs.declared.reason.Reason.TheVariants.{NoGauge}
 use Rattle.job_setup.specs.Setup.{JobData}
-use Rattle.job_setup.specs.Reasons.{pose_at, IsPoseAt}
+use Rattle.job_setup.specs.Reasons.{pose_at}
 use Rattle.gauge_rules.specs.Pairs.{IsFirstLegal}
 use Rattle.stroke_table.specs.Strokes.{IsFirstAt, reason_at}
 
@@ -18,6 +18,8 @@ IsGaugeOf job mask group back gauge = (stage : ℕ) → stage < length job.setup
 abbrev pub AreFirst : JobData → Mask → Mask → Back → ℕ → List (Option Reason) → Type 0
 AreFirst job mask group back stages reasons = (stage : ℕ) → stage < stages → IsFirstAt job mask group back stage (reason_at reasons stage)
 
--- it is the first reason at the stage of each stroke whose pose this is
-abbrev pub IsFirstIn : JobData → PoseData → ℕ → Option Reason → Type 0
-IsFirstIn job pose stage reason = (stroke : IsPoseAt job stage pose) → IsFirstAt job stroke.mask stroke.group stroke.back stage reason
+-- the first reason of all, from the first that isn't NoGauge and the first legal pair
+abbrev pub with_gauge : Option Reason → Option Gauge → Option Reason
+with_gauge (Some reason) gauge = Some reason
+with_gauge None (Some pair) = None
+with_gauge None None = Some NoGauge

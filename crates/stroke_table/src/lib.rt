@@ -2,6 +2,8 @@
 //! fingers stand, and why the stroke is refused at each stage.
 #![tactic(auto)]
 
+mod box_reasons;
+mod box_records;
 mod finding;
 mod holding;
 mod stroke;

@@ -6,6 +6,7 @@ ghost use Rattle.job_setup.specs.Setup.{shape_of};
 ghost use Rattle.stroke_table.specs.Strokes.{IsStrokeOf, HoldsAgainst};
 ghost use Rattle.stroke_table.specs.Table.{place_of, place_count};
 
+use crate::box_records::BoxRecords;
 use crate::finding::find_stroke;
 use crate::holding::holds_by;
 use crate::stroke::Stroke;
@@ -18,18 +19,20 @@ use std::marker::Model;
 #[derive(Drop)]
 pub struct StrokeTable {
     job: Job,
+    kept: BoxRecords,
     strokes: Vec<Option<Stroke>>,
 }
 
 impl Model for StrokeTable {
     ghost use Rattle.job_setup.specs.Setup.{JobData};
     ghost use Rattle.stroke_table.specs.Table.{IsTable};
+    ghost use Rattle.stroke_table.specs.BoxReasons.{AreKept};
 
     ghost Value = { JobData };
 
     ghost view = { λ t. t.job };
 
-    ghost invariant = { λ t. IsTable t.job t.strokes.items };
+    ghost invariant = { λ t. IsTable t.job t.strokes.items × AreKept t.job t.kept };
 }
 
 impl StrokeTable {
@@ -40,6 +43,7 @@ impl StrokeTable {
     {
         Ok(StrokeTable {
             job: job.copy(),
+            kept: BoxRecords::open(alloc, job)?,
             strokes: no_strokes(alloc, place_count(job))?,
         })
     }
@@ -68,7 +72,7 @@ impl StrokeTable {
         match known_at(&self.strokes, place) {
             Some(stroke) => stroke,
             None => {
-                let stroke = find_stroke(job, places, mask, lead, back);
+                let stroke = find_stroke(job, &mut self.kept, places, mask, lead, back);
                 let kept = &stroke;
                 self.strokes[place] = Some(*kept);
                 stroke

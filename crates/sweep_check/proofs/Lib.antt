@@ -4,7 +4,9 @@ pub mod Some
 pub mod Ascending
 pub mod FirstHits
 pub mod Orders
+pub mod Alike
 pub mod Bounds
+pub mod AroundLists
 pub mod PieceLists
 pub mod HitKinds
 pub mod KindsOf

@@ -1,5 +1,5 @@
 -- The first reason against a stroke.
-use Rattle.std.specs.Prelude.{◌≢◌, ℕ, ◌≤◌, List, slice_index_or, Option, Some, None}
+use Rattle.std.specs.Prelude.{◌≢◌, ℕ, ◌≤◌, pos, List, [], slice_index_or, Option, Some, None}
 use Rattle.brake_base.specs.declared.mask.Mask.{Mask}
 use Rattle.brake_base.specs.declared.stroke.Back.{Back}
 use Rattle.brake_base.specs.declared.stroke.Back.TheVariants.{Parent, Child}
@@ -56,3 +56,7 @@ no_box = record { id = 0; half = BackHalf; body = record { lo = origin; hi = ori
 -- the side at the back, by the half of the box of the lead's child
 abbrev pub back_in : List PoseBox → ℕ → Back
 back_in boxes lead = back_by (slice_index_or boxes lead no_box).half
+
+-- boxes alone as a pose: the kinds from Frame to SelfHit look at nothing else
+abbrev pub pose_of_boxes : List PoseBox → PoseData
+pose_of_boxes boxes = record { bend = 0; group = record { 0 = 0 }; boxes = boxes; places = []; x0 = pos 0; x1 = pos 0 }

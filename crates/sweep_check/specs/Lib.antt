@@ -1,5 +1,6 @@
 pub mod FirstReasons
 pub mod Pieces
 pub mod Hits
+pub mod Around
 pub mod SunkLaw
 pub mod MotionFree

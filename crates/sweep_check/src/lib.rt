@@ -11,5 +11,8 @@ mod ranges;
 mod reasons;
 mod self_hits;
 mod sides;
+mod surroundings;
 
+pub use kinds::{first_at_lines, first_of_boxes, first_of_halves, load};
 pub use reasons::{first_reason, holds};
+pub use surroundings::Surroundings;
