@@ -6,10 +6,10 @@ use Rattle.job_setup.specs.Setup.{JobData}
 use Rattle.plan_cert.specs.Cert.{CertData}
 use Rattle.plan_cert.specs.CertReading.{CertFileData, cert_file_of}
 use Rattle.plan_cert.specs.GoodCert.{IsGoodCert}
-use Rattle.plan_cert.proofs.ReadWell.{read_file}
+use Rattle.plan_cert.proofs.Exactly.{text_gives}
 use Rattle.cert_check.specs.declared.fault.CheckFault.{CheckFault}
 use Rattle.cert_check.specs.declared.fault.CheckFault.TheVariants.{Cert, BadStep, BadCost, BadReason, NotClosed, TooLow, NoMemory, Unfinished}
-use Rattle.cert_check.specs.Texts.{IsTextOf}
+use Rattle.cert_check.specs.Texts.{IsTextOfCert}
 use Rattle.cert_check.specs.Checking.{CheckedData, verdict_of, IsGoodText, IsFaulty, IsAnswer}
 use Rattle.cert_check.proofs.Truth.{fault_is_not_good}
 
@@ -19,9 +19,13 @@ same_file text f g first second = same_Some f g (ap result_ok (sym first ∙ sec
 abbrev file : JobData → CertData → ℕ → CertFileData
 file job cert version = record { job = job; cert = cert; version = version }
 
-module _ (text : List ℕ) (job other : JobData) (cert another : CertData) (first : IsTextOf text job cert) (second : IsTextOf text other another) where
+-- the text of a certificate is read as this certificate
+pub text_reads : (text : List ℕ) (job : JobData) (cert : CertData) (written : IsTextOfCert text job cert) → cert_file_of text ≡ Ok (file job cert written.version)
+text_reads text job cert written = text_gives text (file job cert written.version) written.exact
+
+module _ (text : List ℕ) (job other : JobData) (cert another : CertData) (first : IsTextOfCert text job cert) (second : IsTextOfCert text other another) where
   same : file job cert first.version ≡ file other another second.version
-  same = same_file text (file job cert first.version) (file other another second.version) first.reads second.reads
+  same = same_file text (file job cert first.version) (file other another second.version) (text_reads text job cert first) (text_reads text other another second)
 
   -- a text is that of one job and one certificate
   pub one_text : (job ≡ other) × (cert ≡ another)
@@ -31,8 +35,8 @@ module _ (text : List ℕ) (job other : JobData) (cert another : CertData) (firs
 no_fault : (text : List ℕ) (job : JobData) (cert : CertData) (fault : CheckFault) → IsGoodText text job cert → IsFaulty text fault → ⊥
 no_fault text job cert fault good faulty =
     let same = one_text text faulty.job job faulty.cert cert faulty.written good.written in
-    let read = read_file text (record { job = faulty.job; cert = faulty.cert; version = faulty.written.version }) faulty.written.reads in
-    fault_is_not_good faulty.job read.job faulty.cert read.form fault faulty.cause
+    let exact = faulty.written.exact in
+    fault_is_not_good faulty.job exact.job faulty.cert exact.form fault faulty.cause
     (subst (λ (c : CertData). IsGoodCert faulty.job c) (sym same.1) (subst (λ (j : JobData). IsGoodCert j cert) (sym same.0) good.good))
 
 -- the text of a good certificate is accepted, with its claim and its job
@@ -42,7 +46,7 @@ good_text_accepted text job cert (Ok checked) good is =
     let same = one_text text checked.job job is.cert cert is.good.written good.written in
     let verdict = is.verdict ∙ ap (λ (c : CertData). verdict_of c.claim) same.1 in
     λ i. Ok (record { verdict = verdict i; job = same.0 i })
-good_text_accepted text job cert (Err (Cert fault)) good is = absurd (refused (sym good.written.reads ∙ is))
+good_text_accepted text job cert (Err (Cert fault)) good is = absurd (refused (sym (text_reads text job cert good.written) ∙ is))
   where
     refused : {f : CertFileData} → Ok f ≡ Err fault → ⊥
     refused same = cc

@@ -10,10 +10,9 @@ use Rattle.handling_cost.specs.Good.{AreClaimed}
 use Rattle.plan_cert.specs.Cert.{CertData}
 use Rattle.plan_cert.specs.WellFormed.{IsWellFormed}
 use Rattle.plan_cert.specs.GoodCert.{IsGoodCert}
-use Rattle.plan_cert.proofs.ReadWell.{read_file}
 use Rattle.cert_check.specs.declared.fault.CheckFault.{CheckFault}
 use Rattle.cert_check.specs.declared.fault.CheckFault.TheVariants.{Cert, BadStep, BadCost, BadReason, NotClosed, TooLow, NoMemory, Unfinished}
-use Rattle.cert_check.specs.Texts.{IsTextOf}
+use Rattle.cert_check.specs.Texts.{IsTextOfCert}
 use Rattle.cert_check.specs.Heads.{HeadsAnswer}
 use Rattle.cert_check.specs.Steps.{AreFaulty}
 use Rattle.cert_check.specs.RowFaults.{RowsAreAccounted, IsProved}
@@ -23,8 +22,8 @@ use Rattle.cert_check.specs.Checking.{CheckedData, IsFault, IsRefused, IsAnswer,
 use Rattle.cert_check.proofs.Truth.{is_good}
 
 -- the job of a certificate's text is valid, and the certificate is well formed
-pub text_form : (text : List ℕ) (job : JobData) (cert : CertData) → IsTextOf text job cert → IsJob job × IsWellFormed job cert
-text_form text job cert written = let read = read_file text (record { job = job; cert = cert; version = written.version }) written.reads in (read.job, read.form)
+pub text_form : (text : List ℕ) (job : JobData) (cert : CertData) → IsTextOfCert text job cert → IsJob job × IsWellFormed job cert
+text_form text job cert written = (written.exact.job, written.exact.form)
 
 module _ (job : JobData) (cert : CertData) where
   -- ---- the claim
@@ -71,7 +70,7 @@ module _ (job : JobData) (cert : CertData) where
   steps_refused fault is = inr (steps_fault fault is)
 
 -- ---- the text
-faulty : (text : List ℕ) (job : JobData) (cert : CertData) → IsTextOf text job cert → (fault : CheckFault) → IsFault job cert fault → IsRefused text fault
+faulty : (text : List ℕ) (job : JobData) (cert : CertData) → IsTextOfCert text job cert → (fault : CheckFault) → IsFault job cert fault → IsRefused text fault
 faulty text job cert written (Cert fault) is = absurd is
 faulty text job cert written (BadStep index fault) is = record { job = job; cert = cert; written = written; cause = is }
 faulty text job cert written BadCost is = record { job = job; cert = cert; written = written; cause = is }
@@ -81,17 +80,17 @@ faulty text job cert written TooLow is = record { job = job; cert = cert; writte
 faulty text job cert written NoMemory is = absurd is
 faulty text job cert written Unfinished is = record { job = job; cert = cert; written = written; cause = is }
 
-pub text_refused : (text : List ℕ) (job : JobData) (cert : CertData) → IsTextOf text job cert → (fault : CheckFault) → CertAnswer job cert (Err fault) → (fault ≡ NoMemory) ⊎ IsAnswer text (Err fault)
+pub text_refused : (text : List ℕ) (job : JobData) (cert : CertData) → IsTextOfCert text job cert → (fault : CheckFault) → CertAnswer job cert (Err fault) → (fault ≡ NoMemory) ⊎ IsAnswer text (Err fault)
 text_refused text job cert written fault (inl memory) = inl memory
 text_refused text job cert written fault (inr is) = inr (faulty text job cert written fault is)
 
-pub text_accepted : (text : List ℕ) (job : JobData) (cert : CertData) → IsTextOf text job cert → CertAnswer job cert (Ok tt) → (checked : CheckedData) → checked.job ≡ job → checked.verdict ≡ verdict_of cert.claim → IsAnswer text (Ok checked)
+pub text_accepted : (text : List ℕ) (job : JobData) (cert : CertData) → IsTextOfCert text job cert → CertAnswer job cert (Ok tt) → (checked : CheckedData) → checked.job ≡ job → checked.verdict ≡ verdict_of cert.claim → IsAnswer text (Ok checked)
 text_accepted text job cert written answer checked jobs verdict =
     let form = text_form text job cert written in
     record {
       cert = cert;
       good = record {
-        written = subst (λ (j : JobData). IsTextOf text j cert) (sym jobs) written;
+        written = subst (λ (j : JobData). IsTextOfCert text j cert) (sym jobs) written;
         good = subst (λ (j : JobData). IsGoodCert j cert) (sym jobs) (is_good job form.0 cert form.1 answer.0 answer.1);
       };
       verdict = verdict;

@@ -14,10 +14,11 @@ use Rattle.plan_cert.specs.declared.format.Kind.TheVariants.{Certificate}
 use Rattle.plan_cert.specs.Reading.{Reading}
 use Rattle.plan_cert.specs.Cert.{CertData}
 use Rattle.plan_cert.specs.Items.{items}
+use Rattle.plan_cert.specs.PlanItem.{job_answer}
 use Rattle.plan_cert.specs.CertReading.{CertFileData, version_in, no_cert, with_item, is_last, cert_of, with_job, cert_file_of, answers_left}
 use Rattle.plan_cert.proofs.Collecting.{goes_on}
 use Rattle.cert_check.specs.declared.heads.Heads.{Heads}
-use Rattle.cert_check.specs.Heads.{HasHeads, ItemAnswer, JobAnswer, behind, job_in}
+use Rattle.cert_check.specs.Heads.{HasHeads, ItemAnswer, JobAnswer, behind}
 
 answers : Reading → List (Result Item CertFault)
 answers r = items r.kind r.text
@@ -77,28 +78,6 @@ pub first_fault : (text : List ℕ) (more : List (Result Item CertFault)) (fault
 unfolding cert_file_of with_job
 first_fault text more fault begins = ap (with_job text) begins
 
-abbrev is_job_item : Item → Bool
-is_job_item (given.Job job) = true
-is_job_item _ = false
-
-other_first : (text : List ℕ) (item : Item) (more : List (Result Item CertFault)) → items Certificate text ≡ Ok item ∷ more → is_job_item item ≡ false → cert_file_of text ≡ Err Unended
-unfolding cert_file_of with_job
-other_first text (given.Job job) more begins other = absurd cc
-other_first text (given.Claim claim) more begins other = ap (with_job text) begins
-other_first text (given.Step step) more begins other = ap (with_job text) begins
-other_first text (given.Row head) more begins other = ap (with_job text) begins
-other_first text (given.Note action reason) more begins other = ap (with_job text) begins
-other_first text given.End more begins other = ap (with_job text) begins
-
--- the first item is the job, or the text is refused
-pub first_item : (text : List ℕ) (item : Item) (more : List (Result Item CertFault)) → items Certificate text ≡ Ok item ∷ more → JobAnswer text (job_in item) more
-first_item text (given.Job job) more begins = begins
-first_item text (given.Claim claim) more begins = other_first text (given.Claim claim) more begins refl
-first_item text (given.Step step) more begins = other_first text (given.Step step) more begins refl
-first_item text (given.Row head) more begins = other_first text (given.Row head) more begins refl
-first_item text (given.Note action reason) more begins = other_first text (given.Note action reason) more begins refl
-first_item text given.End more begins = other_first text given.End more begins refl
-
 -- where answers make a certificate there are some
 pub some_answer : (before cert : CertData) (left : List (Result Item CertFault)) → cert_of before left ≡ Ok cert → 0 < length left
 some_answer before cert [] is = absurd (refused cert (sym (of_none before []) ∙ is))
@@ -143,14 +122,15 @@ begins r answer kind first given =
 pub answer_behind : (r : Reading) (item : Item) → slice_get (items r.kind r.text) r.answered ≡ Some (Ok item) → is_last item ≡ false → 0 < length (answers_left (behind r))
 answer_behind r item given goes = some_left (behind r) (goes_on r.kind r.text r.answered item given goes)
 
--- behind the job an answer is left
-pub job_behind : (r : Reading) (item : Item) → slice_get (items r.kind r.text) r.answered ≡ Some (Ok item) → IfOk (job_in item) (λ _. r.answered + 1 < length (items r.kind r.text))
-job_behind r (given.Job job) is = goes_on r.kind r.text r.answered (given.Job job) is refl
-job_behind r (given.Claim claim) is = tt
-job_behind r (given.Step step) is = tt
-job_behind r (given.Row head) is = tt
-job_behind r (given.Note action reason) is = tt
-job_behind r given.End is = tt
+-- the first answer is the job, behind which an answer is left, or the text is refused
+pub job_first : (r : Reading) (answer : Result JobData CertFault) → r.kind ≡ Certificate → r.answered ≡ 0 → slice_get (items r.kind r.text) r.answered ≡ Some (job_answer answer)
+    → JobAnswer r.text answer (answers_left (behind r))
+job_first r (Ok job) kind first is = begins r (Ok (given.Job job)) kind first is
+job_first r (Err fault) kind first is = first_fault r.text (answers_left (behind r)) fault (begins r (Err fault) kind first is)
+
+pub job_behind : (r : Reading) (answer : Result JobData CertFault) → slice_get (items r.kind r.text) r.answered ≡ Some (job_answer answer) → IfOk answer (λ _. r.answered + 1 < length (items r.kind r.text))
+job_behind r (Ok job) is = goes_on r.kind r.text r.answered (given.Job job) is refl
+job_behind r (Err fault) is = tt
 
 -- ---- the items of a certificate's text
 by_file : (text : List ℕ) (job : JobData) (r : Result CertData CertFault) (f : CertFileData) → file_by text job r ≡ Ok f → r ≡ Ok f.cert
@@ -172,3 +152,7 @@ with_job_items text (Ok given.End ∷ more) f is = absurd cc
 pub text_items : (text : List ℕ) (f : CertFileData) → cert_file_of text ≡ Ok f → cert_of no_cert (items Certificate text) ≡ Ok f.cert
 unfolding cert_file_of
 text_items text f is = with_job_items text (items Certificate text) f is
+
+-- so do those behind the job
+pub text_items_behind : (text : List ℕ) (f : CertFileData) (job : JobData) (left : List (Result Item CertFault)) → cert_file_of text ≡ Ok f → items Certificate text ≡ Ok (given.Job job) ∷ left → cert_of no_cert left ≡ Ok f.cert
+text_items_behind text f job left is begins = sym (of_item no_cert left (given.Job job) refl) ∙ (ap (cert_of no_cert) (sym begins) ∙ text_items text f is)

@@ -16,7 +16,7 @@ use Rattle.cert_check.specs.declared.fault.CheckFault.{CheckFault}
 use Rattle.cert_check.specs.declared.fault.CheckFault.TheVariants.{Cert, BadStep, BadCost, BadReason, NotClosed, TooLow, NoMemory, Unfinished}
 use Rattle.cert_check.specs.StepFaults.{IsFirstBadStep, AreUnfinished, IsBadCost}
 use Rattle.cert_check.specs.RowFaults.{RowsAreAccounted, IsFirstFault, IsBadReason, IsNotClosed, IsProved}
-use Rattle.cert_check.specs.Texts.{IsTextOf, IsRefusedFor}
+use Rattle.cert_check.specs.Texts.{IsTextOfCert, IsRefusedFor}
 
 -- an accepted claim, and the job of which it is proved
 pub record CheckedData : Type 0 where
@@ -32,7 +32,7 @@ verdict_of Blocked = NoPlan
 
 -- the text is that of a certificate that is good for a valid job
 pub record IsGoodText (text : List ℕ) (job : JobData) (cert : CertData) : Type 0 where
-  pub written : IsTextOf text job cert
+  pub written : IsTextOfCert text job cert
   pub good : IsGoodCert job cert
 
 -- the steps are as claimed, and each action at each row is accounted for
@@ -61,7 +61,7 @@ pub record IsAccepted (text : List ℕ) (checked : CheckedData) : Type 0 where
 pub record IsFaulty (text : List ℕ) (fault : CheckFault) : Type 0 where
   pub job : JobData
   pub cert : CertData
-  pub written : IsTextOf text job cert
+  pub written : IsTextOfCert text job cert
   pub cause : IsFault job cert fault
 
 -- the text is refused for this as the first cause: it is no certificate's text, or its certificate isn't good
@@ -104,7 +104,7 @@ CertAnswer job cert (Err fault) = (fault ≡ NoMemory) ⊎ IsFault job cert faul
 -- the text is that of the job's certificate, of which these are all parts but the notes
 pub record AreParts (text : List ℕ) (job : JobData) (claim : Worth) (steps : List Step) (rows : List RowHead) : Type 0 where
   pub cert : CertData
-  pub written : IsTextOf text job cert
+  pub written : IsTextOfCert text job cert
   pub claim_is : claim ≡ cert.claim
   pub steps_are : steps ≡ cert.steps
   pub rows_are : rows ≡ cert.rows

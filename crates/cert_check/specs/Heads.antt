@@ -5,7 +5,6 @@ use Rattle.job_setup.specs.Setup.{JobData}
 use Rattle.plan_cert.specs.declared.cert.RowHead.{RowHead}
 use Rattle.plan_cert.specs.declared.item.Item.{Item}
 use Rattle.plan_cert.specs.declared.item.CertFault.{CertFault}
-use Rattle.plan_cert.specs.declared.item.CertFault.TheVariants.{Unended}
 use Rattle.plan_cert.specs.Cert.{CertData}
 use Rattle.plan_cert.specs.Reading.{Reading}
 use Rattle.plan_cert.specs.declared.item.Item.TheVariants as given
@@ -15,7 +14,7 @@ use Rattle.plan_cert.specs.CertReading.{cert_of}
 use Rattle.cert_check.specs.declared.fault.CheckFault.{CheckFault}
 use Rattle.cert_check.specs.declared.fault.CheckFault.TheVariants.{Cert, NoMemory}
 use Rattle.cert_check.specs.declared.heads.Heads.{Heads}
-use Rattle.cert_check.specs.Texts.{IsTextOf, IsRefusedFor}
+use Rattle.cert_check.specs.Texts.{IsTextOfCert, IsRefusedFor}
 
 -- it has all of the certificate but the notes
 pub record HasHeads (heads : Heads) (cert : CertData) : Type 0 where
@@ -26,12 +25,12 @@ pub record HasHeads (heads : Heads) (cert : CertData) : Type 0 where
 -- the text is that of a certificate of this job and these rows
 pub record IsTextOfRows (text : List ℕ) (job : JobData) (rows : List RowHead) : Type 0 where
   pub cert : CertData
-  pub written : IsTextOf text job cert
+  pub written : IsTextOfCert text job cert
   pub same : rows ≡ cert.rows
 
 -- all of the text's certificate but its notes, or the refusal of the text, unless memory ran out
 abbrev pub HeadsAnswer : List ℕ → Result Heads CheckFault → Type 0
-HeadsAnswer text (Ok heads) = (cert : CertData) × IsTextOf text heads.job cert × HasHeads heads cert
+HeadsAnswer text (Ok heads) = (cert : CertData) × IsTextOfCert text heads.job cert × HasHeads heads cert
 HeadsAnswer text (Err (Cert fault)) = IsRefusedFor text fault
 HeadsAnswer text (Err NoMemory) = Unit {0}
 HeadsAnswer text (Err _) = ⊥
@@ -54,14 +53,9 @@ abbrev pub JobAnswer : List ℕ → Result JobData CertFault → List (Result It
 JobAnswer text (Ok job) left = items Certificate text ≡ Ok (given.Job job) ∷ left
 JobAnswer text (Err fault) left = IsRefusedFor text fault
 
--- the job that an item is
-abbrev pub job_in : Item → Result JobData CertFault
-job_in (given.Job job) = Ok job
-job_in _ = Err Unended
-
 -- the text is that of the job's certificate, of which these are the claim and the rows
 pub record AreRowParts (text : List ℕ) (job : JobData) (claim : Worth) (rows : List RowHead) : Type 0 where
   pub cert : CertData
-  pub written : IsTextOf text job cert
+  pub written : IsTextOfCert text job cert
   pub claim_is : claim ≡ cert.claim
   pub rows_are : rows ≡ cert.rows

@@ -70,7 +70,8 @@ RowsAnswer job cert (Err (BadReason row action)) = IsFirstFault job cert row act
 RowsAnswer job cert (Err (NotClosed row action)) = IsFirstFault job cert row action (IsNotClosed job cert row action)
 RowsAnswer job cert (Err _) = ⊥
 
--- a reader of the same text, further on or not
+-- a reader of the same text, as far on or further
 pub record IsSameText (reader other : Reading) : Type 0 where
   pub kind : other.kind ≡ reader.kind
   pub text : other.text ≡ reader.text
+  pub further : reader.answered ≤ other.answered

@@ -1,14 +1,15 @@
 -- Which certificate a text is.
-use Rattle.std.specs.Prelude.{◌≡◌, ℕ, List, Ok, Err}
+use Rattle.std.specs.Prelude.{◌≡◌, ℕ, List, Err}
 use Rattle.job_setup.specs.Setup.{JobData}
 use Rattle.plan_cert.specs.declared.item.CertFault.{CertFault}
 use Rattle.plan_cert.specs.Cert.{CertData}
 use Rattle.plan_cert.specs.CertReading.{cert_file_of}
+use Rattle.plan_cert.specs.ExactTexts.{IsTextOf}
 
--- the text is that of a certificate of a job, in one version or the other
-pub record IsTextOf (text : List ℕ) (job : JobData) (cert : CertData) : Type 0 where
+-- the text is, byte for byte, the one of a certificate that is well formed for a valid job, in one version or the other
+pub record IsTextOfCert (text : List ℕ) (job : JobData) (cert : CertData) : Type 0 where
   pub version : ℕ
-  pub reads : cert_file_of text ≡ Ok (record { job = job; cert = cert; version = version })
+  pub exact : IsTextOf (record { job = job; cert = cert; version = version }) text
 
 -- the text is no certificate's, and the reading refuses it first for this
 abbrev pub IsRefusedFor : List ℕ → CertFault → Type 0

@@ -1,15 +1,16 @@
 //! The first reading of a certificate: all of it but its notes.
-ghost use Rattle.std.specs.Prelude.{◌≡◌, ◌++◌, ◌∷◌, [], IfOk, OnOk, if◌then◌else◌, length, nat_lt, not};
+ghost use Rattle.std.specs.Prelude.{◌≡◌, ◌<◌, ◌++◌, ◌∷◌, [], IfOk, OnOk, if◌then◌else◌, length, nat_lt, not};
 ghost use Rattle.plan_cert.specs.declared.format.Kind.TheVariants.{Certificate};
 ghost use Rattle.plan_cert.specs.Cert.{CertData};
+ghost use Rattle.plan_cert.specs.PlanItem.{item_of};
 ghost use Rattle.plan_cert.specs.CertReading.{AnswersLeft, answers_left, is_last, with_item};
-ghost use Rattle.cert_check.specs.Heads.{HeadsAnswer, HasHeads, ItemAnswer, JobAnswer, behind, job_in};
+ghost use Rattle.cert_check.specs.Heads.{HeadsAnswer, HasHeads, ItemAnswer, JobAnswer, behind};
 
 use crate::fault::CheckFault;
 use arrayvec::ArrayVec;
 use brake_base::{Step, Worth};
 use job_setup::Job;
-use plan_cert::{CertFault, CertReader, Item, RowHead};
+use plan_cert::{CertFault, CertReader, PlanItem, RowHead};
 use std::alloc::{AllocError, Global};
 
 /// The job of a certificate, its claim, its steps and its rows, without its notes.
@@ -44,65 +45,53 @@ pub(crate) fn read_heads(alloc: Global, text: &[u8]) -> Result<Heads, CheckFault
 }
 
 /// The job, which is the first answer, or the refusal of the text.
-fn first_job(reader: &mut CertReader) -> Result<Job, CertFault>
+pub(crate) fn first_job(reader: &mut CertReader) -> Result<Job, CertFault>
     requires kind { reader.old.kind ≡ Certificate }
     requires first { reader.old.answered ≡ 0 }
     ensures reader { reader.new ≡ behind reader.old }
     ensures job { JobAnswer reader.old.text result (answers_left reader.new) }
     ensures more { IfOk result (λ _. AnswersLeft reader.new) }
 {
-    match reader.next() {
-        Ok(item) => job_in(item),
-        Err(fault) => Err(fault),
-    }
-}
-
-/// The job that an item is.
-fn job_in(item: Item) -> Result<Job, CertFault>
-    ensures { result ≡ job_in item }
-{
-    match item {
-        Item::Job(job) => Ok(job),
-        _ => Err(CertFault::Unended),
-    }
+    reader.read_job()
 }
 
 /// Reads an item and keeps what it says, but for a note. Whether another item follows.
 fn take_item(heads: &mut Heads, reader: &mut CertReader) -> Result<bool, CheckFault>
-    requires { AnswersLeft reader.old }
+    requires job { 0 < reader.old.answered }
+    requires left { AnswersLeft reader.old }
     ensures job { heads.new.job ≡ heads.old.job }
     ensures reader { reader.new ≡ behind reader.old }
     ensures item { (before : CertData) → HasHeads heads.old before → ItemAnswer result before
         (answers_left reader.old) heads.new (answers_left reader.new) }
 {
-    match reader.next() {
+    match reader.next_behind_job() {
         Ok(item) => Ok(keep(heads, item)?),
         Err(fault) => Err(CheckFault::Cert(fault)),
     }
 }
 
 /// Keeps what an item says, but for a note. Whether another item follows.
-fn keep(heads: &mut Heads, item: Item) -> Result<bool, AllocError>
+fn keep(heads: &mut Heads, item: PlanItem) -> Result<bool, AllocError>
     ensures job { heads.new.job ≡ heads.old.job }
-    ensures more { IfOk result (λ more. more ≡ not (is_last item)) }
+    ensures more { IfOk result (λ more. more ≡ not (is_last (item_of item))) }
     ensures kept { OnOk result ((before : CertData) → HasHeads heads.old before
-        → HasHeads heads.new (with_item before item)) }
+        → HasHeads heads.new (with_item before (item_of item))) }
 {
     match item {
-        Item::Claim(claim) => {
+        PlanItem::Claim(claim) => {
             heads.claim = claim;
             Ok(true)
         }
-        Item::Step(step) => {
+        PlanItem::Step(step) => {
             add_step(&mut heads.steps, step);
             Ok(true)
         }
-        Item::Row(row) => {
+        PlanItem::Row(row) => {
             heads.rows.push(row)?;
             Ok(true)
         }
-        Item::Note { .. } | Item::Job(_) => Ok(true),
-        Item::End => Ok(false),
+        PlanItem::Note { .. } => Ok(true),
+        PlanItem::End => Ok(false),
     }
 }
 

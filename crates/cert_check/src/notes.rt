@@ -1,19 +1,21 @@
 //! The second reading of a certificate: its notes, row by row. The notes of one row are held at a
 //! time.
-ghost use Rattle.std.specs.Prelude.{◌≡◌, IfOk, IsTrue, Ok, length};
+ghost use Rattle.std.specs.Prelude.{◌≡◌, ◌<◌, IfOk, IsTrue, Ok, length};
 ghost use Rattle.plan_cert.specs.Cert.{CertData};
+ghost use Rattle.plan_cert.specs.PlanItem.{item_of};
 ghost use Rattle.plan_cert.specs.CertReading.{AnswersLeft, answers_left, cert_of};
-ghost use Rattle.cert_check.specs.Texts.{IsTextOf};
+ghost use Rattle.cert_check.specs.Texts.{IsTextOfCert};
 ghost use Rattle.cert_check.specs.Heads.{IsTextOfRows, behind};
 ghost use Rattle.cert_check.specs.Notes.{HoldsNotes, IsSameText, NoteAnswer, NotesAnswer, RowsAnswer, is_within_row, with_item_reason, with_reason};
 
 use crate::fault::CheckFault;
+use crate::heads::first_job;
 use crate::row_table::RowTable;
 use crate::rows::check_row;
 use crate::set_table::SetTable;
 use brake_base::Reason;
 use job_setup::Job;
-use plan_cert::{CertReader, Item};
+use plan_cert::{CertReader, PlanItem};
 
 /// Refuses the first row and action that aren't accounted for.
 pub(crate) fn check_notes(
@@ -25,12 +27,13 @@ pub(crate) fn check_notes(
     requires text { IsTextOfRows text.now job.now rows.now.rows }
     requires rows { rows.now.job ≡ job.now }
     requires sets { sets.old ≡ job.now }
-    ensures answer { (cert : CertData) → IsTextOf text.now job.now cert
+    ensures answer { (cert : CertData) → IsTextOfCert text.now job.now cert
         → RowsAnswer job.now cert result }
     ensures sets { sets.new ≡ sets.old }
 {
     let _ = job.setup();
     let mut reader = CertReader::new(text);
+    let _ = first_job(&mut reader)?;
     // What stands before the head of the first row.
     let mut reasons = [None; 144];
     read_notes(&mut reader, &mut reasons)?;
@@ -50,7 +53,8 @@ fn read_notes(
     reader: &mut CertReader,
     reasons: &mut [Option<Reason>; 144],
 ) -> Result<(), CheckFault>
-    requires { AnswersLeft reader.old }
+    requires job { 0 < reader.old.answered }
+    requires left { AnswersLeft reader.old }
     ensures reader { IsSameText reader.old reader.new }
     ensures notes { (before cert : CertData) → cert_of before (answers_left reader.old) ≡ Ok cert
         → HoldsNotes before reasons.old
@@ -69,30 +73,31 @@ fn take_note(
     reader: &mut CertReader,
     reasons: &mut [Option<Reason>; 144],
 ) -> Result<bool, CheckFault>
-    requires { AnswersLeft reader.old }
+    requires job { 0 < reader.old.answered }
+    requires left { AnswersLeft reader.old }
     ensures reader { reader.new ≡ behind reader.old }
     ensures more { IfOk result (λ more. IsTrue more → AnswersLeft reader.new) }
     ensures note { (before cert : CertData) → cert_of before (answers_left reader.old) ≡ Ok cert
         → NoteAnswer before cert reasons.old reasons.new (answers_left reader.new) result }
 {
-    match reader.next() {
+    match reader.next_behind_job() {
         Ok(item) => Ok(note_item(reasons, item)),
         Err(fault) => Err(CheckFault::Cert(fault)),
     }
 }
 
 /// Keeps the reason of an item that is a note. Whether it is neither the head of a row nor the end.
-fn note_item(reasons: &mut [Option<Reason>; 144], item: Item) -> bool
-    ensures more { result ≡ is_within_row item }
-    ensures noted { reasons.new ≡ with_item_reason reasons.old item }
+fn note_item(reasons: &mut [Option<Reason>; 144], item: PlanItem) -> bool
+    ensures more { result ≡ is_within_row (item_of item) }
+    ensures noted { reasons.new ≡ with_item_reason reasons.old (item_of item) }
 {
     match item {
-        Item::Note { action, reason } => {
+        PlanItem::Note { action, reason } => {
             note(reasons, action, reason);
             true
         }
-        Item::Row(_) | Item::End => false,
-        Item::Job(_) | Item::Claim(_) | Item::Step(_) => true,
+        PlanItem::Row(_) | PlanItem::End => false,
+        PlanItem::Claim(_) | PlanItem::Step(_) => true,
     }
 }
 

@@ -80,6 +80,31 @@ row 2 0 0 100
 end
 ";
 
+/// The job lines of a base with two flanges on one side, which are bent in one stroke, in version 2.
+const GANG_JOB: &str = "brake-cert 2
+part S235 2000 2000 1919
+face base 100000 60000
+face left 0 N 0 45000 30000 up
+face right 0 N 55000 45000 30000 up
+bed 0 3000000
+upper 0 3000000 -60000 60000 0 300000
+lower 0 3000000 -30000 30000 -300000 0
+uncovered 5000
+gauge 5000 600000 5000 10000 10000 20000 10000 10000
+cost 100 20 30 60 80 40
+gang 1
+force 0
+stage 200000 300000
+punch P100 100000 6000
+box -6000 6000 6000 100000
+die D16 60000 16000 11000
+box -20000 -8000 -60000 0
+box -8000 8000 -60000 -8000
+box 8000 20000 -60000 0
+pieces 100000
+load 0 0
+";
+
 /// What checking a text of three parts comes to: the verdict or the first fault.
 fn answer_of(
     alloc: Global,
@@ -121,6 +146,11 @@ fn altered_rows_are_refused_by_their_first_fault(rt: HostRuntime) -> Result<(), 
         ),
         (
             "row 0 0 0 210\nrow 1 0 0 130\nx 2 P 0 8\nrow 2 0 0 100\nend\n",
+            CheckFault::NotClosed { row: 0, action: 2 },
+        ),
+        // The false note of row 1 stands behind the open action of row 0.
+        (
+            "row 0 0 0 210\nrow 1 0 0 130\nx 2 P 0 4 0 1 0\nrow 2 0 0 100\nend\n",
             CheckFault::NotClosed { row: 0, action: 2 },
         ),
         (
@@ -182,6 +212,63 @@ fn altered_steps_are_refused_by_their_first_fault(rt: HostRuntime) -> Result<(),
     ];
     for (steps, fault) in cases {
         assert_eq!(rt; answer_of(rt.alloc(), JOB, steps, ROWS)?, Err(fault));
+    }
+    Ok(())
+}
+
+#[test]
+fn two_flanges_of_a_gang_are_bent_by_their_lead(rt: HostRuntime) -> Result<(), Fail> {
+    let good = ("claim 100\nstep 1 C 0 1 1\n", "row 0 0 0 100\nend\n");
+    let optimal = Ok(Verdict::Optimal { cost: 100 });
+    assert_eq!(rt; answer_of(rt.alloc(), GANG_JOB, good.0, good.1)?, optimal);
+    let cases = [
+        (
+            "claim 100\nstep 2 C 0 1 1\n",
+            CheckFault::BadStep {
+                index: 0,
+                fault: StepFault::NotLead,
+            },
+        ),
+        ("claim 100\n", CheckFault::Unfinished),
+        // The sum isn't the claim either.
+        ("claim 90\n", CheckFault::Unfinished),
+        ("claim 90\nstep 1 C 0 1 1\n", CheckFault::BadCost),
+        (
+            "claim 100\nstep 1 C 0 1 1\nrow 0 0 0 100\nx 2 C 0 8\n",
+            CheckFault::Cert(CertFault::BadLine { line: 26 }),
+        ),
+    ];
+    for (steps, fault) in cases {
+        assert_eq!(rt;
+            answer_of(rt.alloc(), GANG_JOB, steps, "end\n")?,
+            Err(fault)
+        );
+    }
+    Ok(())
+}
+
+#[test]
+fn altered_jobs_are_refused_where_they_are_read(rt: HostRuntime) -> Result<(), Fail> {
+    let alloc = rt.alloc();
+    let cases = [
+        ("2000 1919", "2000 500", CertFault::BadJob),
+        (
+            "30 60 80 40\n",
+            "30 60 80 40\ngang 0\n",
+            CertFault::BadLine { line: 12 },
+        ),
+        (
+            "brake-cert 1",
+            "brake-cert 2",
+            CertFault::BadLine { line: 12 },
+        ),
+    ];
+    for (line, other, fault) in cases {
+        let job = JOB.replacen(alloc, line, other, 1)?;
+        assert_eq!(rt;
+            answer_of(alloc, &job, STEPS, ROWS)?,
+            Err(CheckFault::Cert(fault))
+        );
     }
     Ok(())
 }

@@ -1,7 +1,7 @@
 //! The check of a certificate.
 ghost use Rattle.std.specs.Prelude.{◌≡◌, IfOk};
 ghost use Rattle.plan_cert.specs.Cert.{CertData};
-ghost use Rattle.cert_check.specs.Texts.{IsTextOf};
+ghost use Rattle.cert_check.specs.Texts.{IsTextOfCert};
 ghost use Rattle.cert_check.specs.Heads.{AreRowParts};
 ghost use Rattle.cert_check.specs.Checking.{Answers, AreParts, CertAnswer, IsTrueOf, RowsVerdict, verdict_of};
 ghost use Rattle.cert_check.specs.Rows.{ProvesAnswer};
@@ -79,7 +79,8 @@ fn check_cert(
     rows: Vec<RowHead>,
 ) -> Result<(), CheckFault>
     requires { AreParts text.now job.now claim steps.now rows.items }
-    ensures { (cert : CertData) → IsTextOf text.now job.now cert → CertAnswer job.now cert result }
+    ensures { (cert : CertData) → IsTextOfCert text.now job.now cert
+        → CertAnswer job.now cert result }
 {
     match check_steps(job, claim, steps) {
         Ok(()) => check_rows(alloc, text, job, claim, rows),
@@ -96,7 +97,8 @@ fn check_rows(
     rows: Vec<RowHead>,
 ) -> Result<(), CheckFault>
     requires { AreRowParts text.now job.now claim rows.items }
-    ensures { (cert : CertData) → IsTextOf text.now job.now cert → RowsVerdict job.now cert result }
+    ensures { (cert : CertData) → IsTextOfCert text.now job.now cert
+        → RowsVerdict job.now cert result }
 {
     let rows = RowTable::open(alloc, job, rows)?;
     let mut sets = SetTable::open(alloc, job)?;

@@ -8,10 +8,10 @@ use Rattle.plan_cert.specs.declared.cert.RowHead.{RowHead}
 use Rattle.plan_cert.specs.declared.cert.Note.{Note}
 use Rattle.plan_cert.specs.declared.format.Format.TheVariants.{Version2}
 use Rattle.plan_cert.specs.Cert.{CertData}
-use Rattle.plan_cert.specs.Lines.{format_line, claim_line, step_line, end_line, line_text, lines_text}
+use Rattle.plan_cert.specs.Lines.{CertLine, format_line, claim_line, step_line, end_line, line_text, lines_text}
 use Rattle.plan_cert.specs.JobText.{job_lines, job_text}
 use Rattle.plan_cert.specs.WellFormed.{IsNote}
-use Rattle.plan_cert.specs.CertText.{rows_lines, cert_lines, cert_text2}
+use Rattle.plan_cert.specs.CertText.{rows_lines, cert_text2}
 use Rattle.plan_cert.proofs.JobTexts.{joined, four, of_kind}
 use Rattle.plan_cert.proofs.Actions.{few_actions}
 
@@ -27,7 +27,7 @@ last_line = refl
 pub cert_written : (job : JobData) (cert : CertData) (stages : ℕ) (a b c d e f g : List ℕ) → stages ≡ stage_count job → a ≡ [] → b ≡ a ++ codes "brake-cert 2\n"
     → c ≡ b ++ job_text job → d ≡ c ++ line_text (claim_line cert.claim) → e ≡ d ++ flat_map (λ step. line_text (step_line step)) cert.steps
     → f ≡ e ++ lines_text (rows_lines stages cert.rows cert.notes) → g ≡ f ++ codes "end\n" → g ≡ cert_text2 job cert
-unfolding cert_text2 cert_lines job_text
+unfolding cert_text2 job_text
 cert_written job cert stages a b c d e f g all empty begun with_job claimed stepped filled ended =
     let head = line_text (format_line Version2) ++ lines_text (job_lines job) in
     let plan = line_text (claim_line cert.claim) ++ lines_text (map step_line cert.steps) in
@@ -41,6 +41,7 @@ cert_written job cert stages a b c d e f g all empty begun with_job claimed step
     let g_is : g ≡ f ++ last = ended ∙ ap (λ (t : List ℕ). f ++ t) (sym (append-nil (line_text end_line) ∙ last_line)) in
     joined [] head plan rows last c e f g c_is e_is f_is g_is
     ∙ sym (four (format_line Version2 ∷ job_lines job) (claim_line cert.claim ∷ map step_line cert.steps) (rows_lines (stage_count job) cert.rows cert.notes) (end_line ∷ []))
+    ∙ ap (λ (ls : List CertLine). lines_text (ls ++ end_line ∷ [])) (append_assoc (format_line Version2 ∷ job_lines job) (claim_line cert.claim ∷ map step_line cert.steps) (rows_lines (stage_count job) cert.rows cert.notes))
 
 -- the numbers of the actions of a job's notes
 pub actions_below : (job : JobData) (rows : List RowHead) (notes : List Note) (stages : ℕ) → IsJob job → stages ≡ stage_count job → All (IsNote job rows) notes

@@ -130,7 +130,7 @@ begins_other r item kind start e other =
 pub begins_job : (r behind : Reading) (item : Item) (job : JobData) → slice_get (items r.kind r.text) r.answered ≡ Some (Ok item) → item ≡ given.Job job → behind ≡ record r { answered = r.answered + 1 } → BeginsWith r (Ok job) behind
 begins_job r behind item job e is after =
     let first : slice_get (items r.kind r.text) r.answered ≡ Some (Ok (given.Job job)) = subst (λ i. slice_get (items r.kind r.text) r.answered ≡ Some (Ok i)) is e in
-    subst (λ b. BeginsWith r (Ok job) b) (sym after) (left_is (items r.kind r.text) r.answered (Ok (given.Job job)) first, goes_on r.kind r.text r.answered (given.Job job) first refl)
+    subst (λ b. BeginsWith r (Ok job) b) (sym after) (left_is (items r.kind r.text) r.answered (Ok (given.Job job)) first, goes_on r.kind r.text r.answered (given.Job job) first refl, omega arith)
 
 -- what an item adds
 pub collects : (r behind : Reading) (cert more : CertData) (item : Item) (last : Bool) → slice_get (items r.kind r.text) r.answered ≡ Some (Ok item) → last ≡ is_last item → more ≡ with_item cert item → behind ≡ record r { answered = r.answered + 1 }

@@ -48,7 +48,7 @@ then_on : {A : Type 0} (x : Option A) (f : A → Option (Item × Section)) → (
 then_on (Some a) f on = on a
 then_on None f on = tt
 
-claim_on : (claim : Worth) → is_over (behind_claim claim) ≡ false
+pub claim_on : (claim : Worth) → is_over (behind_claim claim) ≡ false
 claim_on (Cost cost) = refl
 claim_on Blocked = refl
 

@@ -53,7 +53,7 @@ Follows format job section _ next = ⊥
 abbrev pub Gives : Format → JobData → Section → Item × Section → Type 0
 Gives format job section given = Follows format job section given.0 given.1
 
-each_only : {A : Type 0} (P : A → Type 0) (b : Bool) (x : Option A) → (b ≡ true → Each P x) → Each P (only_if b x)
+pub each_only : {A : Type 0} (P : A → Type 0) (b : Bool) (x : Option A) → (b ≡ true → Each P x) → Each P (only_if b x)
 each_only P true x is = is refl
 each_only P false x is = tt
 

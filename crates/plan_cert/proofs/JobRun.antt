@@ -14,12 +14,13 @@ use Rattle.machine_file.specs.declared.machine.Fixed.{Fixed}
 use Rattle.machine_file.specs.declared.machine.GaugeRule.{GaugeRule}
 use Rattle.machine_file.specs.declared.machine.Costs.{Costs}
 use Rattle.job_setup.specs.Setup.{StageData, SetupData}
-use Rattle.plan_cert.specs.declared.format.Format.TheVariants.{Version2}
+use Rattle.plan_cert.specs.declared.format.Format.{Format}
+use Rattle.plan_cert.specs.declared.format.Format.TheVariants.{Version1}
 use Rattle.plan_cert.specs.declared.job_reading.LineKind.{LineKind}
 use Rattle.plan_cert.specs.declared.job_reading.LineKind.TheVariants as kinds
 use Rattle.plan_cert.specs.Lines.{CertLine, part_line, face_line, bed_line, frame_line, upper_line, lower_line, uncovered_line, gauge_line, gang_line, force_line, stage_line, punch_line, die_line, box_line, pieces_line, load_line, words_of, face_words, fixed_words, number, side_word, dir_word}
 use Rattle.plan_cert.specs.JobText.{gang_number, costs_line}
-use Rattle.plan_cert.specs.JobReading.{JobLinesData, may_be_frame, may_be_upper, may_be_lower, is_of_punch, is_of_die, is_complete, take_line, take_words, take_part, take_face, take_bed, take_frame, take_upper, take_lower, take_uncovered, take_gauge, take_cost, take_gang, take_force, take_stage, take_punch, take_box, take_punch_box, take_die_box, take_die, take_pieces, take_load, with_part, with_face, with_bed, with_frame, with_upper, with_lower, with_uncovered, with_gauge, with_costs, with_gang, with_force, with_range, with_punch, with_punch_box, with_die_box, with_die, with_pieces, with_load, with_stage, begun_stage}
+use Rattle.plan_cert.specs.JobReading.{JobLinesData, has_loads, may_be_frame, may_be_upper, may_be_lower, is_of_punch, is_of_die, is_complete, take_line, take_words, take_part, take_face, take_bed, take_frame, take_upper, take_lower, take_uncovered, take_gauge, take_cost, take_gang, take_force, take_stage, take_punch, take_box, take_punch_box, take_die_box, take_die, take_pieces, take_load, with_part, with_face, with_bed, with_frame, with_upper, with_lower, with_uncovered, with_gauge, with_costs, with_gang, with_force, with_range, with_punch, with_punch_box, with_die_box, with_die, with_pieces, with_load, with_stage, begun_stage}
 use Rattle.plan_cert.proofs.WordsRead.{IsShort, IsSmall, IsPlain, number_plain, signed_plain, name_plain}
 use Rattle.plan_cert.proofs.LinesRead.{spelled, number_alone, pair_alone, SmallRect, rect_alone, SmallFixed, fixed_alone, part_alone, root_alone, SmallFace, child_alone, SmallGauge, gauge_alone, costs_alone, costs_back, gang_back, punch_alone, die_alone, AllSmall, pieces_alone}
 use Rattle.plan_cert.proofs.TextLines.{ArePlain, line_bytes}
@@ -36,19 +37,19 @@ pub runs_both : (s t u : JobLinesData) (xs ys : List CertLine) → Runs s xs t �
 runs_both s t u [] ys one two = subst (λ v. Runs v ys u) (sym one) two
 runs_both s t u (x ∷ xs) ys one two = (one.0, one.1, runs_both one.0 t u xs ys one.2 two)
 
--- job lines of version 2
-abbrev pub state : LineKind → PartData → ℤ → SetupData → StageData → JobLinesData
-state last part q setup stage = record { format = Version2; last = last; part = part; q = q; setup = setup; stage = stage; is_sound = true }
+-- job lines of a format
+abbrev pub state : Format → LineKind → PartData → ℤ → SetupData → StageData → JobLinesData
+state format last part q setup stage = record { format = format; last = last; part = part; q = q; setup = setup; stage = stage; is_sound = true }
 
-pub part_step : (p : PartData) (q q0 : ℤ) (p0 : PartData) (su : SetupData) (sg : StageData) → is_name p.material ≡ true → IsSmall p.thickness → IsSmall p.radius → IsSmall q
-    → Step (state kinds.Format p0 q0 su sg) (part_line p.material p.thickness p.radius q) (state kinds.Part (record p { faces = [] }) q su sg)
+pub part_step : (format : Format) (p : PartData) (q q0 : ℤ) (p0 : PartData) (su : SetupData) (sg : StageData) → is_name p.material ≡ true → IsSmall p.thickness → IsSmall p.radius → IsSmall q
+    → Step (state format kinds.Format p0 q0 su sg) (part_line p.material p.thickness p.radius q) (state format kinds.Part (record p { faces = [] }) q su sg)
 unfolding take_line take_words take_part with_part
-part_step p q q0 p0 su sg is t r s = ((name_plain p.material is, (signed_plain p.thickness t, (signed_plain p.radius r, (signed_plain q s, tt)))), rw (part_alone p.material p.thickness p.radius q is t r s) refl)
+part_step format p q q0 p0 su sg is t r s = ((name_plain p.material is, (signed_plain p.thickness t, (signed_plain p.radius r, (signed_plain q s, tt)))), rw (part_alone p.material p.thickness p.radius q is t r s) refl)
 
-pub root_step : (p : PartData) (q : ℤ) (su : SetupData) (sg : StageData) (f : FaceData) → f.joint ≡ None → is_name f.name ≡ true → IsSmall f.width → IsSmall f.length
-    → Step (state kinds.Part (record p { faces = [] }) q su sg) (face_line f) (state kinds.Face (record p { faces = f ∷ [] }) q su sg)
+pub root_step : (format : Format) (p : PartData) (q : ℤ) (su : SetupData) (sg : StageData) (f : FaceData) → f.joint ≡ None → is_name f.name ≡ true → IsSmall f.width → IsSmall f.length
+    → Step (state format kinds.Part (record p { faces = [] }) q su sg) (face_line f) (state format kinds.Face (record p { faces = f ∷ [] }) q su sg)
 unfolding take_line take_words take_face with_face
-root_step p q su sg f none is w l = rw none ((name_plain f.name is, (signed_plain f.width w, (signed_plain f.length l, tt))), rw (root_alone f.name f.width f.length is w l) refl)
+root_step format p q su sg f none is w l = rw none ((name_plain f.name is, (signed_plain f.width w, (signed_plain f.length l, tt))), rw (root_alone f.name f.width f.length is w l) refl)
 
 side_plain : (side : Side) → IsPlain (side_word side)
 side_plain N = refl
@@ -60,27 +61,27 @@ dir_plain : (dir : Dir) → IsPlain (dir_word dir)
 dir_plain Up = refl
 dir_plain Down = refl
 
-pub child_step : (p : PartData) (q : ℤ) (su : SetupData) (sg : StageData) (f : FaceData) (joint : Joint) → f.joint ≡ Some joint → joint.on < length p.faces → length p.faces < 13 → SmallFace f joint
-    → Step (state kinds.Face p q su sg) (face_line f) (state kinds.Face (record p { faces = p.faces ++ f ∷ [] }) q su sg)
+pub child_step : (format : Format) (p : PartData) (q : ℤ) (su : SetupData) (sg : StageData) (f : FaceData) (joint : Joint) → f.joint ≡ Some joint → joint.on < length p.faces → length p.faces < 13 → SmallFace f joint
+    → Step (state format kinds.Face p q su sg) (face_line f) (state format kinds.Face (record p { faces = p.faces ++ f ∷ [] }) q su sg)
 unfolding take_line take_words take_face with_face
-child_step p q su sg f joint is on few s =
+child_step format p q su sg f joint is on few s =
     let read = child_alone (length p.faces) f joint is on s in
     let plain : ArePlain (face_words f (Some joint)) = (name_plain f.name s.name, (number_plain joint.on s.on, (side_plain joint.side, (signed_plain joint.at s.at, (signed_plain f.width s.width, (signed_plain f.length s.long, (dir_plain joint.dir, tt))))))) in (
       subst (λ (j : Option Joint). ArePlain (face_words f j)) (sym is) plain,
-      subst (λ (j : Option Joint). child_in (length p.faces) (spelled (face_words f j)) ≡ Some f → take_line (state kinds.Face p q su sg) (codes "face" ++ spelled (face_words f j)) ≡ Some (state kinds.Face (record p { faces = p.faces ++ f ∷ [] }) q su sg)) (sym is) (taken f.name (number joint.on ∷ side_word joint.side ∷ signed_decimal joint.at ∷ signed_decimal f.width ∷ signed_decimal f.length ∷ dir_word joint.dir ∷ [])) read,
+      subst (λ (j : Option Joint). child_in (length p.faces) (spelled (face_words f j)) ≡ Some f → take_line (state format kinds.Face p q su sg) (codes "face" ++ spelled (face_words f j)) ≡ Some (state format kinds.Face (record p { faces = p.faces ++ f ∷ [] }) q su sg)) (sym is) (taken f.name (number joint.on ∷ side_word joint.side ∷ signed_decimal joint.at ∷ signed_decimal f.width ∷ signed_decimal f.length ∷ dir_word joint.dir ∷ [])) read,
     )
   where
-    taken : (word : List ℕ) (words : List (List ℕ)) → child_in (length p.faces) (spelled (word ∷ words)) ≡ Some f → take_line (state kinds.Face p q su sg) (codes "face" ++ spelled (word ∷ words)) ≡ Some (state kinds.Face (record p { faces = p.faces ++ f ∷ [] }) q su sg)
+    taken : (word : List ℕ) (words : List (List ℕ)) → child_in (length p.faces) (spelled (word ∷ words)) ≡ Some f → take_line (state format kinds.Face p q su sg) (codes "face" ++ spelled (word ∷ words)) ≡ Some (state format kinds.Face (record p { faces = p.faces ++ f ∷ [] }) q su sg)
     taken word words e = rw (lt-ltb (length p.faces) 13 few, e) refl
 
-pub bed_step : (p : PartData) (q : ℤ) (su : SetupData) (sg : StageData) (bed : ℤ × ℤ) → IsSmall bed.0 → IsSmall bed.1 → Step (state kinds.Face p q su sg) (bed_line bed) (state kinds.Bed p q (record su { bed = bed }) sg)
+pub bed_step : (format : Format) (p : PartData) (q : ℤ) (su : SetupData) (sg : StageData) (bed : ℤ × ℤ) → IsSmall bed.0 → IsSmall bed.1 → Step (state format kinds.Face p q su sg) (bed_line bed) (state format kinds.Bed p q (record su { bed = bed }) sg)
 unfolding take_line take_words take_bed with_bed
-bed_step p q su sg bed a b = ((signed_plain bed.0 a, (signed_plain bed.1 b, tt)), rw (pair_alone bed.0 bed.1 a b) refl)
+bed_step format p q su sg bed a b = ((signed_plain bed.0 a, (signed_plain bed.1 b, tt)), rw (pair_alone bed.0 bed.1 a b) refl)
 
-pub frame_step : (last : LineKind) (p : PartData) (q : ℤ) (su : SetupData) (sg : StageData) (f : ℤ × ℤ) → may_be_frame last ≡ true → length su.frames < 4 → IsSmall f.0 → IsSmall f.1
-    → Step (state last p q su sg) (frame_line f) (state kinds.Frame p q (record su { frames = su.frames ++ f ∷ [] }) sg)
+pub frame_step : (format : Format) (last : LineKind) (p : PartData) (q : ℤ) (su : SetupData) (sg : StageData) (f : ℤ × ℤ) → may_be_frame last ≡ true → length su.frames < 4 → IsSmall f.0 → IsSmall f.1
+    → Step (state format last p q su sg) (frame_line f) (state format kinds.Frame p q (record su { frames = su.frames ++ f ∷ [] }) sg)
 unfolding take_line take_words take_frame with_frame
-frame_step last p q su sg f may few a b = ((signed_plain f.0 a, (signed_plain f.1 b, tt)), rw (may, lt-ltb (length su.frames) 4 few, pair_alone f.0 f.1 a b) refl)
+frame_step format last p q su sg f may few a b = ((signed_plain f.0 a, (signed_plain f.1 b, tt)), rw (may, lt-ltb (length su.frames) 4 few, pair_alone f.0 f.1 a b) refl)
 
 plain_rect : (r : Rect) → SmallRect r → ArePlain (words_of (box_line r))
 plain_rect r s = (signed_plain r.y0 s.y0, (signed_plain r.y1 s.y1, (signed_plain r.z0 s.z0, (signed_plain r.z1 s.z1, tt))))
@@ -88,24 +89,24 @@ plain_rect r s = (signed_plain r.y0 s.y0, (signed_plain r.y1 s.y1, (signed_plain
 plain_fixed : (f : Fixed) → SmallFixed f → ArePlain (fixed_words f)
 plain_fixed f s = (signed_plain f.x0 s.x0, (signed_plain f.x1 s.x1, plain_rect f.rect s.rect))
 
-pub upper_step : (last : LineKind) (p : PartData) (q : ℤ) (su : SetupData) (sg : StageData) (f : Fixed) → may_be_upper last ≡ true → length su.upper < 16 → SmallFixed f
-    → Step (state last p q su sg) (upper_line f) (state kinds.Upper p q (record su { upper = su.upper ++ f ∷ [] }) sg)
+pub upper_step : (format : Format) (last : LineKind) (p : PartData) (q : ℤ) (su : SetupData) (sg : StageData) (f : Fixed) → may_be_upper last ≡ true → length su.upper < 16 → SmallFixed f
+    → Step (state format last p q su sg) (upper_line f) (state format kinds.Upper p q (record su { upper = su.upper ++ f ∷ [] }) sg)
 unfolding take_line take_words take_upper with_upper
-upper_step last p q su sg f may few s = (plain_fixed f s, rw (may, lt-ltb (length su.upper) 16 few, fixed_alone f s) refl)
+upper_step format last p q su sg f may few s = (plain_fixed f s, rw (may, lt-ltb (length su.upper) 16 few, fixed_alone f s) refl)
 
-pub lower_step : (last : LineKind) (p : PartData) (q : ℤ) (su : SetupData) (sg : StageData) (f : Fixed) → may_be_lower last ≡ true → length su.lower < 16 → SmallFixed f
-    → Step (state last p q su sg) (lower_line f) (state kinds.Lower p q (record su { lower = su.lower ++ f ∷ [] }) sg)
+pub lower_step : (format : Format) (last : LineKind) (p : PartData) (q : ℤ) (su : SetupData) (sg : StageData) (f : Fixed) → may_be_lower last ≡ true → length su.lower < 16 → SmallFixed f
+    → Step (state format last p q su sg) (lower_line f) (state format kinds.Lower p q (record su { lower = su.lower ++ f ∷ [] }) sg)
 unfolding take_line take_words take_lower with_lower
-lower_step last p q su sg f may few s = (plain_fixed f s, rw (may, lt-ltb (length su.lower) 16 few, fixed_alone f s) refl)
+lower_step format last p q su sg f may few s = (plain_fixed f s, rw (may, lt-ltb (length su.lower) 16 few, fixed_alone f s) refl)
 
-pub uncovered_step : (last : LineKind) (p : PartData) (q : ℤ) (su : SetupData) (sg : StageData) (u : ℤ) → may_be_lower last ≡ true → IsSmall u
-    → Step (state last p q su sg) (uncovered_line u) (state kinds.Uncovered p q (record su { uncovered = u }) sg)
+pub uncovered_step : (format : Format) (last : LineKind) (p : PartData) (q : ℤ) (su : SetupData) (sg : StageData) (u : ℤ) → may_be_lower last ≡ true → IsSmall u
+    → Step (state format last p q su sg) (uncovered_line u) (state format kinds.Uncovered p q (record su { uncovered = u }) sg)
 unfolding take_line take_words take_uncovered with_uncovered
-uncovered_step last p q su sg u may s = ((signed_plain u s, tt), rw (may, number_alone u s) refl)
+uncovered_step format last p q su sg u may s = ((signed_plain u s, tt), rw (may, number_alone u s) refl)
 
-pub gauge_step : (p : PartData) (q : ℤ) (su : SetupData) (sg : StageData) (g : GaugeRule) → SmallGauge g → Step (state kinds.Uncovered p q su sg) (gauge_line g) (state kinds.Gauge p q (record su { gauge = g }) sg)
+pub gauge_step : (format : Format) (p : PartData) (q : ℤ) (su : SetupData) (sg : StageData) (g : GaugeRule) → SmallGauge g → Step (state format kinds.Uncovered p q su sg) (gauge_line g) (state format kinds.Gauge p q (record su { gauge = g }) sg)
 unfolding take_line take_words take_gauge with_gauge
-gauge_step p q su sg g s =
+gauge_step format p q su sg g s =
     ((signed_plain g.near s.near, (signed_plain g.far s.far, (signed_plain g.inset s.inset, (signed_plain g.finger s.finger, (signed_plain g.gap s.gap, (signed_plain g.depth s.depth, (signed_plain g.above s.above, (signed_plain g.below s.below, tt)))))))), rw (gauge_alone g s) refl)
 
 pub record ShortCosts (c : Costs) : Type 0 where
@@ -116,9 +117,9 @@ pub record ShortCosts (c : Costs) : Type 0 where
   pub roll : IsShort c.roll
   pub stage : IsShort c.stage
 
-pub cost_step : (p : PartData) (q : ℤ) (su : SetupData) (sg : StageData) (c : Costs) → ShortCosts c → Step (state kinds.Gauge p q su sg) (costs_line c) (state kinds.Cost p q (record su { cost = c }) sg)
+pub cost_step : (format : Format) (p : PartData) (q : ℤ) (su : SetupData) (sg : StageData) (c : Costs) → ShortCosts c → Step (state format kinds.Gauge p q su sg) (costs_line c) (state format kinds.Cost p q (record su { cost = c }) sg)
 unfolding take_line take_words take_cost with_costs
-cost_step p q su sg c s = (
+cost_step format p q su sg c s = (
   (number_plain c.stroke s.stroke, (number_plain c.quarter s.quarter, (number_plain c.half s.half, (number_plain c.flip s.flip, (number_plain c.roll s.roll, (number_plain c.stage s.stage, tt)))))),
   rw (costs_alone (pos c.stroke) (pos c.quarter) (pos c.half) (pos c.flip) (pos c.roll) (pos c.stage) s.stroke s.quarter s.half s.flip s.roll s.stage, costs_back c) refl,
 )
@@ -127,33 +128,33 @@ small_gang : (gang : Bool) → IsSmall (gang_number gang)
 small_gang true = omega arith
 small_gang false = omega arith
 
-pub gang_step : (p : PartData) (q : ℤ) (su : SetupData) (sg : StageData) (gang : Bool) → Step (state kinds.Cost p q su sg) (gang_line (gang_number gang)) (state kinds.Gang p q (record su { gang = gang }) sg)
+pub gang_step : (format : Format) (p : PartData) (q : ℤ) (su : SetupData) (sg : StageData) (gang : Bool) → has_loads format ≡ true → Step (state format kinds.Cost p q su sg) (gang_line (gang_number gang)) (state format kinds.Gang p q (record su { gang = gang }) sg)
 unfolding take_line take_words take_gang with_gang
-gang_step p q su sg gang = ((signed_plain (gang_number gang) (small_gang gang), tt), rw (number_alone (gang_number gang) (small_gang gang), gang_back gang) refl)
+gang_step format p q su sg gang has = ((signed_plain (gang_number gang) (small_gang gang), tt), rw (has, number_alone (gang_number gang) (small_gang gang), gang_back gang) refl)
 
-pub force_step : (p : PartData) (q : ℤ) (su : SetupData) (sg : StageData) (f : ℤ) → IsSmall f → Step (state kinds.Gang p q su sg) (force_line f) (state kinds.Force p q (record su { force = f }) sg)
+pub force_step : (format : Format) (p : PartData) (q : ℤ) (su : SetupData) (sg : StageData) (f : ℤ) → IsSmall f → Step (state format kinds.Gang p q su sg) (force_line f) (state format kinds.Force p q (record su { force = f }) sg)
 unfolding take_line take_words take_force with_force
-force_step p q su sg f s = ((signed_plain f s, tt), rw (number_alone f s) refl)
+force_step format p q su sg f s = ((signed_plain f s, tt), rw (number_alone f s) refl)
 
-pub stage_step : (last : LineKind) (p : PartData) (q : ℤ) (su : SetupData) (sg : StageData) (a b : ℤ) → is_complete Version2 last ≡ true → length su.stages < 6 → IsSmall a → IsSmall b
-    → Step (state last p q su sg) (stage_line a b) (state kinds.Stage p q su (begun_stage a b))
+pub stage_step : (format : Format) (last : LineKind) (p : PartData) (q : ℤ) (su : SetupData) (sg : StageData) (a b : ℤ) → is_complete format last ≡ true → length su.stages < 6 → IsSmall a → IsSmall b
+    → Step (state format last p q su sg) (stage_line a b) (state format kinds.Stage p q su (begun_stage a b))
 unfolding take_line take_words take_stage with_range
-stage_step last p q su sg a b may few s t = ((signed_plain a s, (signed_plain b t, tt)), rw (may, lt-ltb (length su.stages) 6 few, pair_alone a b s t) refl)
+stage_step format last p q su sg a b may few s t = ((signed_plain a s, (signed_plain b t, tt)), rw (may, lt-ltb (length su.stages) 6 few, pair_alone a b s t) refl)
 
-pub punch_step : (p : PartData) (q : ℤ) (su : SetupData) (sg : StageData) (n : List ℕ) (h s : ℤ) → is_name n ≡ true → IsSmall h → IsSmall s
-    → Step (state kinds.Stage p q su sg) (punch_line n h s) (state kinds.Punch p q su (record sg { punch = record { name = n; height = h; nose = s; body = []; sections = []; limit = pos 0 } }))
+pub punch_step : (format : Format) (p : PartData) (q : ℤ) (su : SetupData) (sg : StageData) (n : List ℕ) (h s : ℤ) → is_name n ≡ true → IsSmall h → IsSmall s
+    → Step (state format kinds.Stage p q su sg) (punch_line n h s) (state format kinds.Punch p q su (record sg { punch = record { name = n; height = h; nose = s; body = []; sections = []; limit = pos 0 } }))
 unfolding take_line take_words take_punch with_punch
-punch_step p q su sg n h s is a b = ((name_plain n is, (signed_plain h a, (signed_plain s b, tt))), rw (punch_alone n h s is a b) refl)
+punch_step format p q su sg n h s is a b = ((name_plain n is, (signed_plain h a, (signed_plain s b, tt))), rw (punch_alone n h s is a b) refl)
 
-pub punch_box_step : (last : LineKind) (p : PartData) (q : ℤ) (su : SetupData) (sg : StageData) (r : Rect) → is_of_punch last ≡ true → length sg.punch.body < 8 → SmallRect r
-    → Step (state last p q su sg) (box_line r) (state kinds.PunchBox p q su (record sg { punch = record sg.punch { body = sg.punch.body ++ r ∷ [] } }))
+pub punch_box_step : (format : Format) (last : LineKind) (p : PartData) (q : ℤ) (su : SetupData) (sg : StageData) (r : Rect) → is_of_punch last ≡ true → length sg.punch.body < 8 → SmallRect r
+    → Step (state format last p q su sg) (box_line r) (state format kinds.PunchBox p q su (record sg { punch = record sg.punch { body = sg.punch.body ++ r ∷ [] } }))
 unfolding take_line take_words take_box take_punch_box with_punch_box
-punch_box_step last p q su sg r of few s = (plain_rect r s, rw (of, lt-ltb (length sg.punch.body) 8 few, rect_alone r s) refl)
+punch_box_step format last p q su sg r of few s = (plain_rect r s, rw (of, lt-ltb (length sg.punch.body) 8 few, rect_alone r s) refl)
 
-pub die_step : (last : LineKind) (p : PartData) (q : ℤ) (su : SetupData) (sg : StageData) (n : List ℕ) (h v l : ℤ) → is_of_punch last ≡ true → is_name n ≡ true → IsSmall h → IsSmall v → IsSmall l
-    → Step (state last p q su sg) (die_line n h v l) (state kinds.Die p q su (record sg { die = record { name = n; height = h; v = v; least_flange = l; body = []; sections = []; limit = pos 0 } }))
+pub die_step : (format : Format) (last : LineKind) (p : PartData) (q : ℤ) (su : SetupData) (sg : StageData) (n : List ℕ) (h v l : ℤ) → is_of_punch last ≡ true → is_name n ≡ true → IsSmall h → IsSmall v → IsSmall l
+    → Step (state format last p q su sg) (die_line n h v l) (state format kinds.Die p q su (record sg { die = record { name = n; height = h; v = v; least_flange = l; body = []; sections = []; limit = pos 0 } }))
 unfolding take_line take_words take_die with_die
-die_step last p q su sg n h v l of is a b c = ((name_plain n is, (signed_plain h a, (signed_plain v b, (signed_plain l c, tt)))), rw (of, die_alone n h v l is a b c) refl)
+die_step format last p q su sg n h v l of is a b c = ((name_plain n is, (signed_plain h a, (signed_plain v b, (signed_plain l c, tt)))), rw (of, die_alone n h v l is a b c) refl)
 
 not_punch : (last : LineKind) → is_of_die last ≡ true → is_of_punch last ≡ false
 not_punch kinds.Die of = refl
@@ -162,22 +163,29 @@ not_punch kinds.Punch of = absurd (cc)
 not_punch kinds.PunchBox of = absurd (cc)
 not_punch _ of = refl
 
-pub die_box_step : (last : LineKind) (p : PartData) (q : ℤ) (su : SetupData) (sg : StageData) (r : Rect) → is_of_die last ≡ true → length sg.die.body < 8 → SmallRect r
-    → Step (state last p q su sg) (box_line r) (state kinds.DieBox p q su (record sg { die = record sg.die { body = sg.die.body ++ r ∷ [] } }))
+pub die_box_step : (format : Format) (last : LineKind) (p : PartData) (q : ℤ) (su : SetupData) (sg : StageData) (r : Rect) → is_of_die last ≡ true → length sg.die.body < 8 → SmallRect r
+    → Step (state format last p q su sg) (box_line r) (state format kinds.DieBox p q su (record sg { die = record sg.die { body = sg.die.body ++ r ∷ [] } }))
 unfolding take_line take_words take_box take_die_box with_die_box
-die_box_step last p q su sg r of few s = (plain_rect r s, rw (not_punch last of, of, lt-ltb (length sg.die.body) 8 few, rect_alone r s) refl)
+die_box_step format last p q su sg r of few s = (plain_rect r s, rw (not_punch last of, of, lt-ltb (length sg.die.body) 8 few, rect_alone r s) refl)
 
 plain_all : (zs : List ℤ) → AllSmall zs → ArePlain (map signed_decimal zs)
 plain_all [] small = tt
 plain_all (z ∷ zs) small = (signed_plain z small.0, plain_all zs small.1)
 
-pub pieces_step : (last : LineKind) (p : PartData) (q : ℤ) (su : SetupData) (sg : StageData) (zs : List ℤ) → is_of_die last ≡ true → length su.stages < 6 → 0 < length zs → length zs ≤ 32 → AllSmall zs
-    → Step (state last p q su sg) (pieces_line zs) (state kinds.Pieces p q su (record sg { pieces = zs }))
+pub pieces_step : (format : Format) (last : LineKind) (p : PartData) (q : ℤ) (su : SetupData) (sg : StageData) (zs : List ℤ) → has_loads format ≡ true → is_of_die last ≡ true → length su.stages < 6 → 0 < length zs → length zs ≤ 32 → AllSmall zs
+    → Step (state format last p q su sg) (pieces_line zs) (state format kinds.Pieces p q su (record sg { pieces = zs }))
 unfolding take_line take_words take_pieces with_pieces
-pieces_step last p q su sg [] of few some most small = absurd (omega arith)
-pieces_step last p q su sg (z ∷ zs) of few some most small = (plain_all (z ∷ zs) small, rw (of, lt-ltb (length su.stages) 6 few, pieces_alone (z ∷ zs) some most small) refl)
+pieces_step format last p q su sg [] has of few some most small = absurd (omega arith)
+pieces_step format last p q su sg (z ∷ zs) has of few some most small = (plain_all (z ∷ zs) small, rw (of, lt-ltb (length su.stages) 6 few, pieces_alone (z ∷ zs) some most small, has) refl)
 
-pub load_step : (p : PartData) (q : ℤ) (su : SetupData) (sg : StageData) (l m : ℤ) → length su.stages < 6 → IsSmall l → IsSmall m
-    → Step (state kinds.Pieces p q su sg) (load_line l m) (state kinds.Load p q (record su { stages = su.stages ++ (record sg { load = l; limit = m }) ∷ [] }) (begun_stage (pos 0) (pos 0)))
+-- without loads a stage is complete with its pieces
+pub last_pieces_step : (last : LineKind) (p : PartData) (q : ℤ) (su : SetupData) (sg : StageData) (zs : List ℤ) → is_of_die last ≡ true → length su.stages < 6 → 0 < length zs → length zs ≤ 32 → AllSmall zs
+    → Step (state Version1 last p q su sg) (pieces_line zs) (state Version1 kinds.Pieces p q (record su { stages = su.stages ++ (record sg { pieces = zs }) ∷ [] }) (begun_stage (pos 0) (pos 0)))
+unfolding take_line take_words take_pieces with_pieces with_stage
+last_pieces_step last p q su sg [] of few some most small = absurd (omega arith)
+last_pieces_step last p q su sg (z ∷ zs) of few some most small = (plain_all (z ∷ zs) small, rw (of, lt-ltb (length su.stages) 6 few, pieces_alone (z ∷ zs) some most small) refl)
+
+pub load_step : (format : Format) (p : PartData) (q : ℤ) (su : SetupData) (sg : StageData) (l m : ℤ) → has_loads format ≡ true → length su.stages < 6 → IsSmall l → IsSmall m
+    → Step (state format kinds.Pieces p q su sg) (load_line l m) (state format kinds.Load p q (record su { stages = su.stages ++ (record sg { load = l; limit = m }) ∷ [] }) (begun_stage (pos 0) (pos 0)))
 unfolding take_line take_words take_load with_load with_stage
-load_step p q su sg l m few s t = ((signed_plain l s, (signed_plain m t, tt)), rw (lt-ltb (length su.stages) 6 few, pair_alone l m s t) refl)
+load_step format p q su sg l m has few s t = ((signed_plain l s, (signed_plain m t, tt)), rw (has, lt-ltb (length su.stages) 6 few, pair_alone l m s t) refl)

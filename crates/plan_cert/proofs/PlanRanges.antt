@@ -42,13 +42,14 @@ each_end : {A : Type 0} (P : A → Type 0) (x : A) (text : List ℕ) → P x →
 each_end P x [] is = is
 each_end P x (byte ∷ text) is = tt
 
-abbrev InRange : ℕ → ℕ → ℕ × List ℕ → Type 0
+-- a number is in its range
+abbrev pub InRange : ℕ → ℕ → ℕ × List ℕ → Type 0
 InRange low end x = (low ≤ x.0) × (x.0 < end)
 
 range_from : (low end n : ℕ) → (nat_le low n && nat_lt n end) ≡ true → (low ≤ n) × (n < end)
 range_from low end n is = (grind (arith, common_steps), ltb-true n end ((and_parts (nat_le low n) (nat_lt n end) is).1))
 
-count_fits : (low end : ℕ) (text : List ℕ) → Each (InRange low end) (count_at low end text)
+pub count_fits : (low end : ℕ) (text : List ℕ) → Each (InRange low end) (count_at low end text)
 unfolding count_at
 count_fits low end text =
     each_then Any (InRange low end) (word_at text) (λ word. number_in_word word.0 >>= λ n. if nat_le low n && nat_lt n end then Some (n, word.1) else None) (each_any (word_at text))
@@ -90,7 +91,7 @@ action_among bends stages text =
     (λ back _. each_then (InRange 0 stages) P (count_at 0 stages back.1) (λ stage. Some (record { bend = bend.0; back = back.0; stage = stage.0 }, stage.1)) (count_fits 0 stages back.1)
     (λ stage in_stages. record { first = in_bends.0; last = omega (arith, in_bends.1); stage = in_stages.1 })))
 
-each_weaker : {A : Type 0} (P Q : A → Type 0) (x : Option A) → ((a : A) → P a → Q a) → Each P x → Each Q x
+pub each_weaker : {A : Type 0} (P Q : A → Type 0) (x : Option A) → ((a : A) → P a → Q a) → Each P x → Each Q x
 each_weaker P Q None f is = tt
 each_weaker P Q (Some a) f is = f a is
 

@@ -25,7 +25,7 @@ use Rattle.brake_base.specs.Keys.{KeyIsBefore}
 use Rattle.brake_base.proofs.Actions.{split_number}
 use Rattle.job_setup.specs.Setup.{JobData, bend_count, stage_count}
 use Rattle.job_setup.specs.StrokeGroup.{is_lead}
-use Rattle.plan_cert.specs.declared.format.Format.TheVariants.{Version2}
+use Rattle.plan_cert.specs.declared.format.Format.{Format}
 use Rattle.plan_cert.specs.declared.item.Item.{Item}
 use Rattle.plan_cert.specs.declared.item.Item.TheVariants as given
 use Rattle.plan_cert.specs.declared.section.Section.{Section}
@@ -48,31 +48,31 @@ use Rattle.plan_cert.proofs.WellRead.{IsSmall}
 use Rattle.plan_cert.proofs.TextLines.{ArePlain, ArePlainLines, plain_both, line_bytes}
 
 -- the line gives the item, and the next one stands there
-abbrev pub Gives : JobData → Section → CertLine → Item → Section → Type 0
-Gives job section line item next = take_plan_line Version2 job section (keyword_in (line_bytes line)) (behind_keyword (line_bytes line)) ≡ Some (item, next)
+abbrev pub Gives : Format → JobData → Section → CertLine → Item → Section → Type 0
+Gives format job section line item next = take_plan_line format job section (keyword_in (line_bytes line)) (behind_keyword (line_bytes line)) ≡ Some (item, next)
 
-abbrev pub Goes : JobData → Section → List CertLine → List Item → Section → Type 0
-Goes job section [] [] end = section ≡ end
-Goes job section (line ∷ lines) (item ∷ items) end = (next : Section) × Gives job section line item next × Goes job next lines items end
-Goes job section _ _ end = ⊥
+abbrev pub Goes : Format → JobData → Section → List CertLine → List Item → Section → Type 0
+Goes format job section [] [] end = section ≡ end
+Goes format job section (line ∷ lines) (item ∷ items) end = (next : Section) × Gives format job section line item next × Goes format job next lines items end
+Goes format job section _ _ end = ⊥
 
-pub goes_both : (job : JobData) (a b c : Section) (ls ms : List CertLine) (is js : List Item) → Goes job a ls is b → Goes job b ms js c → Goes job a (ls ++ ms) (is ++ js) c
-goes_both job a b c [] ms [] js one two = subst (λ s. Goes job s ms js c) (sym one) two
-goes_both job a b c (l ∷ ls) ms (i ∷ is) js one two = (one.0, one.1, goes_both job one.0 b c ls ms is js one.2 two)
-goes_both job a b c [] ms (i ∷ is) js one two = absurd one
-goes_both job a b c (l ∷ ls) ms [] js one two = absurd one
+pub goes_both : (format : Format) (job : JobData) (a b c : Section) (ls ms : List CertLine) (is js : List Item) → Goes format job a ls is b → Goes format job b ms js c → Goes format job a (ls ++ ms) (is ++ js) c
+goes_both format job a b c [] ms [] js one two = subst (λ s. Goes format job s ms js c) (sym one) two
+goes_both format job a b c (l ∷ ls) ms (i ∷ is) js one two = (one.0, one.1, goes_both format job one.0 b c ls ms is js one.2 two)
+goes_both format job a b c [] ms (i ∷ is) js one two = absurd one
+goes_both format job a b c (l ∷ ls) ms [] js one two = absurd one
 
-pub claim_gives : (job : JobData) (claim : Worth) → IsWorth claim → Gives job sections.Claim (claim_line claim) (given.Claim claim) (behind_claim claim)
+pub claim_gives : (format : Format) (job : JobData) (claim : Worth) → IsWorth claim → Gives format job sections.Claim (claim_line claim) (given.Claim claim) (behind_claim claim)
 unfolding take_plan_line take_plan_words take_claim
-claim_gives job claim is = rw (claim_alone claim is) refl
+claim_gives format job claim is = rw (claim_alone claim is) refl
 
-pub step_gives : (job : JobData) (steps : ℕ) (s : Step) → IsSmall job → steps < bend_count job → IsStep job s → Gives job (sections.Steps steps) (step_line s) (given.Step s) (sections.Steps (steps + 1))
+pub step_gives : (format : Format) (job : JobData) (steps : ℕ) (s : Step) → IsSmall job → steps < bend_count job → IsStep job s → Gives format job (sections.Steps steps) (step_line s) (given.Step s) (sections.Steps (steps + 1))
 unfolding take_plan_line take_plan_words take_step step_behind
-step_gives job steps s small few is = rw (lt-ltb steps (bend_count job) few, step_alone job s small is) refl
+step_gives format job steps s small few is = rw (lt-ltb steps (bend_count job) few, step_alone job s small is) refl
 
-pub row_gives : (job : JobData) (section : Section) (r : RowHead) → IsSmall job → may_be_row Version2 (bend_count job) section r.key ≡ true → IsRow job r → Gives job section (row_line r) (given.Row r) (sections.Notes r.key 0)
+pub row_gives : (format : Format) (job : JobData) (section : Section) (r : RowHead) → IsSmall job → may_be_row format (bend_count job) section r.key ≡ true → IsRow job r → Gives format job section (row_line r) (given.Row r) (sections.Notes r.key 0)
 unfolding take_plan_line take_plan_words take_row row_behind
-row_gives job section r small may is = rw (row_alone job r small is, may) refl
+row_gives format job section r small may is = rw (row_alone job r small is, may) refl
 
 before_test : (a b : Key) → KeyIsBefore a b → is_before a b ≡ true
 before_test a b before = by_order before
@@ -89,8 +89,8 @@ before_test a b before = by_order before
     by_order (inl less) = or_left (nat_lt a.mask.0 b.mask.0) ((a.mask.0 == b.mask.0) && (nat_lt a.attitude b.attitude || stages)) (lt-ltb a.mask.0 b.mask.0 less)
     by_order (inr (same, rest)) = or_right (nat_lt a.mask.0 b.mask.0) ((a.mask.0 == b.mask.0) && (nat_lt a.attitude b.attitude || stages)) (and_from (a.mask.0 == b.mask.0) (nat_lt a.attitude b.attitude || stages) (eq-eqb a.mask.0 b.mask.0 same) (behind rest))
 
-pub may_behind : (job : JobData) (last key : Key) (least : ℕ) → KeyIsBefore last key → may_be_row Version2 (bend_count job) (sections.Notes last least) key ≡ true
-may_behind job last key least before = before_test last key before
+pub may_behind : (format : Format) (job : JobData) (last key : Key) (least : ℕ) → KeyIsBefore last key → may_be_row format (bend_count job) (sections.Notes last least) key ≡ true
+may_behind format job last key least before = before_test last key before
 
 side_is : (n : ℕ) → back_number (if n % 2 == 0 then Parent else Child) ≡ n % 2
 side_is n = grind (arith, common_steps)
@@ -99,10 +99,10 @@ number_back : (stages number : ℕ) → number_of stages (action_at stages numbe
 number_back stages number = split_number stages number _ (side_is (number / stages))
 
 -- a note at a key
-pub note_gives : (job : JobData) (key : Key) (least number : ℕ) (reason : Reason) → IsSmall job → least ≤ number → IsActionOf job (action_at (stage_count job) number) → IsReason job reason → is_lead job key.mask (action_at (stage_count job) number).bend ≡ true
-    → Gives job (sections.Notes key least) (note_line (action_at (stage_count job) number) reason) (given.Note number reason) (sections.Notes key (number + 1))
+pub note_gives : (format : Format) (job : JobData) (key : Key) (least number : ℕ) (reason : Reason) → IsSmall job → least ≤ number → IsActionOf job (action_at (stage_count job) number) → IsReason job reason → is_lead job key.mask (action_at (stage_count job) number).bend ≡ true
+    → Gives format job (sections.Notes key least) (note_line (action_at (stage_count job) number) reason) (given.Note number reason) (sections.Notes key (number + 1))
 unfolding take_plan_line take_plan_words take_note note_behind noted
-note_gives job key least number reason small more action is lead =
+note_gives format job key least number reason small more action is lead =
     let a = action_at (stage_count job) number in
     let le : nat_le least number ≡ true = grind (arith, common_steps) in
     rw (note_alone job a reason small action is, number_back (stage_count job) number, le, lead) refl
@@ -174,19 +174,19 @@ note_plain : (job : JobData) (a : Action) (r : Reason) → IsSmall job → IsAct
 note_plain job a r small action reason = plain_more (action_words a) (reason_words r) (action_plain job a small action) (number_plain (kind_of r) (kind_short r), arguments_plain job r small reason)
 
 -- the lines with their items: each line's words are plain, and it gives its item
-abbrev pub Follow : JobData → Section → List CertLine → List Item → Section → Type 0
-Follow job section lines items end = ArePlainLines lines × Goes job section lines items end
+abbrev pub Follow : Format → JobData → Section → List CertLine → List Item → Section → Type 0
+Follow format job section lines items end = ArePlainLines lines × Goes format job section lines items end
 
-pub follow_both : (job : JobData) (a b c : Section) (ls ms : List CertLine) (is js : List Item) → Follow job a ls is b → Follow job b ms js c → Follow job a (ls ++ ms) (is ++ js) c
-follow_both job a b c ls ms is js one two = (plain_both ls ms one.0 two.0, goes_both job a b c ls ms is js one.1 two.1)
+pub follow_both : (format : Format) (job : JobData) (a b c : Section) (ls ms : List CertLine) (is js : List Item) → Follow format job a ls is b → Follow format job b ms js c → Follow format job a (ls ++ ms) (is ++ js) c
+follow_both format job a b c ls ms is js one two = (plain_both ls ms one.0 two.0, goes_both format job a b c ls ms is js one.1 two.1)
 
-pub steps_follow : (job : JobData) (count : ℕ) (steps : List Step) → IsSmall job → count + length steps ≤ bend_count job → All (IsStep job) steps → Follow job (sections.Steps count) (map step_line steps) (map given.Step steps) (sections.Steps (count + length steps))
-steps_follow job count [] small few each = (tt, ap (λ n. sections.Steps n) (omega arith))
-steps_follow job count (s ∷ steps) small few each =
+pub steps_follow : (format : Format) (job : JobData) (count : ℕ) (steps : List Step) → IsSmall job → count + length steps ≤ bend_count job → All (IsStep job) steps → Follow format job (sections.Steps count) (map step_line steps) (map given.Step steps) (sections.Steps (count + length steps))
+steps_follow format job count [] small few each = (tt, ap (λ n. sections.Steps n) (omega arith))
+steps_follow format job count (s ∷ steps) small few each =
     let is = each 0 s (omega arith) in
-    let more = steps_follow job (count + 1) steps small (omega (arith, few)) (λ k d within. each (suc k) d (omega arith)) in
+    let more = steps_follow format job (count + 1) steps small (omega (arith, few)) (λ k d within. each (suc k) d (omega arith)) in
     let same : (count + 1) + length steps ≡ count + length (s ∷ steps) = omega arith in
-    ((step_plain job s small is, more.0), (sections.Steps (count + 1), step_gives job count s small (omega (arith, few)) is, subst (λ n. Goes job (sections.Steps (count + 1)) (map step_line steps) (map given.Step steps) (sections.Steps n)) same more.1))
+    ((step_plain job s small is, more.0), (sections.Steps (count + 1), step_gives format job count s small (omega (arith, few)) is, subst (λ n. Goes format job (sections.Steps (count + 1)) (map step_line steps) (map given.Step steps) (sections.Steps n)) same more.1))
 
 -- the action of a number
 action_in : (job : JobData) (n : ℕ) → n < 2 * bend_count job * stage_count job → IsActionOf job (action_at (stage_count job) n)
@@ -220,13 +220,13 @@ Later row least notes = (k : ℕ) (d : Note) → k < length notes → (get_or no
 same_number : (a b : ℕ) → (a == b) ≡ true → a ≡ b
 same_number a b e = eqb-true a b e
 
-pub notes_follow : (job : JobData) (key : Key) (row least : ℕ) (notes : List Note) → IsSmall job → ((k : ℕ) (d : Note) → k < length notes → (get_or notes k d).row ≡ row → FitsNote job key (get_or notes k d)) → AllPairs NoteIsBefore notes → Later row least notes
-    → (end : ℕ) × Follow job (sections.Notes key least) (map (line_of_note (stage_count job)) (filter (of_row row) notes)) (map item_of (filter (of_row row) notes)) (sections.Notes key end)
-notes_follow job key row least [] small each pairs later = (least, (tt, refl))
-notes_follow job key row least (note ∷ notes) small each pairs later = by_row (of_row row note) refl (λ n up. notes_follow job key row n notes small (λ k d within. each (suc k) d (omega arith)) (λ i j d less within. pairs (suc i) (suc j) d (omega arith) (omega arith)) up)
+pub notes_follow : (format : Format) (job : JobData) (key : Key) (row least : ℕ) (notes : List Note) → IsSmall job → ((k : ℕ) (d : Note) → k < length notes → (get_or notes k d).row ≡ row → FitsNote job key (get_or notes k d)) → AllPairs NoteIsBefore notes → Later row least notes
+    → (end : ℕ) × Follow format job (sections.Notes key least) (map (line_of_note (stage_count job)) (filter (of_row row) notes)) (map item_of (filter (of_row row) notes)) (sections.Notes key end)
+notes_follow format job key row least [] small each pairs later = (least, (tt, refl))
+notes_follow format job key row least (note ∷ notes) small each pairs later = by_row (of_row row note) refl (λ n up. notes_follow format job key row n notes small (λ k d within. each (suc k) d (omega arith)) (λ i j d less within. pairs (suc i) (suc j) d (omega arith) (omega arith)) up)
   where
     Result' : List Note → Type 0
-    Result' own = (end : ℕ) × Follow job (sections.Notes key least) (map (line_of_note (stage_count job)) own) (map item_of own) (sections.Notes key end)
+    Result' own = (end : ℕ) × Follow format job (sections.Notes key least) (map (line_of_note (stage_count job)) own) (map item_of own) (sections.Notes key end)
 
     rest : List Note
     rest = filter (of_row row) notes
@@ -238,34 +238,34 @@ notes_follow job key row least (note ∷ notes) small each pairs later = by_row 
         after (inl less) = absurd (omega (arith, less, at, here))
         after (inr same) = omega (arith, same.1)
 
-    by_row : (b : Bool) → of_row row note ≡ b → ((n : ℕ) → Later row n notes → (end : ℕ) × Follow job (sections.Notes key n) (map (line_of_note (stage_count job)) rest) (map item_of rest) (sections.Notes key end)) → Result' (cond b (note ∷ rest) rest)
+    by_row : (b : Bool) → of_row row note ≡ b → ((n : ℕ) → Later row n notes → (end : ℕ) × Follow format job (sections.Notes key n) (map (line_of_note (stage_count job)) rest) (map item_of rest) (sections.Notes key end)) → Result' (cond b (note ∷ rest) rest)
     by_row true is more =
         let at = same_number note.row row is in
         let fits = each 0 note (omega arith) at in
         let action = action_in job note.action fits.action in
         let others = more (note.action + 1) (behind at) in
-        (others.0, ((note_plain job (action_at (stage_count job) note.action) note.reason small action fits.reason, others.1.0), (sections.Notes key (note.action + 1), note_gives job key least note.action note.reason small (later 0 note (omega arith) at) action fits.reason fits.lead, others.1.1)))
+        (others.0, ((note_plain job (action_at (stage_count job) note.action) note.reason small action fits.reason, others.1.0), (sections.Notes key (note.action + 1), note_gives format job key least note.action note.reason small (later 0 note (omega arith) at) action fits.reason fits.lead, others.1.1)))
     by_row false is more = more least (λ k d within here. later (suc k) d (omega arith) here)
 
 first_note : (row : ℕ) (notes : List Note) → Later row 0 notes
 first_note row notes k d within here = omega arith
 
 -- the rows from a number on, each with its notes
-pub rows_follow : (job : JobData) (all : List RowHead) (notes : List Note) (i : ℕ) (section : Section) (rest : List RowHead) → IsSmall job → All (IsNote job all) notes → AllPairs NoteIsBefore notes
+pub rows_follow : (format : Format) (job : JobData) (all : List RowHead) (notes : List Note) (i : ℕ) (section : Section) (rest : List RowHead) → IsSmall job → All (IsNote job all) notes → AllPairs NoteIsBefore notes
     → ((k : ℕ) (d : RowHead) → k < length rest → get_or all (i + k) d ≡ get_or rest k d) → All (IsRow job) rest → AllPairs KeyIsBefore (map (λ (r : RowHead). r.key) rest)
-    → ((d : RowHead) → 0 < length rest → may_be_row Version2 (bend_count job) section (get_or rest 0 d).key ≡ true) → may_leave Version2 (bend_count job) section ≡ true
-    → (end : Section) × (may_leave Version2 (bend_count job) end ≡ true) × Follow job section (flat_map (row_lines (stage_count job) notes) (enumerate_from i rest)) (flat_map (row_items notes) (enumerate_from i rest)) end
-rows_follow job all notes i section [] small each pairs at rows order may leave = (section, leave, (tt, refl))
-rows_follow job all notes i section (row ∷ rest) small each pairs at rows order may leave =
+    → ((d : RowHead) → 0 < length rest → may_be_row format (bend_count job) section (get_or rest 0 d).key ≡ true) → may_leave format (bend_count job) section ≡ true
+    → (end : Section) × (may_leave format (bend_count job) end ≡ true) × Follow format job section (flat_map (row_lines (stage_count job) notes) (enumerate_from i rest)) (flat_map (row_items notes) (enumerate_from i rest)) end
+rows_follow format job all notes i section [] small each pairs at rows order may leave = (section, leave, (tt, refl))
+rows_follow format job all notes i section (row ∷ rest) small each pairs at rows order may leave =
     let is = rows 0 row (omega arith) in
-    let own = notes_follow job row.key i 0 notes small (λ k d within here. fits k d within here) pairs (first_note i notes) in
+    let own = notes_follow format job row.key i 0 notes small (λ k d within here. fits k d within here) pairs (first_note i notes) in
     let section' = sections.Notes row.key own.0 in
-    let (end, leaves, more) = rows_follow job all notes (i + 1) section' rest small each pairs
+    let (end, leaves, more) = rows_follow format job all notes (i + 1) section' rest small each pairs
     (λ k d within. ap (λ n. get_or all n d) (further k) ∙ at (suc k) d (omega arith)) (λ k d within. rows (suc k) d (omega arith)) (λ a b d less within. order (suc a) (suc b) d (omega arith) (omega arith))
-    (λ d some. may_behind job row.key (get_or rest 0 d).key own.0 (next_key d some)) refl in
-    let first : Follow job section (row_line row ∷ map (line_of_note (stage_count job)) (filter (of_row i) notes)) (given.Row row ∷ map item_of (filter (of_row i) notes)) section' =
-    ((row_plain job row small is, own.1.0), (sections.Notes row.key 0, row_gives job section row small (may row (omega arith)) is, own.1.1)) in
-    (end, leaves, follow_both job section section' end (row_lines (stage_count job) notes (i, row)) (flat_map (row_lines (stage_count job) notes) (enumerate_from (i + 1) rest)) (row_items notes (i, row)) (flat_map (row_items notes) (enumerate_from (i + 1) rest)) first more)
+    (λ d some. may_behind format job row.key (get_or rest 0 d).key own.0 (next_key d some)) refl in
+    let first : Follow format job section (row_line row ∷ map (line_of_note (stage_count job)) (filter (of_row i) notes)) (given.Row row ∷ map item_of (filter (of_row i) notes)) section' =
+    ((row_plain job row small is, own.1.0), (sections.Notes row.key 0, row_gives format job section row small (may row (omega arith)) is, own.1.1)) in
+    (end, leaves, follow_both format job section section' end (row_lines (stage_count job) notes (i, row)) (flat_map (row_lines (stage_count job) notes) (enumerate_from (i + 1) rest)) (row_items notes (i, row)) (flat_map (row_items notes) (enumerate_from (i + 1) rest)) first more)
   where
     further : (k : ℕ) → (i + 1) + k ≡ i + suc k
     further k = omega arith

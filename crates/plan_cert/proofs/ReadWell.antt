@@ -36,7 +36,7 @@ use Rattle.plan_cert.proofs.PlanItems.{plan_taken, plan_refused}
 use Rattle.plan_cert.proofs.FormatKept.{SameFormat, kept_line}
 
 -- the items so far behind the job
-abbrev body_items : CertData → List Item
+abbrev pub body_items : CertData → List Item
 body_items cert = given.Claim cert.claim ∷ map given.Step cert.steps ++ rows_items cert.rows cert.notes
 
 abbrev so_far : Section → CertData → List Item
@@ -140,9 +140,9 @@ abbrev oks : List Item → List (Result Item CertFault)
 oks items = map Ok items
 
 -- what was read is a well formed certificate, and these are its items
-record ReadsAs (job : JobData) (cert : CertData) (answers : List (Result Item CertFault)) : Type 0 where
-  form : IsWellFormed job cert
-  items : answers ≡ oks (body_items cert ++ given.End ∷ [])
+pub record ReadsAs (job : JobData) (cert : CertData) (answers : List (Result Item CertFault)) : Type 0 where
+  pub form : IsWellFormed job cert
+  pub items : answers ≡ oks (body_items cert ++ given.End ∷ [])
 
 ended : (format : Format) (job : JobData) (section : Section) (cert final : CertData) (n : ℕ) (line : List ℕ) (rest : List (List ℕ)) → Holds job section cert
     → cert_of cert (end_or_fault format job n section line rest ∷ []) ≡ Ok final → ReadsAs job final (oks (so_far section cert) ++ end_or_fault format job n section line rest ∷ [])
@@ -183,12 +183,12 @@ no_more cert final answers is e = refused (sym (ap (λ (a : List (Result Item Ce
     refused : Err faults.Unended ≡ Ok final → ⊥
     refused e = absurd (cc)
 
-unended : (format : Format) (job : JobData) (n : ℕ) (section : Section) (line : List ℕ) → is_over section ≡ false → plan_items format job n section (line ∷ []) ≡ Err faults.Unended ∷ []
+pub unended : (format : Format) (job : JobData) (n : ℕ) (section : Section) (line : List ℕ) → is_over section ≡ false → plan_items format job n section (line ∷ []) ≡ Err faults.Unended ∷ []
 unfolding plan_items
 unended format job n section line on = rw on refl
 
 -- from each place on
-read_on : (format : Format) (job : JobData) (n : ℕ) (section : Section) (cert final : CertData) (lines : List (List ℕ)) → IsSmall job → Holds job section cert
+pub read_on : (format : Format) (job : JobData) (n : ℕ) (section : Section) (cert final : CertData) (lines : List (List ℕ)) → IsSmall job → Holds job section cert
     → cert_of cert (plan_items format job n section lines) ≡ Ok final → ReadsAs job final (oks (so_far section cert) ++ plan_items format job n section lines)
 unfolding plan_items cert_of
 read_on format job n section cert final [] small held e = absurd (none e)
@@ -220,7 +220,7 @@ read_on format job n section cert final (line ∷ next ∷ more) small held e =
         subst (λ (a : List (Result Item CertFault)). ReadsAs job final (oks (so_far section cert) ++ a)) (sym is)
         (ended format job section cert final n line (next ∷ more) held (sym (ap (λ (a : List (Result Item CertFault)). cert_of cert a) is) ∙ e))
 
-small_of : (job : JobData) → IsJob job → IsSmall job
+pub small_of : (job : JobData) → IsJob job → IsSmall job
 small_of job valid = record { bends = let few = valid.part.few_faces in omega (arith, few); stages = valid.setup.stages.few_stages }
 
 -- the job of a text, and the certificate behind it
@@ -246,12 +246,12 @@ not_refused : (text : List ℕ) (fault : CertFault) (file : CertFileData) → wi
 unfolding with_job
 not_refused text fault file e = absurd (cc)
 
-abbrev IsCertificate : Format → Type 0
+abbrev pub IsCertificate : Format → Type 0
 IsCertificate Version1 = Unit {0}
 IsCertificate Version2 = Unit {0}
 IsCertificate Table = ⊥
 
-claim_first : (format : Format) → IsCertificate format → first_section format ≡ sections.Claim
+pub claim_first : (format : Format) → IsCertificate format → first_section format ≡ sections.Claim
 claim_first Version1 is = refl
 claim_first Version2 is = refl
 claim_first Table is = absurd is

@@ -11,8 +11,7 @@ use Rattle.plan_cert.specs.declared.format.Kind.TheVariants.{Certificate}
 use Rattle.plan_cert.specs.Cert.{CertData}
 use Rattle.plan_cert.specs.WellFormed.{IsWellFormed}
 use Rattle.plan_cert.specs.Items.{items}
-use Rattle.plan_cert.specs.CertText.{cert_text2}
-use Rattle.plan_cert.specs.CertReading.{CertFileData, cert_file_of}
+use Rattle.plan_cert.specs.CertReading.{CertFileData}
 
 -- a row, and its notes
 abbrev pub row_items : List Note → ℕ × RowHead → List Item
@@ -26,12 +25,12 @@ rows_items rows notes = flat_map (row_items notes) (enumerate_from 0 rows)
 unfoldable pub cert_items : JobData → CertData → List Item
 cert_items job cert = given.Job job ∷ given.Claim cert.claim ∷ map given.Step cert.steps ++ rows_items cert.rows cert.notes ++ given.End ∷ []
 
+-- the job, the rows with their notes, and the end: the items of a table file
+abbrev pub table_items : JobData → List RowHead → List Note → List Item
+table_items job rows notes = given.Job job ∷ rows_items rows notes ++ given.End ∷ []
+
 -- the job is valid, the certificate is well formed for it, and the text's items are the certificate's
 pub record IsReadFrom (file : CertFileData) (text : List ℕ) : Type 0 where
   pub job : IsJob file.job
   pub form : IsWellFormed file.job file.cert
   pub items : items Certificate text ≡ map Ok (cert_items file.job file.cert)
-
--- where the text is that of a well formed certificate of a valid job in version 2, it gives this job and this certificate
-abbrev pub ReadsWritten : List ℕ → Type 0
-ReadsWritten text = (job : JobData) (cert : CertData) → IsJob job → IsWellFormed job cert → text ≡ cert_text2 job cert → cert_file_of text ≡ Ok (record { job = job; cert = cert; version = 2 })

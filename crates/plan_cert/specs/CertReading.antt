@@ -81,5 +81,5 @@ Collects (Err fault) cert reader added behind = (fault ≡ faults.NoMemory) ⊎ 
 
 -- the first item is a job, behind which others are still to be read; or the certificate is refused
 abbrev pub BeginsWith : Reading → Result JobData CertFault → Reading → Type 0
-BeginsWith reader (Ok job) behind = (answers_left reader ≡ Ok (given.Job job) ∷ answers_left behind) × AnswersLeft behind
+BeginsWith reader (Ok job) behind = (answers_left reader ≡ Ok (given.Job job) ∷ answers_left behind) × AnswersLeft behind × (0 < behind.answered)
 BeginsWith reader (Err fault) behind = cert_file_of reader.text ≡ Err fault

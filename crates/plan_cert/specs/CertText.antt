@@ -1,12 +1,13 @@
--- The texts of a certificate and of a table file.
-use Rattle.std.specs.Prelude.{ℕ, ◌==◌, List, [], ◌∷◌, ◌++◌, map, filter}
+-- The texts of a certificate and of a table file: all have the lines of version 2, but for those that version 1 leaves out.
+use Rattle.std.specs.Prelude.{ℕ, ◌==◌, Bool, true, false, List, [], ◌∷◌, ◌++◌, map, filter}
 use Rattle.std.specs.List.{flat_map, enumerate_from}
 use Rattle.job_setup.specs.Setup.{JobData, stage_count}
 use Rattle.plan_cert.specs.declared.cert.RowHead.{RowHead}
 use Rattle.plan_cert.specs.declared.cert.Note.{Note}
-use Rattle.plan_cert.specs.declared.format.Format.TheVariants.{Version2}
+use Rattle.plan_cert.specs.declared.format.Format.{Format}
+use Rattle.plan_cert.specs.declared.format.Format.TheVariants.{Version1, Version2, Table}
 use Rattle.plan_cert.specs.Cert.{CertData}
-use Rattle.plan_cert.specs.Lines.{CertLine, format_line, claim_line, step_line, row_line, note_line, end_line, lines_text, action_at}
+use Rattle.plan_cert.specs.Lines.{CertLine, format_line, gang_line, force_line, load_line, claim_line, step_line, row_line, note_line, end_line, lines_text, action_at}
 use Rattle.plan_cert.specs.JobText.{job_lines}
 
 -- the line of a note on a machine with so many stages
@@ -21,11 +22,34 @@ row_lines stages notes row = row_line row.1 ∷ map (line_of_note stages) (filte
 unfoldable pub rows_lines : ℕ → List RowHead → List Note → List CertLine
 rows_lines stages rows notes = flat_map (row_lines stages notes) (enumerate_from 0 rows)
 
--- the lines of a certificate in version 2
-unfoldable pub cert_lines : JobData → CertData → List CertLine
-cert_lines job cert =
-    format_line Version2 ∷ job_lines job ++ claim_line cert.claim ∷ map step_line cert.steps ++ rows_lines (stage_count job) cert.rows cert.notes ++ end_line ∷ []
+-- version 1 has no lines of gangs, of forces and of loads
+abbrev pub is_of_version1 : CertLine → Bool
+is_of_version1 (gang_line gang) = false
+is_of_version1 (force_line force) = false
+is_of_version1 (load_line load limit) = false
+is_of_version1 _ = true
+
+-- those of some lines that a format has
+abbrev pub lines_of_format : Format → List CertLine → List CertLine
+lines_of_format Version1 lines = filter is_of_version1 lines
+lines_of_format _ lines = lines
+
+-- the lines of a text: its format, the job, the lines behind the job, and the end
+abbrev pub format_lines : Format → JobData → List CertLine → List CertLine
+format_lines format job behind = format_line format ∷ lines_of_format format (job_lines job) ++ behind ++ end_line ∷ []
+
+-- the lines of a certificate behind its job
+abbrev pub plan_lines : JobData → CertData → List CertLine
+plan_lines job cert = claim_line cert.claim ∷ map step_line cert.steps ++ rows_lines (stage_count job) cert.rows cert.notes
 
 -- the text of a certificate that is written: version 2
 unfoldable pub cert_text2 : JobData → CertData → List ℕ
-cert_text2 job cert = lines_text (cert_lines job cert)
+cert_text2 job cert = lines_text (format_lines Version2 job (plan_lines job cert))
+
+-- its text in version 1
+unfoldable pub cert_text1 : JobData → CertData → List ℕ
+cert_text1 job cert = lines_text (format_lines Version1 job (plan_lines job cert))
+
+-- the text of a table file: the rows of a job in order, each with its notes
+unfoldable pub table_text : JobData → List RowHead → List Note → List ℕ
+table_text job rows notes = lines_text (format_lines Table job (rows_lines (stage_count job) rows notes))

@@ -4,11 +4,15 @@ pub mod JobReading
 pub mod JobText
 pub mod WellFormed
 pub mod CertText
+pub mod FirstVersion
 pub mod GoodCert
 pub mod PlanReading
 pub mod JobTest
 pub mod Facts
 pub mod Items
+pub mod PlanItem
 pub mod Reading
 pub mod CertReading
 pub mod CertItems
+pub mod ExactTexts
+pub mod ExactItems

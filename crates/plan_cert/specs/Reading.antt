@@ -1,5 +1,5 @@
 -- What a reader is, and what it has still to answer.
-use Rattle.std.specs.Prelude.{◌≡◌, ℕ, Bool, true, false, ◌&&◌, List, [], ◌∷◌, Option, Some, None, Result, Ok, Err}
+use Rattle.std.specs.Prelude.{◌≡◌, ℕ, Bool, true, false, ◌&&◌, nat_lt, List, [], ◌∷◌, Option, Some, None, Result, Ok, Err}
 use Rattle.job_setup.specs.Setup.{JobData}
 use Rattle.job_setup.specs.ValidJob.{IsJob}
 use Rattle.plan_cert.specs.declared.format.Kind.{Kind}
@@ -39,6 +39,10 @@ LeavesBy true kind stand answers = LeavesIn stand.section stand answers
 -- these answers are left from a place on
 abbrev pub Leaves : Kind → Stand → List (Result Item CertFault) → Type 0
 Leaves kind stand answers = LeavesBy stand.is_begun kind stand answers
+
+-- the job was read or refused exactly where an answer was given
+abbrev pub IsBegun : ℕ → Bool → Type 0
+IsBegun answered begun = begun ≡ nat_lt 0 answered
 
 -- the first of the answers is given, and the others are left
 abbrev pub Gives : List (Result Item CertFault) → Result Item CertFault → Stand → Type 0

@@ -5,11 +5,13 @@ ghost use Rattle.plan_cert.specs.declared.item.CertFault.TheVariants.{NoMemory};
 ghost use Rattle.plan_cert.specs.declared.format.Kind.TheVariants.{Certificate};
 ghost use Rattle.plan_cert.specs.Cert.{cert_data};
 ghost use Rattle.plan_cert.specs.Items.{items};
+ghost use Rattle.plan_cert.specs.PlanItem.{item_of};
 ghost use Rattle.plan_cert.specs.CertReading.{cert_file_data, cert_file_of, cert_of, with_item, with_step, with_note, is_last, no_cert, version_in, answers_left, Collects, AnswersLeft, BeginsWith};
-ghost use Rattle.plan_cert.specs.CertItems.{IsReadFrom, ReadsWritten};
+ghost use Rattle.plan_cert.specs.CertItems.{IsReadFrom};
+ghost use Rattle.plan_cert.specs.ExactTexts.{IsExact, GivesBack};
 
 use crate::cert::{Cert, Note, RowHead};
-use crate::item::{CertFault, Item};
+use crate::item::{CertFault, PlanItem};
 use crate::reader::CertReader;
 use arrayvec::ArrayVec;
 use brake_base::{Reason, Step, Worth};
@@ -86,38 +88,39 @@ fn add_row(cert: &mut Cert, row: RowHead) -> Result<(), AllocError>
 }
 
 /// Adds what an item says.
-fn add_item(cert: &mut Cert, item: Item) -> Result<(), AllocError>
-    ensures { OnOk result (cert_data cert.new ≡ with_item (cert_data cert.old) item) }
+fn add_item(cert: &mut Cert, item: PlanItem) -> Result<(), AllocError>
+    ensures { OnOk result (cert_data cert.new ≡ with_item (cert_data cert.old) (item_of item)) }
 {
     match item {
-        Item::Claim(claim) => {
+        PlanItem::Claim(claim) => {
             cert.claim = claim;
             Ok(())
         }
-        Item::Step(step) => {
+        PlanItem::Step(step) => {
             add_step(cert, step);
             Ok(())
         }
-        Item::Row(row) => add_row(cert, row),
-        Item::Note { action, reason } => add_note(cert, action, reason),
-        Item::Job(_) | Item::End => Ok(()),
+        PlanItem::Row(row) => add_row(cert, row),
+        PlanItem::Note { action, reason } => add_note(cert, action, reason),
+        PlanItem::End => Ok(()),
     }
 }
 
 /// Whether the item is the last.
-fn is_last(item: &Item) -> bool
-    ensures { result ≡ is_last item.now }
+fn is_last(item: &PlanItem) -> bool
+    ensures { result ≡ is_last (item_of item.now) }
 {
-    matches!(item, Item::End)
+    matches!(item, PlanItem::End)
 }
 
 /// Reads an item and adds what it says. Whether it was the last.
 fn take_item(cert: &mut Cert, reader: &mut CertReader) -> Result<bool, CertFault>
-    requires { AnswersLeft reader.old }
+    requires job { 0 < reader.old.answered }
+    requires left { AnswersLeft reader.old }
     ensures value { Collects result (cert_data cert.old) reader.old (cert_data cert.new) reader.new }
     ensures after { reader.new ≡ record reader.old { answered = reader.old.answered + 1 } }
 {
-    let item = reader.next()?;
+    let item = reader.next_behind_job()?;
     let is_last = is_last(&item);
     add_item(cert, item)?;
     Ok(is_last)
@@ -125,7 +128,8 @@ fn take_item(cert: &mut Cert, reader: &mut CertReader) -> Result<bool, CertFault
 
 /// Reads the items up to the end.
 fn collect(cert: &mut Cert, reader: &mut CertReader) -> Result<(), CertFault>
-    requires { AnswersLeft reader.old }
+    requires job { 0 < reader.old.answered }
+    requires left { AnswersLeft reader.old }
     ensures { GivesOr NoMemory (λ _. cert_data cert.new) result
         (cert_of (cert_data cert.old) (answers_left reader.old)) }
 {
@@ -142,17 +146,15 @@ fn first_job(reader: &mut CertReader) -> Result<Job, CertFault>
     requires start { reader.old.answered ≡ 0 }
     ensures { BeginsWith reader.old result reader.new }
 {
-    match reader.next()? {
-        Item::Job(job) => Ok(job),
-        _ => Err(CertFault::Unended),
-    }
+    reader.read_job()
 }
 
 /// The certificate that the text is, with its job and its version, or the first refusal.
 pub fn read_cert(alloc: Global, text: &[u8]) -> Result<CertFile, CertFault>
     ensures value { GivesOr NoMemory cert_file_data result (cert_file_of text.now) }
     ensures whole { IfOk result (λ file. IsReadFrom (cert_file_data file) text.now) }
-    ensures written { ReadsWritten text.now }
+    ensures exact { IsExact text.now result }
+    ensures written { GivesBack text.now }
 {
     let mut reader = CertReader::new(text);
     let job = first_job(&mut reader)?;

@@ -17,6 +17,34 @@ pub enum Item {
     End,
 }
 
+/// What a line behind the job gives.
+#[derive(Clone, Copy, Debug, PartialEq, Eq)]
+pub enum PlanItem {
+    Claim(Worth),
+    Step(Step),
+    Row(RowHead),
+    /// A reason against an action, by its number, at the key of the last row.
+    Note { action: u8, reason: Reason },
+    End,
+}
+
+impl From<PlanItem> for Item {
+    ghost use Rattle.std.specs.Prelude.{◌≡◌};
+    ghost use Rattle.plan_cert.specs.PlanItem.{item_of};
+
+    ghost from_gives = { λ plan item. item ≡ item_of plan };
+
+    fn from(item: PlanItem) -> Self {
+        match item {
+            PlanItem::Claim(claim) => Item::Claim(claim),
+            PlanItem::Step(step) => Item::Step(step),
+            PlanItem::Row(row) => Item::Row(row),
+            PlanItem::Note { action, reason } => Item::Note { action, reason },
+            PlanItem::End => Item::End,
+        }
+    }
+}
+
 /// Why a text is refused.
 #[derive(Clone, Copy, Debug, PartialEq, Eq)]
 pub enum CertFault {

@@ -2,12 +2,14 @@
 ghost use Rattle.std.specs.Prelude.{◌≡◌, ◌+◌, ◌≤◌, ◌<◌, ℕ, IsTrue, IfSome};
 ghost use Rattle.job_setup.specs.Setup.{JobData};
 ghost use Rattle.plan_cert.specs.JobReading.{keyword_in, behind_keyword};
+ghost use Rattle.cert_words.specs.LineWords.{Reads};
 ghost use Rattle.plan_cert.specs.Facts.{KeepsFacts};
+ghost use Rattle.plan_cert.specs.PlanItem.{placed};
 ghost use Rattle.plan_cert.specs.PlanReading.{behind_claim, are_enough, may_leave, may_be_row, take_claim, step_behind, take_step, row_behind, take_row, take_note, noted, note_behind, IsActionAmong, plan_line_of, take_plan_words, take_plan_line, is_end_line, is_claim_line, is_row_line, may_follow_job, first_section};
 
 use crate::cert::RowHead;
 use crate::format::Format;
-use crate::item::Item;
+use crate::item::PlanItem;
 use crate::job_facts::JobFacts;
 use crate::section::{PlanLine, Section};
 use brake_base::{Action, Key, Reason, Worth, action_number};
@@ -56,13 +58,13 @@ fn may_be_row(format: Format, bends: u8, section: &Section, key: &Key) -> bool
 
 /// The claim.
 #[tactic(auto, unfolding(crate::specs::PlanReading::take_claim))]
-fn take_claim(section: &Section, text: &[u8]) -> Option<(Item, Section)>
-    ensures { result ≡ take_claim section.now text.now }
+fn take_claim(section: &Section, text: &[u8]) -> Option<(PlanItem, Section)>
+    ensures { Reads placed result (take_claim section.now text.now) }
 {
     match section {
         Section::Claim => {
             let claim = claim(text)?;
-            Some((Item::Claim(claim), behind_claim(claim)))
+            Some((PlanItem::Claim(claim), behind_claim(claim)))
         }
         _ => None,
     }
@@ -70,9 +72,10 @@ fn take_claim(section: &Section, text: &[u8]) -> Option<(Item, Section)>
 
 /// A step, of which there is at most one for each bend.
 #[tactic(auto, unfolding(crate::specs::PlanReading::take_step))]
-fn take_step(facts: &JobFacts, section: &Section, text: &[u8]) -> Option<(Item, Section)>
+fn take_step(facts: &JobFacts, section: &Section, text: &[u8]) -> Option<(PlanItem, Section)>
     requires { facts.now.bends ≤ 12 }
-    ensures { (job : JobData) → KeepsFacts facts.now job → result ≡ take_step job section.now text.now }
+    ensures { (job : JobData) → KeepsFacts facts.now job
+        → Reads placed result (take_step job section.now text.now) }
 {
     match section {
         Section::Steps(steps) => step_behind(facts, *steps, text),
@@ -82,27 +85,30 @@ fn take_step(facts: &JobFacts, section: &Section, text: &[u8]) -> Option<(Item, 
 
 /// A step behind so many steps.
 #[tactic(auto, unfolding(crate::specs::PlanReading::step_behind))]
-fn step_behind(facts: &JobFacts, steps: u8, text: &[u8]) -> Option<(Item, Section)>
+fn step_behind(facts: &JobFacts, steps: u8, text: &[u8]) -> Option<(PlanItem, Section)>
     requires { facts.now.bends ≤ 12 }
-    ensures { result ≡ step_behind facts.now.bends facts.now.stages steps text.now }
+    ensures { Reads placed result (step_behind facts.now.bends facts.now.stages steps text.now) }
 {
     if steps >= facts.bends {
         return None;
     }
     let step = step(text, facts.bends, facts.stages)?;
-    Some((Item::Step(step), Section::Steps(steps + 1)))
+    Some((PlanItem::Step(step), Section::Steps(steps + 1)))
 }
 
 /// A row, behind the rows of lesser keys.
 #[tactic(auto, unfolding(crate::specs::PlanReading::row_behind))]
-fn row_behind(facts: &JobFacts, section: &Section, text: &[u8]) -> Option<(Item, Section)>
+fn row_behind(facts: &JobFacts, section: &Section, text: &[u8]) -> Option<(PlanItem, Section)>
     requires { facts.now.bends ≤ 12 }
-    ensures { result
-        ≡ row_behind facts.now.format facts.now.bends facts.now.stages section.now text.now }
+    ensures { Reads placed result
+        (row_behind facts.now.format facts.now.bends facts.now.stages section.now text.now) }
 {
     let (key, worth) = row(text, facts.bends, facts.stages)?;
     if may_be_row(facts.format, facts.bends, section, &key) {
-        Some((Item::Row(RowHead { key, worth }), Section::Notes(key, 0)))
+        Some((
+            PlanItem::Row(RowHead { key, worth }),
+            Section::Notes(key, 0),
+        ))
     } else {
         None
     }
@@ -110,10 +116,10 @@ fn row_behind(facts: &JobFacts, section: &Section, text: &[u8]) -> Option<(Item,
 
 /// A row, behind the rows of lesser keys.
 #[tactic(auto, unfolding(crate::specs::PlanReading::take_row))]
-fn take_row(facts: &JobFacts, section: &Section, text: &[u8]) -> Option<(Item, Section)>
+fn take_row(facts: &JobFacts, section: &Section, text: &[u8]) -> Option<(PlanItem, Section)>
     requires { facts.now.bends ≤ 12 }
     ensures { (job : JobData) → KeepsFacts facts.now job
-        → result ≡ take_row facts.now.format job section.now text.now }
+        → Reads placed result (take_row facts.now.format job section.now text.now) }
 {
     row_behind(facts, section, text)
 }
@@ -126,17 +132,17 @@ fn noted(
     least: u8,
     action: Action,
     reason: Reason,
-) -> Option<(Item, Section)>
+) -> Option<(PlanItem, Section)>
     requires bends { facts.now.bends ≤ 12 }
     requires stages { facts.now.stages ≤ 6 }
     requires action { IsActionAmong facts.now.bends facts.now.stages action }
     ensures { (job : JobData) → KeepsFacts facts.now job
-        → result ≡ noted job key.now least action reason }
+        → Reads placed result (noted job key.now least action reason) }
 {
     let number = action_number(action, facts.stages);
     if least <= number && facts.is_lead(key.mask, action.bend) {
         Some((
-            Item::Note {
+            PlanItem::Note {
                 action: number,
                 reason,
             },
@@ -149,11 +155,11 @@ fn noted(
 
 /// A note at a key, of at least this number.
 #[tactic(auto, unfolding(crate::specs::PlanReading::note_behind))]
-fn note_behind(facts: &JobFacts, key: &Key, least: u8, text: &[u8]) -> Option<(Item, Section)>
+fn note_behind(facts: &JobFacts, key: &Key, least: u8, text: &[u8]) -> Option<(PlanItem, Section)>
     requires bends { facts.now.bends ≤ 12 }
     requires stages { facts.now.stages ≤ 6 }
     ensures { (job : JobData) → KeepsFacts facts.now job
-        → result ≡ note_behind job facts.now.bends facts.now.stages key.now least text.now }
+        → Reads placed result (note_behind job facts.now.bends facts.now.stages key.now least text.now) }
 {
     let (action, reason) = note(text, facts.bends, facts.stages)?;
     noted(facts, key, least, action, reason)
@@ -161,10 +167,11 @@ fn note_behind(facts: &JobFacts, key: &Key, least: u8, text: &[u8]) -> Option<(I
 
 /// A note behind its row or another note of the row.
 #[tactic(auto, unfolding(crate::specs::PlanReading::take_note))]
-fn take_note(facts: &JobFacts, section: &Section, text: &[u8]) -> Option<(Item, Section)>
+fn take_note(facts: &JobFacts, section: &Section, text: &[u8]) -> Option<(PlanItem, Section)>
     requires bends { facts.now.bends ≤ 12 }
     requires stages { facts.now.stages ≤ 6 }
-    ensures { (job : JobData) → KeepsFacts facts.now job → result ≡ take_note job section.now text.now }
+    ensures { (job : JobData) → KeepsFacts facts.now job
+        → Reads placed result (take_note job section.now text.now) }
 {
     match section {
         Section::Notes(key, least) => note_behind(facts, key, *least, text),
@@ -192,11 +199,12 @@ fn take_plan_words(
     section: &Section,
     kind: PlanLine,
     text: &[u8],
-) -> Option<(Item, Section)>
+) -> Option<(PlanItem, Section)>
     requires bends { facts.now.bends ≤ 12 }
     requires stages { facts.now.stages ≤ 6 }
     ensures { (job : JobData) → KeepsFacts facts.now job
-        → result ≡ take_plan_words facts.now.format job section.now kind text.now }
+        → Reads placed result
+        (take_plan_words facts.now.format job section.now kind text.now) }
 {
     match kind {
         PlanLine::Claim => take_claim(section, text),
@@ -212,12 +220,13 @@ pub(crate) fn take_plan_line(
     facts: &JobFacts,
     section: &Section,
     line: &[u8],
-) -> Option<(Item, Section)>
+) -> Option<(PlanItem, Section)>
     requires bends { facts.now.bends ≤ 12 }
     requires stages { facts.now.stages ≤ 6 }
     ensures { (job : JobData) → KeepsFacts facts.now job
-        → result ≡ take_plan_line facts.now.format job section.now (keyword_in line.now)
-        (behind_keyword line.now) }
+        → Reads placed result
+        (take_plan_line facts.now.format job section.now (keyword_in line.now)
+        (behind_keyword line.now)) }
 {
     let (keyword, text) = split_word(line);
     let kind = plan_line_of(keyword)?;

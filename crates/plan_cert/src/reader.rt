@@ -5,10 +5,11 @@ ghost use Rattle.job_setup.specs.ValidJob.{IsJob};
 ghost use Rattle.plan_cert.specs.Facts.{KeepsFacts, HasFew};
 ghost use Rattle.plan_cert.specs.JobReading.{job_lines_data, job_of, no_lines};
 ghost use Rattle.plan_cert.specs.Items.{items, lines_in, end_before, end_or_fault, plan_item, items_behind, job_items};
-ghost use Rattle.plan_cert.specs.Reading.{Reading, LeavesIn, Leaves, Gives, GivesJob, IsJudged, Stops};
+ghost use Rattle.plan_cert.specs.PlanItem.{plan_answer, job_answer};
+ghost use Rattle.plan_cert.specs.Reading.{Reading, LeavesIn, Gives, GivesJob, IsJudged, Stops};
 
 use crate::format::{Format, Kind, format_of};
-use crate::item::{CertFault, Item};
+use crate::item::{CertFault, Item, PlanItem};
 use crate::job_facts::JobFacts;
 use crate::job_reading::{JobLines, may_be_judged};
 use crate::plan_reading::{first_section, is_end_line, may_leave, take_plan_line};
@@ -31,14 +32,14 @@ impl<'a> Model for CertReader<'a> {
     ghost use Rattle.std.specs.Prelude.{drop};
     ghost use Rattle.plan_cert.specs.Items.{items};
     ghost use Rattle.plan_cert.specs.Facts.{HasFew};
-    ghost use Rattle.plan_cert.specs.Reading.{Reading, Leaves};
+    ghost use Rattle.plan_cert.specs.Reading.{Reading, Leaves, IsBegun};
 
     ghost Value = { Reading };
 
     ghost view = { λ r. record { kind = r.kind; text = r.text.now; answered = r.answered } };
 
     ghost invariant = { λ r. Leaves r.kind r.stand (drop r.answered (items r.kind r.text.now))
-        × HasFew r.stand.facts };
+        × HasFew r.stand.facts × IsBegun r.answered r.stand.is_begun };
 }
 
 /// The end, where nothing stands behind its line, or the refusal of a line.
@@ -48,9 +49,10 @@ fn end_or_fault(
     number: u32,
     line: &[u8],
     rest: &[u8],
-) -> Result<Item, CertFault>
+) -> Result<PlanItem, CertFault>
     ensures { (job : JobData) → KeepsFacts facts.now job
-        → result ≡ end_or_fault facts.now.format job number section.now line.now (lines_in rest.now) }
+        → plan_answer result
+        ≡ end_or_fault facts.now.format job number section.now line.now (lines_in rest.now) }
 {
     if !is_end_line(line) || !may_leave(facts.format, facts.bends, section) {
         return Err(CertFault::BadLine { line: number });
@@ -59,11 +61,11 @@ fn end_or_fault(
 }
 
 /// The end, where nothing stands behind its line.
-fn end_before(rest: &[u8]) -> Result<Item, CertFault>
-    ensures { result ≡ end_before (lines_in rest.now) }
+fn end_before(rest: &[u8]) -> Result<PlanItem, CertFault>
+    ensures { plan_answer result ≡ end_before (lines_in rest.now) }
 {
     if rest.is_empty() {
-        Ok(Item::End)
+        Ok(PlanItem::End)
     } else {
         Err(CertFault::Trailing)
     }
@@ -76,10 +78,11 @@ fn plan_item(
     number: u32,
     line: &[u8],
     rest: &[u8],
-) -> (Result<Item, CertFault>, Section)
+) -> (Result<PlanItem, CertFault>, Section)
     requires { HasFew facts.now }
     ensures { (job : JobData) → KeepsFacts facts.now job
-        → result ≡ plan_item facts.now.format job number section.now line.now (lines_in rest.now) }
+        → (plan_answer result.0, result.1)
+        ≡ plan_item facts.now.format job number section.now line.now (lines_in rest.now) }
 {
     match take_plan_line(facts, section, line) {
         Some((item, next)) => (Ok(item), next),
@@ -91,12 +94,12 @@ fn plan_item(
 }
 
 /// The answer behind the job.
-fn plan_answer(stand: &mut Stand) -> Result<Item, CertFault>
+fn answer_behind_job(stand: &mut Stand) -> Result<PlanItem, CertFault>
     requires begun { stand.old.is_begun ≡ true }
     requires few { HasFew stand.old.facts }
     ensures { (answers : List (Result Item CertFault))
         → LeavesIn stand.old.section stand.old answers → 0 < length answers
-        → Gives answers result stand.new }
+        → Gives answers (plan_answer result) stand.new }
 {
     match whole_line(stand.rest) {
         Some((line, rest)) => {
@@ -112,18 +115,18 @@ fn plan_answer(stand: &mut Stand) -> Result<Item, CertFault>
             stand.section = section;
             answer
         }
-        None => refuse(stand, CertFault::Unended),
+        None => Err(refuse(stand, CertFault::Unended)),
     }
 }
 
-/// Refuses the text, so that no answer is left.
-fn refuse(stand: &mut Stand, fault: CertFault) -> Result<Item, CertFault>
+/// Refuses the text, so that no answer is left behind the fault.
+fn refuse(stand: &mut Stand, fault: CertFault) -> CertFault
     requires { HasFew stand.old.facts }
-    ensures { Gives (Err fault ∷ []) result stand.new }
+    ensures { Gives (Err fault ∷ []) (Err result) stand.new }
 {
     stand.is_begun = true;
     stand.section = Section::Over;
-    Err(fault)
+    fault
 }
 
 /// The text behind the job lines from here on, and the number of its first line.
@@ -169,18 +172,19 @@ fn job_behind(lines: JobLines, line: &[u8], number: u32) -> Result<Job, CertFaul
     }
 }
 
-/// The job of the job lines as an answer, or its refusal.
-fn judged_answer<'a>(
+/// The job of the job lines, behind which the lines of the plan are left, or its refusal.
+fn judged_job<'a>(
     stand: &mut Stand<'a>,
     lines: JobLines,
     line: &[u8],
     rest: &'a [u8],
     number: u32,
-) -> Result<Item, CertFault>
+) -> Result<Job, CertFault>
     requires { HasFew stand.old.facts }
     ensures { (behind : List (List ℕ))
         → lines_in rest.now ≡ line.now ∷ behind
-        → Gives (items_behind number (job_lines_data lines) line.now behind) result stand.new }
+        → Gives (items_behind number (job_lines_data lines) line.now behind)
+        (job_answer result) stand.new }
 {
     let format = lines.format;
     match job_behind(lines, line, number) {
@@ -190,49 +194,57 @@ fn judged_answer<'a>(
             stand.number = number;
             stand.section = first_section(format);
             stand.facts = JobFacts::new(format, &job);
-            Ok(Item::Job(job))
+            Ok(job)
         }
-        Err(fault) => refuse(stand, fault),
+        Err(fault) => Err(refuse(stand, fault)),
     }
 }
 
-/// The job as an answer, or a refusal, behind the line of the format.
-fn job_answer<'a>(stand: &mut Stand<'a>, format: Format, text: &'a [u8]) -> Result<Item, CertFault>
+/// The job, or a refusal, behind the line of the format.
+fn job_in<'a>(stand: &mut Stand<'a>, format: Format, text: &'a [u8]) -> Result<Job, CertFault>
     requires { HasFew stand.old.facts }
-    ensures { Gives (job_items 2 (no_lines format) (lines_in text.now)) result stand.new }
+    ensures { Gives (job_items 2 (no_lines format) (lines_in text.now))
+        (job_answer result) stand.new }
 {
     let mut lines = JobLines::new(format);
     let (rest, number) = behind_job_lines(&mut lines, text, 2);
     match whole_line(rest) {
-        Some((line, _)) => judged_answer(stand, lines, line, rest, number),
-        None => refuse(stand, CertFault::Unended),
+        Some((line, _)) => judged_job(stand, lines, line, rest, number),
+        None => Err(refuse(stand, CertFault::Unended)),
     }
 }
 
 /// The first answer: the job, or a refusal.
-fn first_answer(kind: Kind, stand: &mut Stand) -> Result<Item, CertFault>
+fn first_answer(kind: Kind, stand: &mut Stand) -> Result<Job, CertFault>
     requires { HasFew stand.old.facts }
-    ensures { Gives (items kind stand.old.rest.now) result stand.new }
+    ensures { Gives (items kind stand.old.rest.now) (job_answer result) stand.new }
 {
     match whole_line(stand.rest) {
         Some((line, rest)) => match format_of(kind, line) {
-            Some(format) => job_answer(stand, format, rest),
-            None => refuse(stand, CertFault::BadLine { line: 1 }),
+            Some(format) => job_in(stand, format, rest),
+            None => Err(refuse(stand, CertFault::BadLine { line: 1 })),
         },
-        None => refuse(stand, CertFault::Unended),
+        None => Err(refuse(stand, CertFault::Unended)),
     }
 }
 
-/// The next answer.
-fn answer(kind: Kind, stand: &mut Stand) -> Result<Item, CertFault>
-    requires { HasFew stand.old.facts }
-    ensures { (answers : List (Result Item CertFault))
-        → Leaves kind stand.old answers → 0 < length answers → Gives answers result stand.new }
+/// The job as an item.
+fn job_item(answer: Result<Job, CertFault>) -> Result<Item, CertFault>
+    ensures { result ≡ job_answer answer }
 {
-    if stand.is_begun {
-        plan_answer(stand)
-    } else {
-        first_answer(kind, stand)
+    match answer {
+        Ok(job) => Ok(Item::Job(job)),
+        Err(fault) => Err(fault),
+    }
+}
+
+/// What a line behind the job gives, as an item.
+fn item_behind_job(answer: Result<PlanItem, CertFault>) -> Result<Item, CertFault>
+    ensures { result ≡ plan_answer answer }
+{
+    match answer {
+        Ok(item) => Ok(Item::from(item)),
+        Err(fault) => Err(fault),
     }
 }
 
@@ -275,7 +287,34 @@ impl<'a> CertReader<'a> {
             ≡ Some result }
         ensures after { self.new ≡ record self.old { answered = self.old.answered + 1 } }
     {
+        if self.answered == 0 {
+            job_item(self.read_job())
+        } else {
+            item_behind_job(self.next_behind_job())
+        }
+    }
+
+    /// The first answer, as `next` gives it: the job, or the refusal. It takes no memory.
+    pub fn read_job(&mut self) -> Result<Job, CertFault>
+        requires { self.old.answered ≡ 0 }
+        ensures given { slice_get (items self.old.kind self.old.text) self.old.answered
+            ≡ Some (job_answer result) }
+        ensures after { self.new ≡ record self.old { answered = self.old.answered + 1 } }
+    {
         self.answered += 1;
-        answer(self.kind, &mut self.stand)
+        first_answer(self.kind, &mut self.stand)
+    }
+
+    /// The next answer behind the job, as `next` gives it, in a small value: what the line gives, or
+    /// the refusal. It takes no memory.
+    pub fn next_behind_job(&mut self) -> Result<PlanItem, CertFault>
+        requires job { 0 < self.old.answered }
+        requires left { self.old.answered < length (items self.old.kind self.old.text) }
+        ensures given { slice_get (items self.old.kind self.old.text) self.old.answered
+            ≡ Some (plan_answer result) }
+        ensures after { self.new ≡ record self.old { answered = self.old.answered + 1 } }
+    {
+        self.answered += 1;
+        answer_behind_job(&mut self.stand)
     }
 }

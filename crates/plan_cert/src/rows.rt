@@ -23,13 +23,13 @@ pub fn put_worth(out: &mut Vec<u8>, worth: Worth) -> Result<(), AllocError>
     }
 }
 
-/// The word for the side at the back.
-fn back_word(back: Back) -> &'static [u8]
-    ensures { result.now ≡ back_word back }
+/// The word for the side at the back, behind a space.
+fn put_back(out: &mut Vec<u8>, back: Back) -> Result<(), AllocError>
+    ensures { OnOk result (out.new.items ≡ out.old.items ++ spaced (back_word back)) }
 {
     match back {
-        Back::Parent => b"P",
-        Back::Child => b"C",
+        Back::Parent => put_word(out, b" P"),
+        Back::Child => put_word(out, b" C"),
     }
 }
 
@@ -50,7 +50,7 @@ pub(crate) fn put_action(out: &mut Vec<u8>, action: &Action) -> Result<(), Alloc
         ≡ out.old.items ++ flat_map spaced (action_words action.now)) }
 {
     put_count(out, u64::from(action.bend))?;
-    put_spaced(out, back_word(action.back))?;
+    put_back(out, action.back)?;
     put_count(out, u64::from(action.stage))
 }
 

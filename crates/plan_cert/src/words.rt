@@ -25,12 +25,24 @@ pub(crate) fn put_signed(out: &mut Vec<u8>, value: i64) -> Result<(), AllocError
     put_number(out, value)
 }
 
-/// A number behind a space.
+/// A digit behind a space.
+#[tactic(auto, using(std::proofs::lemmas::Fmt::decimal_digit))]
+fn put_digit(out: &mut Vec<u8>, digit: u8) -> Result<(), AllocError>
+    requires { digit < 10 }
+    ensures { OnOk result (out.new.items ≡ out.old.items ++ spaced (number digit)) }
+{
+    put_word(out, &[b' ', b'0' + digit])
+}
+
+/// A number behind a space. Most have one digit, which is put without a division.
 #[tactic(auto, using(crate::proofs::Texts::pieces))]
 pub fn put_count(out: &mut Vec<u8>, value: u64) -> Result<(), AllocError>
     requires { value < 2 ^ 63 }
     ensures { OnOk result (out.new.items ≡ out.old.items ++ spaced (number value)) }
 {
+    if value < 10 {
+        return put_digit(out, value as u8);
+    }
     put_signed(out, value as i64)
 }
 

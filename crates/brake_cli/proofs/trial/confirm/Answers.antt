@@ -1,7 +1,7 @@
 use Rattle.std.proofs.Common.{◌≡◌, ℕ, List, Err, ◌∙◌, sym, subst}
 use Rattle.plan_cert.specs.Cert.{cert_data}
 use Rattle.plan_cert.specs.CertText.{cert_text2}
-use Rattle.cert_check.specs.Texts.{IsTextOf}
+use Rattle.cert_check.specs.Texts.{IsTextOfCert}
 use Rattle.brake_cli.proofs.CertTexts.{text_is}
 use Rattle.cert_check.specs.Checking.{IsGoodText}
 use Rattle.cert_check.proofs.Accepting.{good_text_accepted}
@@ -18,7 +18,7 @@ unreachable-requires c =
     let text = c.as_slice.ensures.value in
     let written : c.as_slice.result.now ≡ cert_text2 job cert = text ∙ c.in_ok-text.ensures in
     let good : IsGoodText c.as_slice.result.now job cert = record {
-      written = subst (λ (bytes : List ℕ). IsTextOf bytes job cert) (sym written) (text_is job cert c.requires.valid c.requires.proves.proves.proves.form);
+      written = subst (λ (bytes : List ℕ). IsTextOfCert bytes job cert) (sym written) (text_is job cert c.requires.valid c.requires.proves.proves.proves.form);
       good = c.requires.proves.proves.proves;
     } in
     let is = refused_is c.as_slice.result.now c.in-Err.fault c.in-Err.ensures.answer c.in_default.not-NoMemory in

@@ -1,4 +1,4 @@
-use Rattle.std.proofs.Common.{◌≡◌, ◌∷◌, ℕ, Bool, List, Ok, refl, ap, subst}
+use Rattle.std.proofs.Common.{◌≡◌, ◌<◌, ◌∷◌, ℕ, Bool, List, Ok, refl, sym, ap, subst, arith}
 use Rattle.plan_cert.specs.declared.item.Item.TheVariants as given
 use Rattle.plan_cert.specs.declared.format.Kind.TheVariants.{Certificate}
 use Rattle.plan_cert.specs.Reading.{Reading}
@@ -15,6 +15,7 @@ loop-is_open-init c = record {
   read = no_cert;
   has = record { claim = refl; steps = c.new.ensures; rows = c.new-2.ensures.items };
   same = refl;
+  job_read = subst (λ (q : Reading). 0 < q.answered) (sym c.first_job.ensures.reader) (omega arith);
   more = c.in_ok-job.ensures.more;
 }
 
@@ -26,5 +27,6 @@ returns-in-Err c =
 pub loop-is_open-preserved : goal.loop-is_open-preserved
 loop-is_open-preserved c =
     let now : Reads c.args.text.now c.loop-is_open.heads c.loop-is_open.reader = subst (λ (b : Bool). ReadsBy b c.args.text.now c.loop-is_open.heads c.loop-is_open.reader) c.loop-is_open-test.true c.loop-is_open.invariant in
-    reads_on c.args.text.now c.loop-is_open.heads c.loop-is_open.reader now c.take_item.new.heads c.take_item.new.reader c.in-Ok.more c.take_item.ensures.job (left_some c.take_item.new.reader)
+    reads_on c.args.text.now c.loop-is_open.heads c.loop-is_open.reader now c.take_item.new.heads c.take_item.new.reader c.in-Ok.more c.take_item.ensures.job
+    (subst (λ (q : Reading). 0 < q.answered) (sym c.take_item.ensures.reader) (omega arith)) (left_some c.take_item.new.reader)
     (c.in-Ok.ensures.item now.read now.has)

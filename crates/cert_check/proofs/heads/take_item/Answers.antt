@@ -2,6 +2,7 @@ use Rattle.std.proofs.Common.{Bool, List, Result, Ok, Err, not, sym, ◌∙◌, 
 use Rattle.plan_cert.specs.declared.item.Item.{Item}
 use Rattle.plan_cert.specs.declared.item.CertFault.{CertFault}
 use Rattle.plan_cert.specs.Reading.{Reading}
+use Rattle.plan_cert.specs.PlanItem.{item_of}
 use Rattle.plan_cert.specs.CertReading.{answers_left, is_last, cert_of}
 use Rattle.cert_check.specs.Heads.{ItemAnswer, behind}
 use Rattle.cert_check.proofs.ItemLemmas.{left_on, of_fault, item_read, answer_behind}
@@ -10,11 +11,11 @@ use Rattle.cert_check.proofs.heads.take_item.Goals as goal
 pub returns-in_ok-keep-in-Ok-clause-item : goal.returns-in_ok-keep-in-Ok-clause-item
 returns-in_ok-keep-in-Ok-clause-item c = λ before has.
     let r = c.args.reader.now in
-    let item = c.in-Ok.item in
+    let item = item_of c.in-Ok.item in
     let heads = c.keep.new.heads in
     let kept = c.in_ok-keep-in-Ok.ensures.kept before has in
-    subst (λ (more : Bool). ItemAnswer (Ok more) before (answers_left r) heads (answers_left c.next.new.self)) (sym c.in_ok-keep-in-Ok.ensures.more)
-    (subst (λ (q : Reading). ItemAnswer (Ok (not (is_last item))) before (answers_left r) heads (answers_left q)) (sym c.next.ensures.after)
+    subst (λ (more : Bool). ItemAnswer (Ok more) before (answers_left r) heads (answers_left c.next_behind_job.new.self)) (sym c.in_ok-keep-in-Ok.ensures.more)
+    (subst (λ (q : Reading). ItemAnswer (Ok (not (is_last item))) before (answers_left r) heads (answers_left q)) (sym c.next_behind_job.ensures.after)
     (subst (λ (left : List (Result Item CertFault)). ItemAnswer (Ok (not (is_last item))) before left heads (answers_left (behind r))) (sym (left_on r (Ok item) c.in-Ok.ensures.given))
     (item_read heads before item (answers_left (behind r)) kept (λ goes. answer_behind r item c.in-Ok.ensures.given goes))))
 

@@ -1,44 +1,57 @@
-use Rattle.std.proofs.Common.{◌≡◌, ◌<◌, ℕ, List, length, Ok, Err, refl, sym, ◌∙◌, ap, subst, arith}
+use Rattle.std.proofs.Common.{◌≡◌, ◌<◌, ◌∷◌, ℕ, List, length, Ok, Err, refl, ◌∙◌, ap, subst, arith}
 use Rattle.job_setup.specs.Setup.{JobData}
 use Rattle.plan_cert.specs.declared.cert.RowHead.{RowHead}
 use Rattle.plan_cert.specs.declared.format.Kind.TheVariants.{Certificate}
 use Rattle.plan_cert.specs.Reading.{Reading}
 use Rattle.plan_cert.specs.Cert.{CertData}
-use Rattle.plan_cert.specs.CertReading.{AnswersLeft, no_cert, cert_of, answers_left}
-use Rattle.plan_cert.proofs.Collecting.{some_answer}
-use Rattle.cert_check.specs.Texts.{IsTextOf}
-use Rattle.cert_check.specs.Heads.{IsTextOfRows}
+use Rattle.plan_cert.specs.declared.item.Item.TheVariants as given
+use Rattle.plan_cert.specs.declared.item.CertFault.{CertFault}
+use Rattle.plan_cert.specs.Items.{items}
+use Rattle.plan_cert.specs.CertReading.{no_cert, cert_of, cert_file_of, answers_left}
+use Rattle.cert_check.specs.Texts.{IsTextOfCert, IsRefusedFor}
+use Rattle.cert_check.specs.Heads.{IsTextOfRows, JobAnswer}
 use Rattle.cert_check.specs.RowFaults.{RowsAreAccounted}
 use Rattle.cert_check.specs.Rows.{RowAnswer}
-use Rattle.cert_check.proofs.ItemLemmas.{text_items}
+use Rattle.cert_check.proofs.ItemLemmas.{text_items_behind}
 use Rattle.cert_check.proofs.NoteLemmas.{holds_none}
-use Rattle.cert_check.proofs.Accepting.{one_text}
+use Rattle.cert_check.proofs.Accepting.{one_text, text_reads}
 use Rattle.cert_check.proofs.Deciding.{text_form}
 use Rattle.cert_check.proofs.Accounting.{ready_first, ready_on, read_to, ahead_of, rows_on, row_fault, most_actions, fewer_rows}
 use Rattle.cert_check.proofs.notes.check_notes.Goals as goal
 
 -- the rows are those of the text's certificate
-rows_same : (text : List ℕ) (job : JobData) (rows : List RowHead) (is : IsTextOfRows text job rows) (cert : CertData) → IsTextOf text job cert → rows ≡ cert.rows
+rows_same : (text : List ℕ) (job : JobData) (rows : List RowHead) (is : IsTextOfRows text job rows) (cert : CertData) → IsTextOfCert text job cert → rows ≡ cert.rows
 rows_same text job rows is cert written = is.same ∙ ap (λ (c : CertData). c.rows) (one_text text job job is.cert cert is.written written).1
 
--- what a new reader has still to answer makes the certificate
-new_completes : (text : List ℕ) (job : JobData) (reader : Reading) (cert : CertData) → reader ≡ record { kind = Certificate; text = text; answered = 0 } → IsTextOf text job cert → cert_of no_cert (answers_left reader) ≡ Ok cert
-new_completes text job reader cert is written =
-    subst (λ (q : Reading). cert_of no_cert (answers_left q) ≡ Ok cert) (sym is) (text_items text (record { job = job; cert = cert; version = written.version }) written.reads)
+-- what the reader has still to answer behind the job makes the certificate
+job_completes : (text : List ℕ) (job first : JobData) (reader behind : Reading) (cert : CertData) → reader ≡ record { kind = Certificate; text = text; answered = 0 } → JobAnswer reader.text (Ok first) (answers_left behind) → IsTextOfCert text job cert
+    → cert_of no_cert (answers_left behind) ≡ Ok cert
+job_completes text job first reader behind cert is answer written =
+    text_items_behind text (record { job = job; cert = cert; version = written.version }) first (answers_left behind) (text_reads text job cert written)
+    (subst (λ (q : Reading). items Certificate q.text ≡ Ok (given.Job first) ∷ answers_left behind) is answer)
 
-pub read_notes-requires : goal.read_notes-requires
-read_notes-requires c = subst AnswersLeft (sym c.new-reader.ensures) (some_answer Certificate c.args.text.now)
+-- the text of a certificate is refused for nothing
+not_refused : (text : List ℕ) (job : JobData) (reader : Reading) (cert : CertData) (fault : CertFault) → reader ≡ record { kind = Certificate; text = text; answered = 0 } → IsRefusedFor reader.text fault → IsTextOfCert text job cert → ⊥
+not_refused text job reader cert fault is refused written =
+    let refuses : cert_file_of text ≡ Err fault = subst (λ (q : Reading). cert_file_of q.text ≡ Err fault) is refused in
+    let reads = text_reads text job cert written in
+    cc
+
+pub returns-in_err-first_job-clause-answer : goal.returns-in_err-first_job-clause-answer
+returns-in_err-first_job-clause-answer c = λ cert written.
+    absurd (not_refused c.args.text.now c.args.job.now c.new-reader.result cert c.in_err-first_job.field-0.0 c.new-reader.ensures c.in_err-first_job.ensures.job written)
 
 pub returns-in_err-read_notes-clause-answer : goal.returns-in_err-read_notes-clause-answer
 returns-in_err-read_notes-clause-answer c = λ cert written.
-    absurd (c.in_err-read_notes.ensures.notes no_cert cert (new_completes c.args.text.now c.args.job.now c.new-reader.result cert c.new-reader.ensures written) holds_none)
+    absurd (c.in_err-read_notes.ensures.notes no_cert cert (job_completes c.args.text.now c.args.job.now c.in_ok-first_job.field-0 c.new-reader.result c.first_job.new.reader cert c.new-reader.ensures c.in_ok-first_job.ensures.job written) holds_none)
 
 pub loop-row-init : goal.loop-row-init
 loop-row-init c = record {
+  job = let on = ap (λ (q : Reading). q.answered) c.first_job.ensures.reader in let further = c.in_ok-read_notes.ensures.reader.further in omega (arith, on, further);
   sets = refl;
   each = λ cert written same. (
     ready_first cert c.read_notes.new.reasons (answers_left c.read_notes.new.reader)
-        (c.in_ok-read_notes.ensures.notes no_cert cert (new_completes c.args.text.now c.args.job.now c.new-reader.result cert c.new-reader.ensures written) holds_none),
+        (c.in_ok-read_notes.ensures.notes no_cert cert (job_completes c.args.text.now c.args.job.now c.in_ok-first_job.field-0 c.new-reader.result c.first_job.new.reader cert c.new-reader.ensures c.in_ok-first_job.ensures.job written) holds_none),
     λ row head less at. absurd (omega (arith, less)),
   );
 }
@@ -68,6 +81,7 @@ returns-in-Err-clause-answer c = λ cert written.
 
 pub loop-row-preserved : goal.loop-row-preserved
 loop-row-preserved c = record {
+  job = let so_far = c.loop-row.invariant.job in let further = c.in_ok-read_notes-2.ensures.reader.further in omega (arith, so_far, further);
   sets = c.check_row.ensures.sets ∙ c.loop-row.invariant.sets;
   each = λ cert written same.
       let job = c.args.job.now in

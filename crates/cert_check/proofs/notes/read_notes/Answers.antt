@@ -1,8 +1,11 @@
-use Rattle.std.proofs.Common.{Bool, ◌∙◌, ap, subst}
+use Rattle.std.proofs.Common.{Bool, ◌∙◌, ap, subst, arith}
 use Rattle.plan_cert.specs.Reading.{Reading}
 use Rattle.plan_cert.specs.CertReading.{answers_left}
 use Rattle.cert_check.proofs.NoteLemmas.{Gathers, GathersBy, gathers_on}
 use Rattle.cert_check.proofs.notes.read_notes.Goals as goal
+
+pub take_note-requires-clause-job : goal.take_note-requires-clause-job
+take_note-requires-clause-job c = let so_far = c.loop-is_open.invariant.same.further in let read = c.requires.job in omega (arith, so_far, read)
 
 pub returns-in_err-is_open-clause-notes : goal.returns-in_err-is_open-clause-notes
 returns-in_err-is_open-clause-notes c = λ before cert is holds.
@@ -16,6 +19,7 @@ loop-is_open-preserved c = record {
   same = record {
     kind = ap (λ (q : Reading). q.kind) c.take_note.ensures.reader ∙ c.loop-is_open.invariant.same.kind;
     text = ap (λ (q : Reading). q.text) c.take_note.ensures.reader ∙ c.loop-is_open.invariant.same.text;
+    further = let so_far = c.loop-is_open.invariant.same.further in let on = ap (λ (q : Reading). q.answered) c.take_note.ensures.reader in omega (arith, so_far, on);
   };
   gathers = λ before cert is holds.
       let now : Gathers before cert c.loop-is_open.reasons (answers_left c.loop-is_open.reader) =

@@ -1,0 +1,26 @@
+-- Which jobs and certificates have a text in version 1.
+use Rattle.std.specs.Prelude.{◌≡◌, pos, false, List, length, All}
+use Rattle.brake_base.specs.declared.stroke.Step.{Step}
+use Rattle.brake_base.specs.declared.stroke.Worth.{Worth}
+use Rattle.brake_base.specs.declared.stroke.Worth.TheVariants.{Cost, Blocked}
+use Rattle.job_setup.specs.Setup.{StageData, JobData, bend_count}
+use Rattle.plan_cert.specs.Cert.{CertData}
+
+abbrev pub HasNoLoad : StageData → Type 0
+HasNoLoad stage = (stage.load ≡ pos 0) × (stage.limit ≡ pos 0)
+
+-- a job of which version 1 tells all: it has no gangs, no force and no loads
+pub record IsJobOfVersion1 (job : JobData) : Type 0 where
+  pub gang : job.setup.gang ≡ false
+  pub force : job.setup.force ≡ pos 0
+  pub loads : All HasNoLoad job.setup.stages
+
+-- with a cost as the claim there is a step for each bend
+abbrev pub HasStepForEach : JobData → Worth → List Step → Type 0
+HasStepForEach job (Cost cost) steps = length steps ≡ bend_count job
+HasStepForEach job Blocked steps = Unit {0}
+
+-- a certificate that has a text in version 1
+pub record HasText1 (job : JobData) (cert : CertData) : Type 0 where
+  pub told : IsJobOfVersion1 job
+  pub steps : HasStepForEach job cert.claim cert.steps
