@@ -11,7 +11,7 @@ use Rattle.job_setup.specs.StrokeGroup.{group_of}
 use Rattle.job_setup.specs.Reasons.{pose_at}
 use Rattle.gauge_rules.specs.Pairs.{IsFirstLegal}
 use Rattle.handling_cost.specs.StepCost.{attitude_at}
-use Rattle.handling_cost.specs.Bound.{leads_left, farthest}
+use Rattle.handling_cost.specs.Bound.{leads_left, farthest, bound_with}
 use Rattle.handling_cost.specs.Plan.{IsReasonFor, IsLegal}
 use Rattle.bb_search.specs.declared.set_table.SetFacts.{SetFacts}
 use Rattle.bb_search.specs.declared.set_table.Tested.{Tested}
@@ -21,19 +21,18 @@ use Rattle.bb_search.specs.declared.set_table.Tested.TheVariants.{Refused, Free}
 abbrev pub side_place : ℕ → Back → ℕ
 side_place bend back = (bend - 1) * 2 + back_number back
 
--- from each stage the farthest way where the bends of the mask are folded
-abbrev pub AreWays : JobData → Mask → List ℕ → Type 0
-AreWays job mask ways = (stage d : ℕ) → stage < stage_count job → slice_index_or ways stage d ≡ farthest job mask stage
+-- the bound of each key where the bends of the mask are folded, by its stage
+abbrev pub AreBounds : JobData → Mask → List ℕ → Type 0
+AreBounds job mask bounds = (stage d : ℕ) → stage < stage_count job → slice_index_or bounds stage d ≡ bound_with job mask (length (leads_left job mask)) (farthest job mask stage)
 
 -- how the part is held in the strokes of each bend where the bends of the mask are folded
 abbrev pub AreAttitudes : JobData → Mask → List ℕ → Type 0
 AreAttitudes job mask attitudes =
     (action : Action) (d : ℕ) → 1 ≤ action.bend → action.bend ≤ bend_count job → slice_index_or attitudes (side_place action.bend action.back) d ≡ attitude_at job mask action
 
--- the leads left, the farthest way from each stage, and how the part is held in each stroke
+-- the bound at each stage, and how the part is held in each stroke
 pub record IsFacts (job : JobData) (mask : Mask) (facts : SetFacts) : Type 0 where
-  pub leads : facts.leads ≡ length (leads_left job mask)
-  pub ways : AreWays job mask facts.ways
+  pub bounds : AreBounds job mask facts.bounds
   pub held : AreAttitudes job mask facts.attitudes
 
 -- there is a place for each set, and what stands there is so

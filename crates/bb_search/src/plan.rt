@@ -13,7 +13,7 @@ ghost use Rattle.bb_search.specs.Orders.{AreOrders};
 ghost use Rattle.bb_search.specs.Outcomes.{HaveFirstGauges};
 ghost use Rattle.bb_search.specs.Table.{HasRow};
 
-use crate::orders::{action_in, sorted_orders_at};
+use crate::orders::{action_in, push_sorted_orders};
 use crate::set_table::{SetTable, Tested};
 use crate::settle::key_with;
 use crate::worths::MOST_COST;
@@ -155,7 +155,8 @@ fn next_step(
     ensures next { result.next ≡ key_after job.now key.now result.step.action }
     ensures table { table.new ≡ table.old }
 {
-    let orders = sorted_orders_at(job, table, key);
+    let mut orders = ArrayVec::new();
+    push_sorted_orders(job, table, key, &mut orders);
     first_onward(job, pool, table, state, key, worth, orders.as_slice())
 }
 

@@ -1,16 +1,19 @@
 //! What all keys of one set of folded bends have in common: it is found once for each set.
-ghost use Rattle.std.specs.Prelude.{◌≡◌, ◌≢◌, ◌<◌, ◌≤◌, ◌^◌, ℕ, IfOk, None, Some, length, slice_index_or};
+ghost use Rattle.std.specs.Prelude.{◌≡◌, ◌≢◌, ◌<◌, ◌≤◌, ◌^◌, ℕ, IfOk, IfSome, IsTrue, MatchOption, Contains, None, Some, length, slice_get, slice_index_or};
+ghost use Rattle.row_pool.specs.Rows.{keys, IsPool};
 ghost use Rattle.job_setup.specs.Setup.{shape_of, bend_count};
 ghost use Rattle.job_setup.specs.ValidJob.{IsJob};
 ghost use Rattle.brake_base.specs.declared.stroke.Gauge.{Gauge};
 ghost use Rattle.handling_cost.specs.StepCost.{IsKeyOf, IsActionAt};
-ghost use Rattle.bb_search.specs.Sets.{AreWays, AreAttitudes, IsFacts, IsTested, side_place};
+ghost use Rattle.bb_search.specs.Sets.{AreBounds, AreAttitudes, IsFacts, IsTested, side_place};
 
+use crate::orders::MOST_ACTIONS;
 use bend_state::BendState;
 use brake_base::{Action, Back, Gauge, Key, Mask, Reason, Turn};
 use fold_boxes::attitude;
-use handling_cost::{farthest, leads_left};
+use handling_cost::{bound_with, farthest, leads_left};
 use job_setup::Job;
+use row_pool::RowPool;
 use std::alloc::{AllocError, Global};
 use std::marker::Model;
 use stroke_table::{Stroke, StrokeTable};
@@ -18,11 +21,8 @@ use stroke_table::{Stroke, StrokeTable};
 /// What belongs to a set of folded bends.
 #[derive(Clone, Copy, Debug)]
 pub struct SetFacts {
-    /// The number of the leads left.
-    pub leads: u8,
-    /// From each stage the way to the farthest among the nearest stages that meet the group of a
-    /// lead.
-    pub ways: [u8; 6],
+    /// At each stage the bound of the key with this set.
+    pub bounds: [u32; 6],
     /// How the part is held in the strokes of each bend, with the parent and with the child at the
     /// back.
     pub attitudes: [Turn; 24],
@@ -56,6 +56,8 @@ pub enum Tested {
 pub struct SetTable {
     strokes: StrokeTable,
     facts: Vec<Option<SetFacts>>,
+    /// For each action at each set the row that was last found for the key to which it leads.
+    rows: Vec<u32>,
 }
 
 impl Model for SetTable {
@@ -69,15 +71,17 @@ impl Model for SetTable {
     ghost invariant = { λ t. IsSetTable t.strokes t.facts.items };
 }
 
-/// The farthest way from each stage where the bends of the mask are folded.
-fn ways_of(job: &Job, mask: Mask) -> [u8; 6]
-    ensures { AreWays job.now mask result }
+/// The bound of each key where the bends of the mask are folded, by its stage.
+fn bounds_of(job: &Job, mask: Mask) -> [u32; 6]
+    ensures { AreBounds job.now mask result }
 {
-    let mut ways = [0; 6];
+    let leads = leads_left(job, mask);
+    let mut bounds = [0; 6];
     for stage in 0..job.stages() {
-        ways[usize::from(stage)] = farthest(job, mask, stage);
+        let way = farthest(job, mask, stage);
+        bounds[usize::from(stage)] = bound_with(job, mask, leads, way) as u32;
     }
-    ways
+    bounds
 }
 
 /// How the part is held in the strokes of each bend where the bends of the mask are folded.
@@ -99,8 +103,7 @@ fn facts_of(job: &Job, mask: Mask) -> SetFacts
     ensures { IsFacts job.now mask result }
 {
     SetFacts {
-        leads: leads_left(job, mask),
-        ways: ways_of(job, mask),
+        bounds: bounds_of(job, mask),
         attitudes: attitudes_of(job, mask),
     }
 }
@@ -127,6 +130,35 @@ fn set_count(job: &Job) -> usize
     1 << job.bends()
 }
 
+/// The number of places for the actions at all sets.
+fn action_places(job: &Job) -> usize
+    ensures { length job.now.part.faces ≤ 13 }
+{
+    MOST_ACTIONS << job.bends()
+}
+
+/// Whether both keys are one.
+fn is_same(first: &Key, second: &Key) -> bool
+    ensures { IsTrue result → first.now ≡ second.now }
+{
+    first.mask.0 == second.mask.0
+        && first.attitude.number() == second.attitude.number()
+        && first.stage == second.stage
+}
+
+/// The row that stands at a place, if it has the key.
+fn row_at(rows: &[u32], place: usize, pool: &RowPool, key: &Key) -> Option<u32>
+    ensures row { IfSome result (λ row. slice_get (keys pool.now) row ≡ Some key.now) }
+    ensures pool { IfSome result (λ _. IsPool pool.now) }
+{
+    let row = *rows.get(place)?;
+    if row < pool.len() && is_same(&pool.key(row), key) {
+        Some(row)
+    } else {
+        None
+    }
+}
+
 /// What stands at a place.
 fn known_at(facts: &[Option<SetFacts>], place: usize) -> Option<SetFacts>
     requires { place < length facts.now }
@@ -142,7 +174,12 @@ impl SetTable {
     {
         let strokes = StrokeTable::open(alloc, job)?;
         let facts = vec![in alloc; None; set_count(job)]?;
-        Ok(SetTable { strokes, facts })
+        let rows = vec![in alloc; 0; action_places(job)]?;
+        Ok(SetTable {
+            strokes,
+            facts,
+            rows,
+        })
     }
 
     /// What belongs to a set.
@@ -162,6 +199,25 @@ impl SetTable {
                 facts
             }
         }
+    }
+
+    /// The number of the row with the key to which an action leads, where its place among the
+    /// actions at all sets is this one. None exactly where no row has the key.
+    pub fn find(&mut self, pool: &RowPool, place: usize, key: &Key) -> Option<u32>
+        ensures row { MatchOption result (¬ Contains (keys pool.now) key.now)
+            (λ row. slice_get (keys pool.now) row ≡ Some key.now) }
+        ensures pool { IsPool pool.now }
+        ensures table { self.new ≡ self.old }
+    {
+        let known = row_at(&self.rows, place, pool, key);
+        if known.is_some() {
+            return known;
+        }
+        let row = pool.find(*key)?;
+        if place < self.rows.len() {
+            self.rows[place] = row;
+        }
+        Some(row)
     }
 
     /// What a test of an action tells at a key, whose bends are folded as the part stands.

@@ -5,16 +5,18 @@ ghost use Rattle.fold_boxes.specs.Pose.{IsGroup};
 ghost use Rattle.job_setup.specs.Setup.{shape_of, stage_count};
 ghost use Rattle.job_setup.specs.ValidJob.{IsJob};
 ghost use Rattle.row_pool.specs.Rows.{Pool, keys};
-ghost use Rattle.handling_cost.specs.StepCost.{IsKeyOf, IsFull, left};
+ghost use Rattle.handling_cost.specs.StepCost.{IsKeyOf, IsActionAt, IsFull, left};
+ghost use Rattle.brake_base.specs.Actions.{number_of};
 ghost use Rattle.handling_cost.specs.Reach.{IsNode};
 ghost use Rattle.bb_search.specs.Candidates.{IsNext};
 ghost use Rattle.bb_search.specs.Settling.{IsSound, OpenAbove, IsFound, IsSettling, IsOpenRow, IsTriedTo};
 
-use crate::orders::{Candidate, next_candidate, sorted_orders_at};
+use crate::orders::{Candidate, MOST_ACTIONS, next_candidate, push_sorted_orders};
 use crate::set_table::{SetTable, Tested};
 use crate::worths::{after_cost, lesser};
+use arrayvec::ArrayVec;
 use bend_state::BendState;
-use brake_base::{Key, Mask, Place, Turn, Worth, action_number};
+use brake_base::{Action, Key, Mask, Place, Turn, Worth, action_number};
 use handling_cost::{cost_to, is_full};
 use job_setup::{Job, group};
 use row_pool::RowPool;
@@ -22,7 +24,7 @@ use undo_region::Region;
 
 /// The worth of a key to which a group leads: 0 where every bend is folded, else that of its row,
 /// if it has one, else the one that is found by settling it with the group folded. None where all
-/// rows are used.
+/// rows are used. The action has this place among those at all sets.
 #[cycle(settling)]
 fn worth_of(
     job: &Job,
@@ -32,6 +34,7 @@ fn worth_of(
     trail: &mut Region<Place>,
     next: &Key,
     group: Mask,
+    place: usize,
 ) -> Option<Worth>
     requires job { IsJob job.now }
     requires actions { pool.old.actions ≡ 24 * stage_count job.now }
@@ -52,7 +55,7 @@ fn worth_of(
     if is_full(job, next) {
         return Some(Worth::Cost(0));
     }
-    if let Some(row) = pool.find(*next) {
+    if let Some(row) = table.find(pool, place, next) {
         return pool.worth(row);
     }
     state.fold(trail, group);
@@ -88,7 +91,8 @@ pub(crate) fn settle(
     ensures trail { trail.new ≡ trail.old }
 {
     let row = pool.add(*key)?;
-    let orders = sorted_orders_at(job, table, key);
+    let mut orders = ArrayVec::new();
+    push_sorted_orders(job, table, key, &mut orders);
     let mut place = 0;
     let mut from = 0;
     let mut best = Worth::Blocked;
@@ -142,10 +146,19 @@ fn tried(
             let cost = cost_to(job, key, attitude, action.stage);
             let group = group(job, key.mask, action.bend);
             let next = key_with(key, group, attitude, action.stage);
-            let worth = worth_of(job, pool, table, state, trail, &next, group)?;
+            let place = action_place(job, key, action);
+            let worth = worth_of(job, pool, table, state, trail, &next, group, place)?;
             Some(lesser(best, after_cost(cost, worth)))
         }
     }
+}
+
+/// The place of an action among those at all sets.
+fn action_place(job: &Job, key: &Key, action: Action) -> usize
+    requires { IsActionAt job.now key.now action }
+    ensures { result ≡ 144 * key.now.mask.0 + number_of (stage_count job.now) action }
+{
+    MOST_ACTIONS * usize::from(key.mask.0) + usize::from(action_number(action, job.stages()))
 }
 
 /// The key after a stroke that folds a group, in this attitude and at this stage.

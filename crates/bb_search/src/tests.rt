@@ -56,10 +56,69 @@ length = 30000
 dir = \"up\"
 ";
 
+/// A base of 600,000 by 60,000.
+const LONG_BASE: &str = "material = \"S235\"
+thickness = 2000
+radius = 2000
+[[face]]
+name = \"base\"
+width = 600000
+length = 60000
+";
+
+/// That base with six flanges on each of its sides S and N.
+fn twelve_flanges(alloc: Global) -> Result<String, AllocError> {
+    let mut part = String::from_str(alloc, LONG_BASE)?;
+    for (side, at) in [
+        ("S", "0"),
+        ("S", "100000"),
+        ("S", "200000"),
+        ("S", "300000"),
+        ("S", "400000"),
+        ("S", "500000"),
+        ("N", "0"),
+        ("N", "100000"),
+        ("N", "200000"),
+        ("N", "300000"),
+        ("N", "400000"),
+        ("N", "500000"),
+    ] {
+        let name = format!(in alloc; "[[face]]\nname = \"{side}{at}\"\non = \"base\"\n")?;
+        let line = format!(in alloc; "side = \"{side}\"\nat = {at}\nwidth = 45000\n")?;
+        part.push_str(&name)?;
+        part.push_str(&line)?;
+        part.push_str("length = 30000\ndir = \"up\"\n")?;
+    }
+    Ok(part)
+}
+
+/// The common machine with six stages.
+fn six_stages(alloc: Global) -> Result<String, AllocError> {
+    let mut machine = String::from_str(alloc, MACHINE)?;
+    for (at, piece) in [
+        ("200000", "100000"),
+        ("400000", "100000"),
+        ("600000", "90000"),
+        ("800000", "70000"),
+        ("1000000", "60000"),
+        ("1200000", "56000"),
+    ] {
+        let place = format!(in alloc; "at = {at}\npieces = [{piece}]\n")?;
+        machine.push_str("[[stage]]\npunch = \"P100\"\ndie = \"D16\"\n")?;
+        machine.push_str(&place)?;
+    }
+    Ok(machine)
+}
+
 /// The job of a part on a machine with one stage of one piece; None where there is none.
 fn job_of(alloc: Global, part: &str, piece: &str) -> Result<Option<Job>, Fail> {
     let stage = STAGE.replacen(alloc, "[100000]", piece, 1)?;
     let machine = format!(in alloc; "{MACHINE}{stage}")?;
+    job_on(alloc, part, &machine)
+}
+
+/// The job of a part on a machine; None where there is none.
+fn job_on(alloc: Global, part: &str, machine: &str) -> Result<Option<Job>, Fail> {
     let part = read_part(alloc, part.as_bytes())?;
     let tools = read_tools(alloc, TOOLS.as_bytes())?;
     let machine = read_machine(alloc, machine.as_bytes())?;
@@ -135,6 +194,16 @@ fn outcomes_of_the_worked_parts(rt: HostRuntime) -> Result<(), Fail> {
     );
     assert_eq!(rt; outcome_of(alloc, &high_channel, 49)?, Outcome::Blocked);
     assert_eq!(rt; outcome_of(alloc, &four, 8)?, Outcome::Best { cost: 400 });
+    Ok(())
+}
+
+#[test]
+fn the_most_nodes_of_a_job(rt: HostRuntime) -> Result<(), Fail> {
+    let alloc = rt.alloc();
+    let part = twelve_flanges(alloc)?;
+    let machine = six_stages(alloc)?;
+    let job = job_on(alloc, &part, &machine)?.expect(&rt, "a job");
+    assert_eq!(rt; nodes(&job), 589_537);
     Ok(())
 }
 

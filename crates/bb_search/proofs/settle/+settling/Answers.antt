@@ -34,7 +34,7 @@ settle-loop-candidate-init t c =
       place = omega arith;
       earlier = λ k d below. absurd (omega arith);
       settling = rw same (new_row c.args.pool.now.actions c.args.key.now, settling_starts c.args.job.now c.args.pool.now c.args.key.now c.requires.sound c.requires.node);
-      table = c.sorted_orders_at-orders.ensures.table;
+      table = c.push_sorted_orders.ensures.table;
       state = refl;
       trail = refl;
     }
@@ -71,7 +71,7 @@ settle-returns-clause-found t c =
     rw (c.set_worth.ensures.set, c.in_ok-row.ensures.row) finished
 
 pub settle-next_candidate-requires-clause-sorted : goal.settle-next_candidate-requires-clause-sorted
-settle-next_candidate-requires-clause-sorted t c = subst (λ (orders : List ℕ). IsNonDecreasing orders) (sym c.as_slice.ensures.value) c.sorted_orders_at-orders.ensures.sorted
+settle-next_candidate-requires-clause-sorted t c = subst (λ (orders : List ℕ). IsNonDecreasing orders) (sym c.as_slice.ensures.value) c.push_sorted_orders.ensures.sorted
 
 pub settle-tried-requires : goal.settle-tried-requires
 settle-tried-requires t c =
@@ -127,7 +127,7 @@ worth_of-settle-worth-requires t c =
         (
           c.requires.actions,
           (
-            c.requires.table,
+            c.requires.table ∙ sym c.find.ensures.table,
             (
               c.requires.sound,
               (
