@@ -13,6 +13,8 @@ mod plan;
 mod plan_tests;
 mod refusal;
 #[cfg(test)]
+mod test_runs;
+#[cfg(test)]
 mod tests;
 mod trial;
 mod usage;

@@ -1,7 +1,7 @@
 //! The runs of `plan` that the documentation names, over files in memory, and runs in which the
 //! shelf or the sink fails.
 
-use crate::brake::brake;
+use crate::test_runs::{joined, run};
 use brake_io::{MemShelf, MemSink};
 use command_runner::Status;
 use common_files::{L_SECTION, MACHINE, STAGE, TOOLS, U_CHANNEL};
@@ -26,7 +26,7 @@ total 200
 ";
 
 /// What it stores.
-const U_CERT: &str = "brake-cert 2
+pub const U_CERT: &str = "brake-cert 2
 part S235 2000 2000 1919
 face web 100000 60000
 face north 0 N 0 100000 30000 up
@@ -94,8 +94,7 @@ no plan
 
 /// A shelf with this part's file, a tools file and a machine file with this stage.
 fn shelf_with(alloc: Global, part: &str, stage: &str) -> Result<MemShelf, AllocError> {
-    let mut machine = Vec::from_slice(alloc, MACHINE.as_bytes())?;
-    machine.extend_from_slice(stage.as_bytes())?;
+    let machine = joined(alloc, MACHINE, stage)?;
     let mut shelf = MemShelf::new(alloc);
     shelf.add("part", part.as_bytes())?;
     shelf.add("tools", TOOLS.as_bytes())?;
@@ -103,42 +102,37 @@ fn shelf_with(alloc: Global, part: &str, stage: &str) -> Result<MemShelf, AllocE
     Ok(shelf)
 }
 
-/// Runs `plan`, with the words of a budget behind it or with none.
-fn run(
-    alloc: Global,
-    budget: &[&str],
-    shelf: &mut MemShelf,
-    out: &mut MemSink,
-) -> Result<Status, AllocError> {
-    let mut words = Vec::new(alloc);
-    for word in ["plan", "part", "tools", "machine", "cert"] {
-        words.push(String::from_str(alloc, word)?)?;
-    }
-    for word in budget {
-        words.push(String::from_str(alloc, word)?)?;
-    }
-    Ok(brake(alloc, &words, shelf, out))
-}
+/// The words of `plan`.
+const WORDS: &[&str] = &["plan", "part", "tools", "machine", "cert"];
+
+/// The words of `plan` with budget enough.
+const WITH_BUDGET: &[&str] = &["plan", "part", "tools", "machine", "cert", "--budget", "5"];
+
+/// The words of `plan` with a budget that is spent.
+const WITH_LITTLE: &[&str] = &["plan", "part", "tools", "machine", "cert", "--budget", "1"];
 
 #[test]
 fn plans(rt: HostRuntime) -> Result<(), Fail> {
     let alloc = rt.alloc();
-    let none: &[&str] = &[];
-    let five: &[&str] = &["--budget", "5"];
-    let one: &[&str] = &["--budget", "1"];
-    for (part, stage, budget, status, text) in [
-        (L_SECTION, STAGE, none, Status::Done, L_SHEETS),
-        (U_CHANNEL, STAGE, none, Status::Done, U_SHEETS),
-        (U_CHANNEL, STAGE, five, Status::Done, U_SHEETS),
-        (U_CHANNEL, STAGE, one, Status::Spent, "spent 1\n"),
-        (L_SECTION, SHORT_STAGE, none, Status::NoPlan, NO_PLAN),
-        (L_SECTION, "", none, Status::Refused, "refused job 7\n"),
-        (L_SECTION, "[", none, Status::Refused, "refused machine 1\n"),
-        ("", "[", none, Status::Refused, "refused part 2 0 1\n"),
+    for (part, stage, words, status, text) in [
+        (L_SECTION, STAGE, WORDS, Status::Done, L_SHEETS),
+        (U_CHANNEL, STAGE, WORDS, Status::Done, U_SHEETS),
+        (U_CHANNEL, STAGE, WITH_BUDGET, Status::Done, U_SHEETS),
+        (U_CHANNEL, STAGE, WITH_LITTLE, Status::Spent, "spent 1\n"),
+        (L_SECTION, SHORT_STAGE, WORDS, Status::NoPlan, NO_PLAN),
+        (L_SECTION, "", WORDS, Status::Refused, "refused job 7\n"),
+        (
+            L_SECTION,
+            "[",
+            WORDS,
+            Status::Refused,
+            "refused machine 1\n",
+        ),
+        ("", "[", WORDS, Status::Refused, "refused part 2 0 1\n"),
     ] {
         let mut shelf = shelf_with(alloc, part, stage)?;
         let mut out = MemSink::new(alloc);
-        assert_eq!(rt; run(alloc, budget, &mut shelf, &mut out)?, status);
+        assert_eq!(rt; run(alloc, words, &mut shelf, &mut out)?, status);
         assert_eq!(rt; out.bytes(), text.as_bytes());
         let is_stored = status == Status::Done || status == Status::NoPlan;
         assert_eq!(rt; shelf.bytes_of("cert").is_some(), is_stored);
@@ -166,7 +160,7 @@ fn each_call_failing_in_turn(rt: HostRuntime) -> Result<(), Fail> {
         shelf.fail_at(call)?;
         let mut out = MemSink::new(alloc);
         out.fail_at(put, taken);
-        assert_eq!(rt; run(alloc, &[], &mut shelf, &mut out)?, status);
+        assert_eq!(rt; run(alloc, WORDS, &mut shelf, &mut out)?, status);
         assert_eq!(rt; out.bytes().len(), written);
         assert!(rt; U_SHEETS.as_bytes().starts_with(out.bytes()));
         let stored = if put == 0 {

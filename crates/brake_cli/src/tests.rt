@@ -1,7 +1,7 @@
 //! The runs of `blank` that the documentation names, over files in memory, and runs in which the
 //! shelf or the sink fails.
 
-use crate::brake::brake;
+use crate::test_runs::run;
 use brake_io::{MemShelf, MemSink};
 use command_runner::Status;
 use std::alloc::{AllocError, Global};
@@ -65,19 +65,11 @@ fn chain(alloc: Global, names: &str) -> Result<Vec<u8>, AllocError> {
     Ok(file)
 }
 
-/// Runs `blank` over the file `part` or another, and the tools file.
-fn run(
-    alloc: Global,
-    part: &str,
-    shelf: &mut MemShelf,
-    out: &mut MemSink,
-) -> Result<Status, AllocError> {
-    let mut words = Vec::new(alloc);
-    for word in ["blank", part, "tools"] {
-        words.push(String::from_str(alloc, word)?)?;
-    }
-    Ok(brake(alloc, &words, shelf, out))
-}
+/// The words of `blank`.
+const WORDS: &[&str] = &["blank", "part", "tools"];
+
+/// The words of `blank` for a part's file that isn't held.
+const OF_NO_FILE: &[&str] = &["blank", "missing", "tools"];
 
 /// A shelf with a part's file and a tools file.
 fn shelf_with(alloc: Global, part: &[u8], tools: &str) -> Result<MemShelf, AllocError> {
@@ -177,7 +169,7 @@ fn refusals_of_the_files(rt: HostRuntime) -> Result<(), Fail> {
         let part = changed(rt.alloc(), part, from, to)?;
         let mut shelf = shelf_with(rt.alloc(), &part, tools)?;
         let mut out = MemSink::new(rt.alloc());
-        assert_eq!(rt; run(rt.alloc(), "part", &mut shelf, &mut out)?, status);
+        assert_eq!(rt; run(rt.alloc(), WORDS, &mut shelf, &mut out)?, status);
         assert!(rt; out.bytes().starts_with(text.as_bytes()));
     }
     Ok(())
@@ -196,7 +188,7 @@ fn thirteen_and_fourteen_faces(rt: HostRuntime) -> Result<(), Fail> {
         let part = chain(rt.alloc(), names)?;
         let mut shelf = shelf_with(rt.alloc(), &part, TOOLS)?;
         let mut out = MemSink::new(rt.alloc());
-        assert_eq!(rt; run(rt.alloc(), "part", &mut shelf, &mut out)?, status);
+        assert_eq!(rt; run(rt.alloc(), WORDS, &mut shelf, &mut out)?, status);
         assert!(rt; out.bytes().starts_with(text.as_bytes()));
     }
     Ok(())
@@ -206,7 +198,7 @@ fn thirteen_and_fourteen_faces(rt: HostRuntime) -> Result<(), Fail> {
 fn the_usage_text(rt: HostRuntime) -> Result<(), Fail> {
     let mut shelf = MemShelf::new(rt.alloc());
     let mut out = MemSink::new(rt.alloc());
-    let status = brake(rt.alloc(), &[], &mut shelf, &mut out);
+    let status = run(rt.alloc(), &[], &mut shelf, &mut out)?;
     assert_eq!(rt; status, Status::Usage);
     assert_eq!(rt; out.bytes(), USAGE.as_bytes());
     Ok(())
@@ -223,7 +215,7 @@ fn files_of_a_mebibyte_and_longer(rt: HostRuntime) -> Result<(), Fail> {
         shelf.add("part", &padded(rt.alloc(), PART, part)?)?;
         shelf.add("tools", &padded(rt.alloc(), TOOLS, tools)?)?;
         let mut out = MemSink::new(rt.alloc());
-        assert_eq!(rt; run(rt.alloc(), "part", &mut shelf, &mut out)?, status);
+        assert_eq!(rt; run(rt.alloc(), WORDS, &mut shelf, &mut out)?, status);
         assert_eq!(rt; out.bytes(), text.as_bytes());
     }
     Ok(())
@@ -231,20 +223,20 @@ fn files_of_a_mebibyte_and_longer(rt: HostRuntime) -> Result<(), Fail> {
 
 #[test]
 fn each_call_failing_in_turn(rt: HostRuntime) -> Result<(), Fail> {
-    for (part, call, put, status, text) in [
-        ("missing", 0, 0, Status::Fault, ""),
-        ("part", 1, 0, Status::Fault, ""),
-        ("part", 2, 0, Status::Fault, ""),
-        ("part", 3, 0, Status::Done, SHEET),
-        ("part", 0, 1, Status::Fault, "blank\nsize"),
+    for (words, call, put, status, text) in [
+        (OF_NO_FILE, 0, 0, Status::Fault, ""),
+        (WORDS, 1, 0, Status::Fault, ""),
+        (WORDS, 2, 0, Status::Fault, ""),
+        (WORDS, 3, 0, Status::Done, SHEET),
+        (WORDS, 0, 1, Status::Fault, "blank\nsize"),
         // The put after the text is the caller's own.
-        ("part", 0, 2, Status::Done, SHEET),
+        (WORDS, 0, 2, Status::Done, SHEET),
     ] {
         let mut shelf = shelf_with(rt.alloc(), PART.as_bytes(), TOOLS)?;
         shelf.fail_at(call)?;
         let mut out = MemSink::new(rt.alloc());
         out.fail_at(put, 10);
-        assert_eq!(rt; run(rt.alloc(), part, &mut shelf, &mut out)?, status);
+        assert_eq!(rt; run(rt.alloc(), words, &mut shelf, &mut out)?, status);
         assert_eq!(rt; out.bytes(), text.as_bytes());
     }
     Ok(())
