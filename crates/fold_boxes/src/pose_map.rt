@@ -152,8 +152,9 @@ fn from_lines(distance: i64, back: Back) -> i64
     }
 }
 
-/// Where a span begins that lies in the middle of a range, rounded down.
-fn start_of_span(lines: (i64, i64), x0: i64, x1: i64) -> i64
+/// Where a span of lines begins that lies in the middle of a range of the bed, in micrometres, rounded
+/// down.
+pub fn start_of_span(lines: (i64, i64), x0: i64, x1: i64) -> i64
     requires lines { IsNearRange lines }
     requires from { IsNear 1000000000 x0 }
     requires to { IsNear 1000000000 x1 }

@@ -11,7 +11,7 @@ ghost use Rattle.stroke_table.specs.BoxReasons.{shift_of, IsBoxOf, AreFirstOf, A
 use crate::box_records::BoxRecords;
 use crate::finding::stage_range;
 use brake_base::{Box3, Mask, Reason, V3};
-use fold_boxes::{Pose, PoseBox, span};
+use fold_boxes::{Pose, PoseBox, span, start_of_span};
 use job_setup::Job;
 use sweep_check::{Surroundings, first_of_boxes};
 
@@ -105,17 +105,6 @@ fn start_at(job: &Job, lines: (i64, i64), stage: u8) -> i64
 {
     let (x0, x1) = stage_range(job, stage);
     start_of_span(lines, x0, x1)
-}
-
-/// Where a span begins that lies in the middle of a range, rounded down.
-fn start_of_span(lines: (i64, i64), x0: i64, x1: i64) -> i64
-    requires lines { IsNearRange lines }
-    requires from { IsNear 1000000000 x0 }
-    requires to { IsNear 1000000000 x1 }
-    ensures value { result ≡ start_of_span lines x0 x1 }
-    ensures near { IsNear 1130000000 result }
-{
-    x0 + (x1 - x0 - (lines.1 - lines.0)).div_euclid(2)
 }
 
 /// The earlier of two reasons at each stage.

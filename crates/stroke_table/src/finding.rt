@@ -22,7 +22,7 @@ use brake_base::{Back, Gauge, Mask, Place, Reason};
 use fold_boxes::{Pose, attitude, pose_from};
 use gauge_rules::first_legal;
 use job_setup::{Job, group};
-use sweep_check::{first_at_lines, first_of_halves, load};
+use sweep_check::{first_at_lines, first_of_halves, load_reason};
 
 /// What there is to know of a stroke, from the places of the faces and what is kept of boxes. The part
 /// is moved onto the machine once, at stage 0: at the other stages it lies farther along the bed.
@@ -153,7 +153,7 @@ fn first_of_kinds(
     if let Some(reason) = of_halves {
         return Some(reason);
     }
-    load(job, pose, stage)
+    load_reason(job, pose, stage)
 }
 
 /// The first reason of all kinds, from the first of the others and the first legal pair.

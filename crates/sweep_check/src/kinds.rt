@@ -34,7 +34,7 @@ pub(crate) fn first_of(job: &Job, pose: &Pose, back: Back, stage: u8) -> Option<
     if let Some(reason) = first_of_halves(job, boxes) {
         return Some(reason);
     }
-    load(job, pose, stage)
+    load_reason(job, pose, stage)
 }
 
 /// Cover, or the first Rest, in a pose with this side at the back. Of the pose only the group counts.
@@ -127,7 +127,7 @@ fn first_self_hit(job: &Job, boxes: &[PoseBox]) -> Option<Hit>
 }
 
 /// Load, where it holds. Of the pose only the group counts.
-pub fn load(job: &Job, pose: &Pose, stage: u8) -> Option<Reason>
+pub fn load_reason(job: &Job, pose: &Pose, stage: u8) -> Option<Reason>
     requires stage { stage < length job.now.setup.stages }
     ensures { (back : Back) → IsFirstAmong job.now (pose_data pose.now) back stage 8 8 result }
 {

@@ -13,6 +13,6 @@ mod self_hits;
 mod sides;
 mod surroundings;
 
-pub use kinds::{first_at_lines, first_of_boxes, first_of_halves, load};
+pub use kinds::{first_at_lines, first_of_boxes, first_of_halves, load_reason};
 pub use reasons::{first_reason, holds};
 pub use surroundings::Surroundings;

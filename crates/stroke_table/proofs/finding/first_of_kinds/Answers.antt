@@ -45,5 +45,5 @@ returns c = λ other same boxes halves.
     let lines = among_alike job pose other back stage 1 2 None (lines_alike job pose other back stage (sym same)) (among_seen job pose back stage 1 2 c.first_at_lines.result None c.in_default.is c.first_at_lines.ensures) in
     let before = joined job other back stage 1 2 6 None (omega arith) lines (among_seen job other back stage 3 6 c.args.of_boxes None c.in_default-of_boxes.is boxes) in
     let more = joined job other back stage 1 6 7 None (omega arith) before (among_seen job other back stage 7 7 c.args.of_halves None c.in_default-of_halves.is halves) in
-    joined job other back stage 1 7 8 c.load.result (omega arith) more
-    (among_alike job pose other back stage 8 8 c.load.result (load_alike job pose other back stage (sym same)) (c.load.ensures back))
+    joined job other back stage 1 7 8 c.load_reason.result (omega arith) more
+    (among_alike job pose other back stage 8 8 c.load_reason.result (load_alike job pose other back stage (sym same)) (c.load_reason.ensures back))

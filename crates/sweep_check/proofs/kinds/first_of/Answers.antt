@@ -55,4 +55,4 @@ returns c =
     let boxes = of_boxes job pose c.as_slice-boxes.result.now back stage 3 6 c.first_of_boxes.result None c.as_slice-boxes.ensures.value c.in_default-first_of_boxes.is (omega arith) (omega arith) at_stage in
     let before = joined job pose back stage 1 2 6 None (omega arith) lines boxes in
     let halves = of_boxes job pose c.as_slice-boxes.result.now back stage 7 7 c.first_of_halves.result None c.as_slice-boxes.ensures.value c.in_default-first_of_halves.is (omega arith) (omega arith) (c.first_of_halves.ensures back stage) in
-    joined job pose back stage 1 7 8 c.load.result (omega arith) (joined job pose back stage 1 6 7 None (omega arith) before halves) (c.load.ensures back)
+    joined job pose back stage 1 7 8 c.load_reason.result (omega arith) (joined job pose back stage 1 6 7 None (omega arith) before halves) (c.load_reason.ensures back)
