@@ -19,8 +19,8 @@ use Rattle.job_setup.specs.StrokeGroup.{group_of}
 use Rattle.handling_cost.specs.StepCost.{IsActionAt, attitude_at}
 use Rattle.handling_cost.specs.Plan.{IsReasonFor, IsGaugeFor}
 use Rattle.row_pool.proofs.PoolLemmas.{slice_get-set_same, slice_get-set_other}
-use Rattle.stroke_table.specs.declared.stroke.Stroke.{Stroke}
-use Rattle.stroke_table.specs.Strokes.{IsStrokeOf, IsFirstAt, reason_at}
+use Rattle.stroke_table.specs.declared.stroke.StageStroke.{StageStroke}
+use Rattle.stroke_table.specs.Strokes.{IsStrokeAt, IsFirstAt}
 use Rattle.bb_search.specs.declared.set_table.SetFacts.{SetFacts}
 use Rattle.bb_search.specs.declared.set_table.Tested.TheVariants.{Free}
 use Rattle.bb_search.specs.Sets.{side_place, IsFacts, IsSetTable, IsFirstGauge, IsTested}
@@ -58,24 +58,21 @@ read_at (y ∷ xs) zero x d within is = ap Some is
 read_at (y ∷ xs) (suc i) x d within is = read_at xs i x d (omega (arith, within)) is
 
 -- ---- the tests
-module _ (job : JobData) (key : Key) (action : Action) (at : IsActionAt job key action) (stroke : Stroke) (is : IsStrokeOf job key.mask action.bend action.back stroke) where
-  first_at : IsFirstAt job key.mask (group_of job key.mask action.bend) action.back action.stage (reason_at stroke.reasons action.stage)
-  first_at = is.reasons action.stage at.stage
-
-  pub refused : (reason : Reason) → reason_at stroke.reasons action.stage ≡ Some reason → IsReasonFor job key.mask action reason
+module _ (job : JobData) (key : Key) (action : Action) (at : IsActionAt job key action) (stroke : StageStroke) (is : IsStrokeAt job key.mask action stroke) where
+  pub refused : (reason : Reason) → stroke.reason ≡ Some reason → IsReasonFor job key.mask action reason
   unfolding IsReasonFor
-  refused reason some = (rw some at first_at).holds
+  refused reason some = (rw some at is.reason).holds
 
-  none_holds : reason_at stroke.reasons action.stage ≡ None → IsFirstAt job key.mask (group_of job key.mask action.bend) action.back action.stage None
-  none_holds none = rw none at first_at
+  none_holds : stroke.reason ≡ None → IsFirstAt job key.mask (group_of job key.mask action.bend) action.back action.stage None
+  none_holds none = rw none at is.reason
 
-  pub has_gauge : reason_at stroke.reasons action.stage ≡ None → stroke.gauge ≡ None → ⊥
-  has_gauge none no_gauge = none_holds none NoGauge (rw no_gauge at (is.gauge action.stage at.stage))
+  pub has_gauge : stroke.reason ≡ None → stroke.gauge ≡ None → ⊥
+  has_gauge none no_gauge = none_holds none NoGauge (rw no_gauge at is.gauge)
 
-  pub free : reason_at stroke.reasons action.stage ≡ None → (gauge : Gauge) → stroke.gauge ≡ Some gauge → IsTested job key action (Free stroke.attitude gauge)
+  pub free : stroke.reason ≡ None → (gauge : Gauge) → stroke.gauge ≡ Some gauge → IsTested job key action (Free stroke.attitude gauge)
   unfolding IsReasonFor IsGaugeFor IsFirstGauge attitude_at
   free none gauge some =
-      let first = rw some at (is.gauge action.stage at.stage) in (
+      let first = rw some at is.gauge in (
         is.attitude,
         record { action = at; free = λ reason other holds. none_holds none reason holds; gauge = first.0 },
         first,

@@ -16,7 +16,7 @@ use job_setup::Job;
 use row_pool::RowPool;
 use std::alloc::{AllocError, Global};
 use std::marker::Model;
-use stroke_table::{Stroke, StrokeTable};
+use stroke_table::{StageStroke, StrokeTable};
 
 /// What belongs to a set of folded bends.
 #[derive(Clone, Copy, Debug)]
@@ -109,7 +109,7 @@ fn facts_of(job: &Job, mask: Mask) -> SetFacts
 }
 
 /// How the part is held and gauged in a stroke that no reason refuses.
-fn held(stroke: &Stroke) -> Tested
+fn held(stroke: &StageStroke) -> Tested
     requires { stroke.now.gauge ≢ None }
     ensures { (gauge : Gauge) × (stroke.now.gauge ≡ Some gauge)
         × (result ≡ Tested.Free stroke.now.attitude gauge) }
@@ -233,8 +233,8 @@ impl SetTable {
     {
         let stroke = self
             .strokes
-            .stroke(job, state.places(), key.mask, action.bend, action.back);
-        match stroke.reason(action.stage) {
+            .stroke_at(job, state.places(), key.mask, action);
+        match stroke.reason {
             Some(reason) => Tested::Refused(reason),
             None => held(&stroke),
         }

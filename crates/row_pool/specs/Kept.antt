@@ -1,13 +1,14 @@
 -- What a contract sees of `Notes`.
-use Rattle.std.specs.Prelude.{◌≡◌, ◌≢◌, ℕ, Bool, true, false, if◌then◌else◌, List, [], Option, None, slice_index_or, ◌⊎◌}
+use Rattle.std.specs.Prelude.{◌≡◌, ◌≢◌, ℕ, ◌/◌, ◌%◌, ◌==◌, Bool, true, if◌then◌else◌, List, [], Option, None, slice_index_or, ◌⊎◌}
+use Rattle.std.specs.Int.{bit_at}
 use Rattle.brake_base.specs.declared.reason.Reason.{Reason}
 use Rattle.row_pool.specs.declared.note.Note.{Note}
 use Rattle.row_pool.specs.declared.notes.Notes.{Notes}
 use Rattle.row_pool.specs.Notes.{noted_at}
 
--- which places are marked, the notes of the common places, and the places' own
+-- the marks, sixteen in a number, the notes of the common places, and the places' own
 pub record NotesData : Type 0 where
-  pub marks : List Bool
+  pub marks : List ℕ
   pub common : List Note
   pub own : List Note
 
@@ -19,13 +20,17 @@ notes_data notes = record { marks = notes.marks.items; common = notes.common.ite
 abbrev pub no_notes : NotesData
 no_notes = record { marks = []; common = []; own = [] }
 
+-- whether a place is marked: each place has a bit
+unfoldable pub is_marked : List ℕ → ℕ → Bool
+is_marked marks place = bit_at (slice_index_or marks (place / 16) 0) (place % 16) == 1
+
 -- the reason of a place with this common place, if it has one
 abbrev pub reason_in : NotesData → ℕ → ℕ → Option Reason
-reason_in notes common place = if slice_index_or notes.marks place false then noted_at notes.common common else noted_at notes.own place
+reason_in notes common place = if is_marked notes.marks place then noted_at notes.common common else noted_at notes.own place
 
 -- where the place is marked, its common place has a reason
 abbrev pub IsHeld : NotesData → ℕ → ℕ → Type 0
-IsHeld notes common place = slice_index_or notes.marks place false ≡ true → noted_at notes.common common ≢ None
+IsHeld notes common place = is_marked notes.marks place ≡ true → noted_at notes.common common ≢ None
 
 -- no note changes but one that wasn't set
 abbrev pub StandsAfter : List Note → List Note → ℕ → Type 0

@@ -1,7 +1,8 @@
 //! The reasons that a pool's rows have for their actions.
-ghost use Rattle.std.specs.Prelude.{◌≡◌, ◌<◌, ◌+◌, ◌⊎◌, ℕ, Bool, true, false, Some, IsTrue, IfOk, IfSome, IfNone, slice_index_or, vec_len, vec_capacity};
+ghost use Rattle.std.specs.Int.{bit_at};
+ghost use Rattle.std.specs.Prelude.{◌≡◌, ◌<◌, ◌+◌, ◌/◌, ◌==◌, ◌⊎◌, ℕ, false, Some, IsTrue, IfOk, IfSome, IfNone, slice_index_or, vec_len, vec_capacity};
 ghost use Rattle.row_pool.specs.Notes.{noted_at};
-ghost use Rattle.row_pool.specs.Kept.{notes_data, no_notes, reason_in, IsHeld, StandsAfter};
+ghost use Rattle.row_pool.specs.Kept.{is_marked, notes_data, no_notes, reason_in, IsHeld, StandsAfter};
 
 use crate::note::Note;
 use brake_base::Reason;
@@ -9,11 +10,12 @@ use std::alloc::{AllocError, Global};
 
 /// Reasons, each at a place of its own that shares a common place with others. The first reason that
 /// came for a common place is kept there, and the places that have the same are marked: so where
-/// most are the same, each takes a byte.
+/// most are the same, each takes a bit.
 #[derive(Drop)]
 pub struct Notes {
-    /// Which places have the reason of their common place, up to the last that was set.
-    pub marks: Vec<bool>,
+    /// Which places have the reason of their common place, sixteen in a number, up to the last that
+    /// was set.
+    pub marks: Vec<u16>,
     /// The reasons of the common places, up to the last that was set.
     pub common: Vec<Note>,
     /// The reasons of the places that aren't marked, up to the last of them that was set.
@@ -87,24 +89,60 @@ fn noted_in(notes: &[Note], place: usize) -> Option<Reason>
 }
 
 /// Whether a place is marked. None past the last mark is.
-fn is_marked(marks: &[bool], place: usize) -> bool
-    ensures { result ≡ slice_index_or marks.now place false }
+#[tactic(auto, using(crate::proofs::MarkLemmas::mark_lemmas), unfolding(crate::specs::Kept::is_marked))]
+fn is_marked(marks: &[u16], place: usize) -> bool
+    ensures { result ≡ is_marked marks.now place }
 {
-    match marks.get(place) {
-        Some(mark) => *mark,
+    match marks.get(place / 16) {
+        Some(bits) => has_bit(*bits, place % 16),
         None => false,
     }
+}
+
+/// Whether a bit is set.
+fn has_bit(bits: u16, place: usize) -> bool
+    requires { place < 16 }
+    ensures { result ≡ (bit_at bits place == 1) }
+{
+    (bits >> place) & 1 == 1
+}
+
+/// The bits, of which one is set or isn't, and the others are as they were.
+fn with_bit(bits: u16, place: usize, is_set: bool) -> u16
+    requires { place < 16 }
+    ensures here { (bit_at result place == 1) ≡ is_set }
+    ensures others { (k : ℕ) → k < 16 → (k ≡ place → ⊥) → bit_at result k ≡ bit_at bits k }
+{
+    if is_set {
+        bits | (1 << place)
+    } else {
+        bits & !(1 << place)
+    }
+}
+
+/// Marks a place or not, and leaves all others.
+fn set_mark(marks: &mut Vec<u16>, place: usize, mark: bool)
+    requires room { place / 16 < vec_capacity marks.old }
+    ensures here { is_marked marks.new.items place ≡ mark }
+    ensures others { (k : ℕ) → (k ≡ place → ⊥)
+        → is_marked marks.new.items k ≡ is_marked marks.old.items k }
+    ensures length { (vec_len marks.new ≡ vec_len marks.old)
+        ⊎ (vec_len marks.new ≡ place / 16 + 1) }
+    ensures same_memory { vec_capacity marks.new ≡ vec_capacity marks.old }
+{
+    fill(marks, place / 16, 0);
+    marks[place / 16] = with_bit(marks[place / 16], place % 16, mark);
 }
 
 impl Notes {
     /// No reason, and all memory for so many common places and so many places.
     pub fn open(alloc: Global, common: usize, places: usize) -> Result<Notes, AllocError>
         ensures none { IfOk result (λ notes. notes_data notes ≡ no_notes) }
-        ensures marks { IfOk result (λ notes. vec_capacity notes.marks ≡ places) }
+        ensures marks { IfOk result (λ notes. vec_capacity notes.marks ≡ places / 16) }
         ensures common { IfOk result (λ notes. vec_capacity notes.common ≡ common) }
         ensures own { IfOk result (λ notes. vec_capacity notes.own ≡ places) }
     {
-        let marks = Vec::with_capacity(alloc, places)?;
+        let marks = Vec::with_capacity(alloc, places / 16)?;
         let common = Vec::with_capacity(alloc, common)?;
         let own = Vec::with_capacity(alloc, places)?;
         Ok(Notes { marks, common, own })
@@ -113,7 +151,7 @@ impl Notes {
     /// Sets the reason of a place with this common place, and leaves those of all other places.
     pub fn set(&mut self, common: usize, place: usize, reason: Reason)
         requires common_room { common < vec_capacity self.old.common }
-        requires marks_room { place < vec_capacity self.old.marks }
+        requires marks_room { place / 16 < vec_capacity self.old.marks }
         requires own_room { place < vec_capacity self.old.own }
         ensures here { reason_in (notes_data self.new) common place ≡ Some reason }
         ensures held { IsHeld (notes_data self.new) common place }
@@ -122,17 +160,16 @@ impl Notes {
         ensures held_others { (c p : ℕ) → (p ≡ place → ⊥) → IsHeld (notes_data self.old) c p
             → IsHeld (notes_data self.new) c p }
         ensures marks { (vec_len self.new.marks ≡ vec_len self.old.marks)
-            ⊎ (vec_len self.new.marks ≡ place + 1) }
+            ⊎ (vec_len self.new.marks ≡ place / 16 + 1) }
         ensures own { (vec_len self.new.own ≡ vec_len self.old.own)
             ⊎ (vec_len self.new.own ≡ place + 1) }
         ensures marks_memory { vec_capacity self.new.marks ≡ vec_capacity self.old.marks }
         ensures common_memory { vec_capacity self.new.common ≡ vec_capacity self.old.common }
         ensures own_memory { vec_capacity self.new.own ≡ vec_capacity self.old.own }
     {
-        fill(&mut self.marks, place, false);
         fill(&mut self.common, common, Note::Unset);
         let is_common = is_common(&mut self.common, common, reason);
-        self.marks[place] = is_common;
+        set_mark(&mut self.marks, place, is_common);
         set_own(&mut self.own, place, reason, is_common);
     }
 

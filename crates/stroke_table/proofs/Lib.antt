@@ -9,3 +9,4 @@ mod MovedReasons
 mod StageReasons
 mod BoxSteps
 mod Records
+mod StageStrokes

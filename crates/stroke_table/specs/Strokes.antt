@@ -11,6 +11,7 @@ use Rattle.job_setup.specs.StrokeGroup.{group_of}
 use Rattle.job_setup.specs.Reasons.{pose_at, IsReason, IsFirstReason}
 use Rattle.gauge_rules.specs.Pairs.{IsFirstLegal}
 use Rattle.stroke_table.specs.declared.stroke.Stroke.{Stroke}
+use Rattle.stroke_table.specs.declared.stroke.StageStroke.{StageStroke}
 
 -- the first reason against a stroke at a stage; none exactly where no reason holds, so that the stroke is legal there
 abbrev pub IsFirstAt : JobData → Mask → Mask → Back → ℕ → Option Reason → Type 0
@@ -28,6 +29,18 @@ pub record IsStrokeOf (job : JobData) (mask : Mask) (lead : ℕ) (back : Back) (
   pub gauge : (stage : ℕ) → stage < length job.setup.stages → IsFirstLegal job (pose_at job mask (group_of job mask lead) back stage) stroke.gauge
   pub few : length job.setup.stages ≤ 6
   pub reasons : (stage : ℕ) → stage < length job.setup.stages → IsFirstAt job mask (group_of job mask lead) back stage (reason_at stroke.reasons stage)
+
+-- what a stroke has at a stage
+pub record IsOfStage (stroke : Stroke) (stage : ℕ) (found : StageStroke) : Type 0 where
+  pub attitude : found.attitude ≡ stroke.attitude
+  pub gauge : found.gauge ≡ stroke.gauge
+  pub reason : found.reason ≡ reason_at stroke.reasons stage
+
+-- The attitude of the part in the stroke of an action, and the first legal pair and the first reason at its stage.
+pub record IsStrokeAt (job : JobData) (mask : Mask) (action : Action) (found : StageStroke) : Type 0 where
+  pub attitude : found.attitude ≡ attitude_of (shape_of job) mask action.bend action.back
+  pub gauge : IsFirstLegal job (pose_at job mask (group_of job mask action.bend) action.back action.stage) found.gauge
+  pub reason : IsFirstAt job mask (group_of job mask action.bend) action.back action.stage found.reason
 
 -- the reason holds against the action where the bends of the mask are folded
 abbrev pub HoldsAgainst : JobData → Mask → Action → Reason → Type 0

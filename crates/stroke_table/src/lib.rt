@@ -9,7 +9,7 @@ mod holding;
 mod stroke;
 mod table;
 
-pub use stroke::Stroke;
+pub use stroke::{StageStroke, Stroke};
 pub use table::StrokeTable;
 
 #[cfg(test)]

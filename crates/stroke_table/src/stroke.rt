@@ -1,6 +1,6 @@
 //! What is found out about a stroke.
 ghost use Rattle.std.specs.Prelude.{◌≡◌, ◌<◌};
-ghost use Rattle.stroke_table.specs.Strokes.{reason_at};
+ghost use Rattle.stroke_table.specs.Strokes.{reason_at, IsOfStage};
 
 use brake_base::{Gauge, Reason, Turn};
 
@@ -14,7 +14,28 @@ pub struct Stroke {
     pub reasons: [Option<Reason>; 6],
 }
 
+/// What is found out about a stroke at one stage: the attitude of the part, the first legal pair of
+/// its fingers, and the first reason against the stroke there.
+#[derive(Clone, Copy, Debug, PartialEq, Eq)]
+pub struct StageStroke {
+    pub attitude: Turn,
+    pub gauge: Option<Gauge>,
+    pub reason: Option<Reason>,
+}
+
 impl Stroke {
+    /// What is found out about the stroke at a stage.
+    pub fn at_stage(&self, stage: u8) -> StageStroke
+        requires { stage < 6 }
+        ensures { IsOfStage self.now stage result }
+    {
+        StageStroke {
+            attitude: self.attitude,
+            gauge: self.gauge,
+            reason: self.reason(stage),
+        }
+    }
+
     /// The first reason against the stroke at a stage. None exactly where the stroke is legal there.
     pub fn reason(&self, stage: u8) -> Option<Reason>
         requires { stage < 6 }

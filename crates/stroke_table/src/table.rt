@@ -1,15 +1,16 @@
 //! The table of strokes.
-ghost use Rattle.std.specs.Prelude.{false, ◌≡◌, ◌↔◌, ◌-◌, ◌^◌, ◌<◌, ◌≤◌, length, slice_index_or, replicate, None, IfOk, IsTrue};
+ghost use Rattle.std.specs.Prelude.{false, ◌≡◌, ◌↔◌, ◌-◌, ◌^◌, ◌<◌, ◌≤◌, length, slice_index_or, replicate, None, Some, IfOk, IfSome, IsTrue};
 ghost use Rattle.brake_base.specs.Masks.{has};
 ghost use Rattle.fold_boxes.specs.Places.{ArePlaces};
 ghost use Rattle.job_setup.specs.Setup.{shape_of};
-ghost use Rattle.stroke_table.specs.Strokes.{IsStrokeOf, HoldsAgainst};
+ghost use Rattle.stroke_table.specs.declared.stroke.Stroke.{Stroke};
+ghost use Rattle.stroke_table.specs.Strokes.{IsStrokeOf, IsStrokeAt, IsOfStage, HoldsAgainst};
 ghost use Rattle.stroke_table.specs.Table.{place_of, place_count};
 
 use crate::box_records::BoxRecords;
 use crate::finding::find_stroke;
 use crate::holding::holds_by;
-use crate::stroke::Stroke;
+use crate::stroke::{StageStroke, Stroke};
 use brake_base::{Action, Back, Mask, Place, Reason};
 use job_setup::Job;
 use std::alloc::{AllocError, Global};
@@ -80,6 +81,36 @@ impl StrokeTable {
         }
     }
 
+    /// What there is to know of the stroke of an action at its stage, where the bends of the mask are
+    /// folded.
+    pub fn stroke_at(
+        &mut self,
+        job: &Job,
+        places: &[Place],
+        mask: Mask,
+        action: Action,
+    ) -> StageStroke
+        requires job { job.now ≡ self.old }
+        requires count { length places.now ≡ length job.now.part.faces }
+        requires places { ArePlaces (shape_of job.now) mask places.now }
+        requires mask { mask.0 < 2 ^ (length job.now.part.faces - 1) }
+        requires first { 1 ≤ action.bend }
+        requires last { action.bend < length job.now.part.faces }
+        requires flat { has mask action.bend ≡ false }
+        requires stage { action.stage < length job.now.setup.stages }
+        ensures job { self.new ≡ self.old }
+        ensures stroke { IsStrokeAt job.now mask action result }
+    {
+        let place = place_of(mask, action.bend, action.back);
+        match known_at_stage(&self.strokes, place, action.stage) {
+            Some(found) => found,
+            None => {
+                let stroke = self.stroke(job, places, mask, action.bend, action.back);
+                stroke.at_stage(action.stage)
+            }
+        }
+    }
+
     /// Whether a reason, of any kind, holds against an action where the bends of the mask are folded.
     pub fn holds(
         &mut self,
@@ -130,6 +161,19 @@ fn known_at(strokes: &[Option<Stroke>], place: usize) -> Option<Stroke>
     ensures { result ≡ slice_index_or strokes.now place None }
 {
     strokes[place]
+}
+
+/// What the stroke that stands at a place has at a stage.
+fn known_at_stage(strokes: &[Option<Stroke>], place: usize, stage: u8) -> Option<StageStroke>
+    requires place { place < length strokes.now }
+    requires stage { stage < 6 }
+    ensures { IfSome result (λ found. (stroke : Stroke)
+        × (slice_index_or strokes.now place None ≡ Some stroke) × IsOfStage stroke stage found) }
+{
+    match &strokes[place] {
+        Some(stroke) => Some(stroke.at_stage(stage)),
+        None => None,
+    }
 }
 
 /// The place of a stroke.

@@ -6,26 +6,23 @@ use Rattle.bb_search.proofs.SetLemmas.{refused, has_gauge, free}
 use Rattle.bb_search.proofs.set_table.SetTable.test.Goals.{in-Some, in-None}
 use Rattle.bb_search.proofs.set_table.SetTable.test.Goals as goal
 
-pub stroke-stroke-requires-clause-flat : goal.stroke-stroke-requires-clause-flat
-stroke-stroke-requires-clause-flat c = (lead_is c.args.job.now c.args.key.now.mask c.args.action.bend c.requires.action.lead).flat
-
-pub reason-requires : goal.reason-requires
-reason-requires c = omega (arith, c.requires.action.stage, c.requires.valid.setup.stages.few_stages)
+pub stroke_at-stroke-requires-clause-flat : goal.stroke_at-stroke-requires-clause-flat
+stroke_at-stroke-requires-clause-flat c = (lead_is c.args.job.now c.args.key.now.mask c.args.action.bend c.requires.action.lead).flat
 
 pub held-requires : goal.held-requires
 held-requires c =
-    λ no. has_gauge c.args.job.now c.args.key.now c.args.action c.requires.action c.stroke-stroke.result c.stroke-stroke.ensures.stroke (sym c.reason.ensures ∙ c.in-None.is) no
+    λ no. has_gauge c.args.job.now c.args.key.now c.args.action c.requires.action c.stroke_at-stroke.result c.stroke_at-stroke.ensures.stroke c.in-None.is no
 
 pub returns-clause-tested : goal.returns-clause-tested
 returns-clause-tested c =
     let job = c.args.job.now in
     let key = c.args.key.now in
     let action = c.args.action in
-    elim c.match-reason.branch [
+    elim c.match-stroke.branch [
       | in-Some w ↦ subst (λ (tested : Tested). IsTested job key action tested) (sym w.result-is)
-          (refused job key action c.requires.action c.stroke-stroke.result c.stroke-stroke.ensures.stroke w.in-Some.reason (sym c.reason.ensures ∙ w.in-Some.is))
+          (refused job key action c.requires.action c.stroke_at-stroke.result c.stroke_at-stroke.ensures.stroke w.in-Some.reason w.in-Some.is)
       | in-None w ↦
           let held = w.held.ensures in
           subst (λ (tested : Tested). IsTested job key action tested) (sym (w.result-is ∙ held.2))
-          (free job key action c.requires.action c.stroke-stroke.result c.stroke-stroke.ensures.stroke (sym c.reason.ensures ∙ w.in-None.is) held.0 held.1)
+          (free job key action c.requires.action c.stroke_at-stroke.result c.stroke_at-stroke.ensures.stroke w.in-None.is held.0 held.1)
     ]
