@@ -1,0 +1,165 @@
+//! Jobs of three files, and their refusals.
+
+use brake_base::Mask;
+use common_files::{EAST_FLANGE, L_SECTION, MACHINE, STAGE, TOOLS, TWO_FLANGES};
+use job_setup::{Job, JobFault, group, make_job, meets_at};
+use machine_file::read_machine;
+use part_file::read_part;
+use std::alloc::Global;
+use std::test::Fail;
+use tool_library::read_tools;
+
+const LOAD: &str = "[[load]]
+material = \"S235\"
+thickness = 2000
+v = 16000
+load = 300
+";
+
+const TWO_LOADS: &str = "[[load]]
+material = \"S235\"
+thickness = 2000
+v = 16000
+load = 300
+[[load]]
+material = \"S235\"
+thickness = 2000
+v = 16000
+load = 300
+";
+
+const OTHER_LOAD: &str = "[[load]]
+material = \"S235\"
+thickness = 2000
+v = 12000
+load = 300
+";
+
+/// What comes of the texts of a part file, a tools file and a machine file.
+fn made_of(
+    alloc: Global,
+    part: &str,
+    tools: &str,
+    machine: &str,
+) -> Result<Result<Job, JobFault>, Fail> {
+    let part = read_part(alloc, part.as_bytes())?;
+    let tools = read_tools(alloc, tools.as_bytes())?;
+    let machine = read_machine(alloc, machine.as_bytes())?;
+    Ok(make_job(part, &tools, &machine))
+}
+
+/// What comes of the L section with these load rows and stages.
+fn made_with(alloc: Global, loads: &str, stages: &str) -> Result<Result<Job, JobFault>, Fail> {
+    let tools = format!(in alloc; "{TOOLS}{loads}")?;
+    let machine = format!(in alloc; "{MACHINE}{stages}")?;
+    made_of(alloc, L_SECTION, tools.as_str(), machine.as_str())
+}
+
+#[test]
+fn l_section(rt: HostRuntime) -> Result<(), Fail> {
+    let made = made_with(rt.alloc(), LOAD, STAGE)?;
+    let job = made.ok().expect(&rt, "a job");
+    assert!(rt; job.q() == 1919 && job.bends() == 1 && job.stages() == 1);
+    assert!(rt; job.part().thickness == 2000);
+    let stage = job.setup().stages.as_slice().first().expect(&rt, "a stage");
+    assert!(rt; stage.x0 == 200_000 && stage.x1 == 300_000);
+    assert!(rt; stage.load == 300 && stage.limit == 0);
+    Ok(())
+}
+
+/// A stage with a punch that no tools file has.
+const UNKNOWN_PUNCH: &str = "[[stage]]
+punch = \"P9\"
+die = \"D16\"
+at = 200000
+pieces = [100000]
+";
+
+/// A stage of more pieces than the tools file has.
+const SHORT_STOCK: &str = "[[stage]]
+punch = \"P100\"
+die = \"D16\"
+at = 200000
+pieces = [100000, 100000, 100000]
+";
+
+#[test]
+fn refusals(rt: HostRuntime) -> Result<(), Fail> {
+    for (loads, stages, fault) in [
+        ("", UNKNOWN_PUNCH, JobFault::UnknownTool { stage: 0 }),
+        ("", "", JobFault::NoStage),
+        ("", SHORT_STOCK, JobFault::StockShort { stage: 0 }),
+        (OTHER_LOAD, STAGE, JobFault::NoLoad { stage: 0 }),
+        (TWO_LOADS, STAGE, JobFault::TwoLoads { stage: 0 }),
+    ] {
+        let made = made_with(rt.alloc(), loads, stages)?;
+        assert!(rt; made.err() == Some(fault));
+    }
+    Ok(())
+}
+
+/// The group of bend 1 of the unfolded part, and whether stage 0 meets it; None where there is no
+/// bend or no stage.
+fn first_stroke(job: &Job) -> Option<(Mask, bool)> {
+    if job.bends() == 0 || job.stages() == 0 {
+        return None;
+    }
+    Some((
+        group(job, Mask::empty(), 1),
+        meets_at(job, Mask::empty(), 1, 0),
+    ))
+}
+
+/// The first stroke of a part with one length replaced, on the machine with these lines before its
+/// own and with these pieces at its stage; None where there is no job.
+fn stroke_of(
+    alloc: Global,
+    part: &str,
+    (length, other): (&str, &str),
+    lines: &str,
+    pieces: &str,
+) -> Result<Option<(Mask, bool)>, Fail> {
+    let part = part.replacen(alloc, length, other, 1)?;
+    let stage = STAGE.replacen(alloc, "100000", pieces, 1)?;
+    let machine = format!(in alloc; "{lines}{MACHINE}{stage}")?;
+    let made = made_of(alloc, part.as_str(), TOOLS, machine.as_str())?;
+    Ok(made.ok().and_then(|job| first_stroke(&job)))
+}
+
+#[test]
+fn first_strokes(rt: HostRuntime) -> Result<(), Fail> {
+    let same = ("", "");
+    for (part, length, lines, pieces, stroke) in [
+        (TWO_FLANGES, same, "", "100000", (Mask(1), true)),
+        (TWO_FLANGES, same, "gang = 1\n", "100000", (Mask(3), true)),
+        (TWO_FLANGES, same, "gang = 1\n", "70000", (Mask(3), false)),
+        (L_SECTION, same, "", "90000", (Mask(1), true)),
+        (L_SECTION, same, "", "60000", (Mask(1), false)),
+        (L_SECTION, ("30000", "12919"), "", "100000", (Mask(1), true)),
+        (
+            L_SECTION,
+            ("30000", "12918"),
+            "",
+            "100000",
+            (Mask(1), false),
+        ),
+        (
+            EAST_FLANGE,
+            ("20000", "12919"),
+            "",
+            "100000",
+            (Mask(1), true),
+        ),
+        (
+            EAST_FLANGE,
+            ("20000", "12918"),
+            "",
+            "100000",
+            (Mask(1), false),
+        ),
+    ] {
+        let found = stroke_of(rt.alloc(), part, length, lines, pieces)?;
+        assert!(rt; found == Some(stroke));
+    }
+    Ok(())
+}

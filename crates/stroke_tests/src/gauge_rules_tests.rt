@@ -1,0 +1,30 @@
+//! The first legal pairs of the worked parts.
+
+use crate::jobs::job_of;
+use brake_base::{Back, Gauge, Mask};
+use common_files::{L_SECTION, MACHINE, STAGE, U_CHANNEL};
+use fold_boxes::{is_group, pose};
+use gauge_rules::first_legal;
+use std::test::Fail;
+
+#[test]
+fn gauges(rt: HostRuntime) -> Result<(), Fail> {
+    let alloc = rt.alloc();
+    let machine = format!(in alloc; "{MACHINE}{STAGE}")?;
+    let pair = Gauge {
+        left_face: 1,
+        right_face: 1,
+    };
+    let cases = [
+        (L_SECTION, Mask(0), Mask(1), Back::Child, Some(pair)),
+        (U_CHANNEL, Mask(1), Mask(2), Back::Parent, None),
+    ];
+    for (part, mask, group, back, gauge) in cases {
+        let job = job_of(alloc, part, &machine)?.expect(&rt, "a job");
+        let shape = job.shape();
+        assert!(rt; is_group(shape, mask, group));
+        let posed = pose(shape, mask, group, back, 200_000, 300_000);
+        assert!(rt; first_legal(&job, &posed) == gauge);
+    }
+    Ok(())
+}

@@ -1,0 +1,17 @@
+//! Tests of the crates that tell whether a stroke is possible and what it costs: swept sectors, the
+//! folding of bends and its undoing, gauges and costs. They stand above what they test, on public
+//! calls.
+#![tactic(auto)]
+
+#[cfg(test)]
+mod bend_state_tests;
+#[cfg(test)]
+mod gauge_rules_tests;
+#[cfg(test)]
+mod handling_cost_tests;
+#[cfg(test)]
+mod jobs;
+#[cfg(test)]
+mod sector_geom_tests;
+#[cfg(test)]
+mod undo_region_tests;
