@@ -11,6 +11,3 @@ pub use bounds::{
 };
 pub use deduction::half_deduction;
 pub use table::{AllowFault, AllowRow, AllowTable, Factor, find};
-
-#[cfg(test)]
-mod tests;

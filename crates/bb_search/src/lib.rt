@@ -15,6 +15,3 @@ mod worths;
 pub use outcome::Outcome;
 pub use reach::nodes;
 pub use search::Search;
-
-#[cfg(test)]
-mod tests;

@@ -5,6 +5,3 @@ mod moves;
 mod state;
 
 pub use state::{BendState, Fold};
-
-#[cfg(test)]
-mod tests;

@@ -15,6 +15,3 @@ mod verdict;
 
 pub use fault::{CheckFault, StepFault};
 pub use verdict::{Checked, Verdict, check};
-
-#[cfg(test)]
-mod tests;

@@ -12,6 +12,3 @@ pub use job_words::{
 };
 pub use line_words::split_word;
 pub use plan_words::{claim, note, row, step};
-
-#[cfg(test)]
-mod tests;

@@ -19,6 +19,3 @@ pub use pose_map::{attitude, start_of_span};
 pub use posed_part::{Pose, PoseBox};
 pub use posing::{pose, pose_from};
 pub use shape::{Shape, core, line_length};
-
-#[cfg(test)]
-mod tests;

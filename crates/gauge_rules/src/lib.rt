@@ -7,6 +7,3 @@ mod pairs;
 
 pub use fingers::{left_finger, right_finger};
 pub use pairs::{first_legal, legal};
-
-#[cfg(test)]
-mod tests;

@@ -23,6 +23,3 @@ pub use setup::{Setup, Stage};
 pub use stage_reasons::{is_overloaded_at, is_uncovered_at, lacks_rest_at};
 pub use strokes::{group, meets_at};
 pub use valid::job_from;
-
-#[cfg(test)]
-mod tests;

@@ -15,6 +15,3 @@ pub use fault::MachineFault;
 pub use machine::{Costs, Fixed, GaugeRule, Machine, StageText};
 pub use reader::read_machine;
 pub use stages::are_within;
-
-#[cfg(test)]
-mod tests;

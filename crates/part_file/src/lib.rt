@@ -19,6 +19,3 @@ pub use fault::PartFault;
 pub use part::{Dir, Face, Joint, Part, Side};
 pub use reader::read_part;
 pub use tree::{bent, path, side_of};
-
-#[cfg(test)]
-mod tests;

@@ -9,6 +9,3 @@ mod job;
 mod setup;
 
 pub use job::made_job;
-
-#[cfg(test)]
-mod tests;

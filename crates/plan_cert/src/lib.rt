@@ -27,6 +27,3 @@ pub use reader::CertReader;
 pub use rows::{put_reason, put_worth};
 pub use words::put_count;
 pub use writing::write_cert;
-
-#[cfg(test)]
-mod tests;

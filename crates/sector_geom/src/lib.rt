@@ -8,8 +8,6 @@ mod noses;
 mod pieces;
 mod sector;
 mod special_points;
-#[cfg(test)]
-mod tests;
 
 pub use clearance::clear;
 pub use covers::cover;

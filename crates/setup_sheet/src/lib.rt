@@ -9,6 +9,3 @@ mod words;
 pub use blank::blank_sheet;
 pub use order::{are_steps, order_sheet};
 pub use setup::setup_sheet;
-
-#[cfg(test)]
-mod tests;

@@ -15,6 +15,3 @@ mod tools;
 pub use fault::ToolFault;
 pub use reader::read_tools;
 pub use tools::{Die, LoadRow, Punch, Tools};
-
-#[cfg(test)]
-mod tests;

@@ -12,6 +12,3 @@ mod refusals;
 pub use blank::{BendLine, Blank, FlatFace, FlatRect, UnfoldFault};
 pub use bounds::extent;
 pub use layout::unfold;
-
-#[cfg(test)]
-mod tests;

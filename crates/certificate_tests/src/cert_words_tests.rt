@@ -1,7 +1,10 @@
 //! Each call on a line of a certificate, and on one with a second spelling.
 
-use crate::*;
 use brake_base::{Back, Mask, Quarter, Reason, Worth};
+use cert_words::{
+    child, claim, cost_numbers, costs_of, die, fixed, gang_of, gauge, note, number, pair_alone,
+    part, punch, rect_alone, root, row, split_word, step,
+};
 use std::test::Fail;
 
 #[test]

@@ -2,17 +2,15 @@
 
 ghost use Rattle.std.specs.Prelude.{◌<◌};
 
-use crate::{Outcome, Search, nodes};
+use crate::jobs::job_of;
+use bb_search::{Outcome, Search, nodes};
 use brake_base::{Action, Back, Gauge, Key, Mask, Quarter, Reason, Step, Turn, Worth};
-use common_files::{L_SECTION, MACHINE, STAGE, TOOLS, U_CHANNEL};
-use job_setup::{Job, make_job};
-use machine_file::read_machine;
-use part_file::read_part;
+use common_files::{L_SECTION, MACHINE, STAGE, U_CHANNEL};
+use job_setup::Job;
 use part_gen::made_job;
 use plan_cert::{Cert, Note, RowHead};
 use std::alloc::{AllocError, Global};
 use std::test::Fail;
-use tool_library::read_tools;
 
 /// A base of 100,000 by 60,000 with two flanges each on its sides S and N.
 const FOUR_FLANGES: &str = "material = \"S235\"
@@ -111,18 +109,10 @@ fn six_stages(alloc: Global) -> Result<String, AllocError> {
 }
 
 /// The job of a part on a machine with one stage of one piece; None where there is none.
-fn job_of(alloc: Global, part: &str, piece: &str) -> Result<Option<Job>, Fail> {
+fn job_with(alloc: Global, part: &str, piece: &str) -> Result<Option<Job>, Fail> {
     let stage = STAGE.replacen(alloc, "[100000]", piece, 1)?;
     let machine = format!(in alloc; "{MACHINE}{stage}")?;
-    job_on(alloc, part, &machine)
-}
-
-/// The job of a part on a machine; None where there is none.
-fn job_on(alloc: Global, part: &str, machine: &str) -> Result<Option<Job>, Fail> {
-    let part = read_part(alloc, part.as_bytes())?;
-    let tools = read_tools(alloc, TOOLS.as_bytes())?;
-    let machine = read_machine(alloc, machine.as_bytes())?;
-    Ok(make_job(part, &tools, &machine).ok())
+    job_of(alloc, part, &machine)
 }
 
 /// What a search of the job answers within a budget.
@@ -178,10 +168,10 @@ fn step(bend: u8, back: Back, face: u8) -> Step {
 fn outcomes_of_the_worked_parts(rt: HostRuntime) -> Result<(), Fail> {
     let alloc = rt.alloc();
     let high = U_CHANNEL.replace(alloc, "length = 30000", "length = 80000")?;
-    let l_section = job_of(alloc, L_SECTION, "[100000]")?.expect(&rt, "a job");
-    let u_channel = job_of(alloc, U_CHANNEL, "[100000]")?.expect(&rt, "a job");
-    let high_channel = job_of(alloc, &high, "[100000]")?.expect(&rt, "a job");
-    let four = job_of(alloc, FOUR_FLANGES, "[45000]")?.expect(&rt, "a job");
+    let l_section = job_with(alloc, L_SECTION, "[100000]")?.expect(&rt, "a job");
+    let u_channel = job_with(alloc, U_CHANNEL, "[100000]")?.expect(&rt, "a job");
+    let high_channel = job_with(alloc, &high, "[100000]")?.expect(&rt, "a job");
+    let four = job_with(alloc, FOUR_FLANGES, "[45000]")?.expect(&rt, "a job");
     assert_eq!(rt; nodes(&u_channel), 49);
     assert_eq!(rt;
         outcome_of(alloc, &l_section, 1)?,
@@ -202,7 +192,7 @@ fn the_most_nodes_of_a_job(rt: HostRuntime) -> Result<(), Fail> {
     let alloc = rt.alloc();
     let part = twelve_flanges(alloc)?;
     let machine = six_stages(alloc)?;
-    let job = job_on(alloc, &part, &machine)?.expect(&rt, "a job");
+    let job = job_of(alloc, &part, &machine)?.expect(&rt, "a job");
     assert_eq!(rt; nodes(&job), 589_537);
     Ok(())
 }
@@ -210,7 +200,7 @@ fn the_most_nodes_of_a_job(rt: HostRuntime) -> Result<(), Fail> {
 #[test]
 fn the_u_channel_is_proved(rt: HostRuntime) -> Result<(), Fail> {
     let alloc = rt.alloc();
-    let job = job_of(alloc, U_CHANNEL, "[100000]")?.expect(&rt, "a job");
+    let job = job_with(alloc, U_CHANNEL, "[100000]")?.expect(&rt, "a job");
     let cert = certificate_of(alloc, &job)?.expect(&rt, "a certificate");
     let steps = [step(2, Back::Parent, 1), step(1, Back::Child, 1)];
     let rows = [
@@ -233,7 +223,7 @@ fn the_u_channel_is_proved(rt: HostRuntime) -> Result<(), Fail> {
 fn the_high_u_channel_has_no_plan(rt: HostRuntime) -> Result<(), Fail> {
     let alloc = rt.alloc();
     let high = U_CHANNEL.replace(alloc, "length = 30000", "length = 80000")?;
-    let job = job_of(alloc, &high, "[100000]")?.expect(&rt, "a job");
+    let job = job_with(alloc, &high, "[100000]")?.expect(&rt, "a job");
     let cert = certificate_of(alloc, &job)?.expect(&rt, "a certificate");
     let keys = [key(0, 0), key(1, 0), key(1, 2), key(2, 0), key(2, 2)];
     let rows = keys.map(|key| RowHead {

@@ -1,22 +1,12 @@
 //! The order sheets of the worked parts, worked out by hand.
 
-use crate::{are_steps, order_sheet};
+use crate::jobs::job_of;
 use brake_base::{Action, Back, Gauge, Step};
-use common_files::{L_SECTION, MACHINE, STAGE, TOOLS, TWO_FLANGES, U_CHANNEL};
-use job_setup::{Job, make_job};
-use machine_file::read_machine;
-use part_file::read_part;
+use common_files::{L_SECTION, MACHINE, STAGE, TWO_FLANGES, U_CHANNEL};
+use job_setup::Job;
+use setup_sheet::{are_steps, order_sheet};
 use std::alloc::Global;
 use std::test::Fail;
-use tool_library::read_tools;
-
-/// The job of a part and a machine; None where there is none.
-fn job_of(alloc: Global, part: &str, machine: &str) -> Result<Option<Job>, Fail> {
-    let part = read_part(alloc, part.as_bytes())?;
-    let tools = read_tools(alloc, TOOLS.as_bytes())?;
-    let machine = read_machine(alloc, machine.as_bytes())?;
-    Ok(make_job(part, &tools, &machine).ok())
-}
 
 /// A step at stage 0 with both fingers at one face.
 fn step(bend: u8, back: Back, face: u8) -> Step {

@@ -1,7 +1,7 @@
 //! Made jobs.
 
-use crate::made_job;
 use part_file::{Dir, Face, Joint, Side};
+use part_gen::made_job;
 use std::test::Fail;
 
 /// Whether a flange has this width and length, and stands so.

@@ -6,7 +6,7 @@ use Rattle.bb_search.specs.declared.outcome.Outcome.TheVariants.{Best, Blocked, 
 use Rattle.bb_search.specs.Outcomes.{IsAnswer}
 use Rattle.bb_search.specs.Searches.{SearchData}
 use Rattle.bb_search.specs.Certificates.{HasAnswer}
-use Rattle.bb_search.proofs.tests.certificate_of.Goals as goal
+use Rattle.certificate_tests.proofs.bb_search_tests.certificate_of.Goals as goal
 
 -- an outcome that isn't Spent claims something
 has_answer : (search : SearchData) (outcome : Outcome) → (outcome ≡ Spent → ⊥) → search.outcome ≡ Some outcome → IsAnswer search.job search.pool search.budget search.steps outcome → HasAnswer search

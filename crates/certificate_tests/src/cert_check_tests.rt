@@ -1,55 +1,12 @@
 //! The worked certificates: that of a U channel, altered line by line.
 
-use crate::{CheckFault, StepFault, Verdict, check};
+use crate::texts::{ROWS, STEPS, VERSION_1_JOB};
+use cert_check::{CheckFault, StepFault, Verdict, check};
 use plan_cert::CertFault;
 use std::alloc::Global;
 use std::test::Fail;
 
-/// The job lines of the U channel, in version 1.
-const JOB: &str = "brake-cert 1
-part S235 2000 2000 1919
-face web 100000 60000
-face north 0 N 0 100000 30000 up
-face south 0 S 0 100000 30000 up
-bed 0 3000000
-upper 0 3000000 -60000 60000 0 300000
-lower 0 3000000 -30000 30000 -300000 0
-uncovered 5000
-gauge 5000 600000 5000 10000 10000 20000 10000 10000
-cost 100 20 30 60 80 40
-stage 200000 300000
-punch P100 100000 6000
-box -6000 6000 6000 100000
-die D16 60000 16000 11000
-box -20000 -8000 -60000 0
-box -8000 8000 -60000 -8000
-box 8000 20000 -60000 0
-pieces 100000
-";
-
-/// The same with legs of 80000, of which no second one can be bent.
-const HIGH_JOB: &str = "brake-cert 1
-part S235 2000 2000 1919
-face web 100000 60000
-face north 0 N 0 100000 80000 up
-face south 0 S 0 100000 80000 up
-bed 0 3000000
-upper 0 3000000 -60000 60000 0 300000
-lower 0 3000000 -30000 30000 -300000 0
-uncovered 5000
-gauge 5000 600000 5000 10000 10000 20000 10000 10000
-cost 100 20 30 60 80 40
-stage 200000 300000
-punch P100 100000 6000
-box -6000 6000 6000 100000
-die D16 60000 16000 11000
-box -20000 -8000 -60000 0
-box -8000 8000 -60000 -8000
-box 8000 20000 -60000 0
-pieces 100000
-";
-
-/// The rows that prove it.
+/// The rows that prove that no second leg of 80,000 can be bent.
 const HIGH_ROWS: &str = "row 0 0 0 none
 row 1 0 0 none
 x 2 P 0 4 1 1 1
@@ -63,20 +20,6 @@ x 1 C 0 4 2 1 1
 row 2 2 0 none
 x 1 P 0 4 2 1 1
 x 1 C 0 4 2 1 1
-end
-";
-
-/// The claim and the steps.
-const STEPS: &str = "claim 200
-step 2 P 0 1 1
-step 1 C 0 1 1
-";
-
-/// The rows with their notes, and the end.
-const ROWS: &str = "row 0 0 0 200
-row 1 0 0 130
-x 2 P 0 8
-row 2 0 0 100
 end
 ";
 
@@ -122,12 +65,13 @@ fn answer_of(
 #[test]
 fn a_good_certificate_is_accepted(rt: HostRuntime) -> Result<(), Fail> {
     let alloc = rt.alloc();
+    let high = VERSION_1_JOB.replace(alloc, "30000 up", "80000 up")?;
     let optimal = Ok(Verdict::Optimal { cost: 200 });
-    assert_eq!(rt; answer_of(alloc, JOB, STEPS, ROWS)?, optimal);
+    assert_eq!(rt; answer_of(alloc, VERSION_1_JOB, STEPS, ROWS)?, optimal);
     // The bound alone proves the claim.
-    assert_eq!(rt; answer_of(alloc, JOB, STEPS, "end\n")?, optimal);
+    assert_eq!(rt; answer_of(alloc, VERSION_1_JOB, STEPS, "end\n")?, optimal);
     assert_eq!(rt;
-        answer_of(alloc, HIGH_JOB, "claim none\n", HIGH_ROWS)?,
+        answer_of(alloc, &high, "claim none\n", HIGH_ROWS)?,
         Ok(Verdict::NoPlan)
     );
     Ok(())
@@ -179,7 +123,10 @@ fn altered_rows_are_refused_by_their_first_fault(rt: HostRuntime) -> Result<(), 
         ),
     ];
     for (rows, fault) in cases {
-        assert_eq!(rt; answer_of(rt.alloc(), JOB, STEPS, rows)?, Err(fault));
+        assert_eq!(rt;
+            answer_of(rt.alloc(), VERSION_1_JOB, STEPS, rows)?,
+            Err(fault)
+        );
     }
     Ok(())
 }
@@ -211,7 +158,10 @@ fn altered_steps_are_refused_by_their_first_fault(rt: HostRuntime) -> Result<(),
         ),
     ];
     for (steps, fault) in cases {
-        assert_eq!(rt; answer_of(rt.alloc(), JOB, steps, ROWS)?, Err(fault));
+        assert_eq!(rt;
+            answer_of(rt.alloc(), VERSION_1_JOB, steps, ROWS)?,
+            Err(fault)
+        );
     }
     Ok(())
 }
@@ -264,7 +214,7 @@ fn altered_jobs_are_refused_where_they_are_read(rt: HostRuntime) -> Result<(), F
         ),
     ];
     for (line, other, fault) in cases {
-        let job = JOB.replacen(alloc, line, other, 1)?;
+        let job = VERSION_1_JOB.replacen(alloc, line, other, 1)?;
         assert_eq!(rt;
             answer_of(alloc, &job, STEPS, ROWS)?,
             Err(CheckFault::Cert(fault))
