@@ -4,6 +4,7 @@ pub mod Indexes
 pub mod SetLemmas
 pub mod StepLemmas
 pub mod Numbers
+pub mod ActionLemmas
 pub mod Conditions
 pub mod Truth
 pub mod Accepting

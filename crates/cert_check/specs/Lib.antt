@@ -4,6 +4,7 @@ pub mod StepFaults
 pub mod Steps
 pub mod RowFaults
 pub mod Sets
+pub mod SetActions
 pub mod RowTable
 pub mod Rows
 pub mod Heads

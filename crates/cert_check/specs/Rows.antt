@@ -39,6 +39,11 @@ abbrev pub ActionAnswer : JobData → List RowHead → ℕ → RowHead → ℕ �
 ActionAnswer job rows row head number noted (Ok _) = IsMet job rows head number noted
 ActionAnswer job rows row head number noted (Err fault) = IsUnmet job rows row head number noted fault
 
+-- the action of a number is accounted for where it can be tried, or it can and isn't, for this cause
+abbrev pub NumberAnswer : JobData → List RowHead → ℕ → RowHead → ℕ → Option Reason → Result (Unit {0}) CheckFault → Type 0
+NumberAnswer job rows row head number noted (Ok _) = IsTried job head number → IsMet job rows head number noted
+NumberAnswer job rows row head number noted (Err fault) = IsTried job head number × IsUnmet job rows row head number noted fault
+
 -- what is noted of the action of a number
 abbrev pub noted_of : List (Option Reason) → ℕ → Option Reason
 noted_of reasons number = slice_index_or reasons number None

@@ -9,6 +9,7 @@ mod heads;
 mod notes;
 mod row_table;
 mod rows;
+mod set_actions;
 mod set_table;
 mod steps;
 mod verdict;

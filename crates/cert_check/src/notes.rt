@@ -12,8 +12,9 @@ use crate::fault::CheckFault;
 use crate::heads::first_job;
 use crate::row_table::RowTable;
 use crate::rows::check_row;
+use crate::set_actions::SetActions;
 use crate::set_table::SetTable;
-use brake_base::Reason;
+use brake_base::{Mask, Reason};
 use job_setup::Job;
 use plan_cert::{CertReader, PlanItem};
 
@@ -34,12 +35,13 @@ pub(crate) fn check_notes(
     let _ = job.setup();
     let mut reader = CertReader::new(text);
     let _ = first_job(&mut reader)?;
+    let mut actions = SetActions::of(job, sets, Mask::empty());
     // What stands before the head of the first row.
     let mut reasons = [None; 144];
     read_notes(&mut reader, &mut reasons)?;
     for row in 0..rows.len() {
         read_notes(&mut reader, &mut reasons)?;
-        if let Err(fault) = check_row(job, rows, sets, row, &reasons) {
+        if let Err(fault) = check_row(job, rows, sets, &mut actions, row, &reasons) {
             return Err(fault);
         }
         reasons = [None; 144];

@@ -3,18 +3,20 @@
 ghost use Rattle.std.specs.Prelude.{◌≡◌, ◌↔◌, ◌*◌, ◌<◌, ◌≤◌, IsTrue, length};
 ghost use Rattle.brake_base.specs.Worths.{plus};
 ghost use Rattle.job_setup.specs.Setup.{bend_count, stage_count};
-ghost use Rattle.handling_cost.specs.StepCost.{IsKeyOf, IsActionAt};
+ghost use Rattle.handling_cost.specs.StepCost.{IsKeyOf};
 ghost use Rattle.handling_cost.specs.Bound.{bound_of};
 ghost use Rattle.plan_cert.specs.Lines.{action_at};
 ghost use Rattle.plan_cert.specs.WellFormed.{IsRow, IsWorth};
-ghost use Rattle.cert_check.specs.Rows.{ProvesAfter, ClosesAt, ActionAnswer, HeadAnswer, RowAnswer};
+ghost use Rattle.cert_check.specs.SetActions.{IsNext, AreActionsOf};
+ghost use Rattle.cert_check.specs.Rows.{ProvesAfter, ClosesAt, ActionAnswer, NumberAnswer, HeadAnswer, RowAnswer, noted_of};
 
 use crate::fault::CheckFault;
 use crate::row_table::RowTable;
+use crate::set_actions::{NextKey, SetActions};
 use crate::set_table::SetTable;
 use brake_base::{Action, Key, Reason, Worth, action_of};
 use handling_cost::{bound_with, cost_to};
-use job_setup::{Job, group};
+use job_setup::Job;
 use plan_cert::RowHead;
 
 /// Refuses a row of which an action isn't accounted for. The reasons are those of its notes, by the
@@ -23,17 +25,20 @@ pub(crate) fn check_row(
     job: &Job,
     rows: &RowTable,
     sets: &mut SetTable,
+    actions: &mut SetActions,
     row: u32,
     reasons: &[Option<Reason>; 144],
 ) -> Result<(), CheckFault>
     requires rows { rows.now.job ≡ job.now }
     requires sets { sets.old ≡ job.now }
+    requires actions { AreActionsOf job.now actions.old }
     requires row { row < length rows.now.rows }
     ensures answer { RowAnswer job.now rows.now.rows row reasons.now result }
     ensures sets { sets.new ≡ sets.old }
+    ensures actions { AreActionsOf job.now actions.new }
 {
     let head = rows.head(row);
-    check_head(job, rows, sets, row, &head, reasons)
+    check_head(job, rows, sets, actions, row, &head, reasons)
 }
 
 /// The same for the row's key and worth.
@@ -41,32 +46,69 @@ fn check_head(
     job: &Job,
     rows: &RowTable,
     sets: &mut SetTable,
+    actions: &mut SetActions,
     row: u32,
     head: &RowHead,
     reasons: &[Option<Reason>; 144],
 ) -> Result<(), CheckFault>
     requires rows { rows.now.job ≡ job.now }
     requires sets { sets.old ≡ job.now }
+    requires actions { AreActionsOf job.now actions.old }
     requires head { IsRow job.now head.now }
     ensures answer { HeadAnswer job.now rows.now.rows row head.now reasons.now result }
     ensures sets { sets.new ≡ sets.old }
+    ensures actions { AreActionsOf job.now actions.new }
 {
-    let _ = job.setup();
-    let leads = sets.facts(job, head.key.mask).leads;
+    actions.turn_to(job, sets, head.key.mask);
     for number in 0..action_count(job) {
-        let action = action_at(job, number);
-        if leads.contains(action.bend) {
-            let noted = reasons[usize::from(number)];
-            if let Err(fault) = check_action(job, rows, sets, row, head, number, action, noted) {
-                return Err(fault);
-            }
+        if let Err(fault) = check_number(job, rows, sets, actions, row, head, number, reasons) {
+            return Err(fault);
         }
     }
     Ok(())
 }
 
+/// Refuses an action that can be tried at the row and isn't accounted for.
+fn check_number(
+    job: &Job,
+    rows: &RowTable,
+    sets: &mut SetTable,
+    actions: &mut SetActions,
+    row: u32,
+    head: &RowHead,
+    number: u8,
+    reasons: &[Option<Reason>; 144],
+) -> Result<(), CheckFault>
+    requires rows { rows.now.job ≡ job.now }
+    requires sets { sets.old ≡ job.now }
+    requires actions { AreActionsOf job.now actions.old }
+    requires same { actions.old.mask ≡ head.now.key.mask }
+    requires head { IsRow job.now head.now }
+    requires number { number < 2 * bend_count job.now * stage_count job.now }
+    requires few { number < 144 }
+    ensures answer { NumberAnswer job.now rows.now.rows row head.now number
+        (noted_of reasons.now number) result }
+    ensures sets { sets.new ≡ sets.old }
+    ensures actions { AreActionsOf job.now actions.new }
+    ensures same { actions.new.mask ≡ head.now.key.mask }
+{
+    let noted = noted_at(reasons, number);
+    match actions.next(number) {
+        Some(next) => check_action(job, rows, sets, actions, row, head, number, &next, noted),
+        None => Ok(()),
+    }
+}
+
+/// What is noted of the action of a number.
+fn noted_at(reasons: &[Option<Reason>; 144], number: u8) -> Option<Reason>
+    requires { number < 144 }
+    ensures { result ≡ noted_of reasons.now number }
+{
+    reasons[usize::from(number)]
+}
+
 /// The number of the actions of all bends at all stages.
-fn action_count(job: &Job) -> u8
+pub(crate) fn action_count(job: &Job) -> u8
     ensures value { result ≡ 2 * bend_count job.now * stage_count job.now }
     ensures few { result ≤ 144 }
 {
@@ -74,7 +116,7 @@ fn action_count(job: &Job) -> u8
 }
 
 /// The action of a number.
-fn action_at(job: &Job, number: u8) -> Action
+pub(crate) fn action_at(job: &Job, number: u8) -> Action
     requires { number < 2 * bend_count job.now * stage_count job.now }
     ensures value { result ≡ action_at (stage_count job.now) number }
     ensures first { 1 ≤ result.bend }
@@ -89,23 +131,29 @@ fn check_action(
     job: &Job,
     rows: &RowTable,
     sets: &mut SetTable,
+    actions: &mut SetActions,
     row: u32,
     head: &RowHead,
     number: u8,
-    action: Action,
+    next: &NextKey,
     noted: Option<Reason>,
 ) -> Result<(), CheckFault>
     requires rows { rows.now.job ≡ job.now }
     requires sets { sets.old ≡ job.now }
+    requires actions { AreActionsOf job.now actions.old }
+    requires same { actions.old.mask ≡ head.now.key.mask }
     requires head { IsRow job.now head.now }
-    requires number { action ≡ action_at (stage_count job.now) number }
-    requires action { IsActionAt job.now head.now.key action }
+    requires number { number < 2 * bend_count job.now * stage_count job.now }
+    requires next { IsNext job.now head.now.key.mask (action_at (stage_count job.now) number)
+        next.now }
     ensures answer { ActionAnswer job.now rows.now.rows row head.now number noted result }
     ensures sets { sets.new ≡ sets.old }
+    ensures actions { AreActionsOf job.now actions.new }
+    ensures same { actions.new.mask ≡ head.now.key.mask }
 {
     match noted {
         Some(reason) => {
-            if sets.holds(job, head.key.mask, action, reason) {
+            if actions.holds(job, sets, head.key.mask, number, reason) {
                 Ok(())
             } else {
                 Err(CheckFault::BadReason {
@@ -115,7 +163,7 @@ fn check_action(
             }
         }
         None => {
-            if is_closed(job, rows, sets, head, action) {
+            if is_closed(job, rows, head, number, next) {
                 Ok(())
             } else {
                 Err(CheckFault::NotClosed {
@@ -127,37 +175,23 @@ fn check_action(
     }
 }
 
-/// Whether the step cost of an action and what is proved of its next key are at least the row's
-/// worth.
-fn is_closed(
-    job: &Job,
-    rows: &RowTable,
-    sets: &mut SetTable,
-    head: &RowHead,
-    action: Action,
-) -> bool
+/// Whether the step cost of the action of a number and what is proved of its next key are at least
+/// the row's worth. Of the action the next key tells all.
+fn is_closed(job: &Job, rows: &RowTable, head: &RowHead, number: u8, next: &NextKey) -> bool
     requires rows { rows.now.job ≡ job.now }
-    requires sets { sets.old ≡ job.now }
     requires head { IsRow job.now head.now }
-    requires action { IsActionAt job.now head.now.key action }
-    ensures closed { IsTrue result ↔ ClosesAt job.now rows.now.rows head.now action }
-    ensures sets { sets.new ≡ sets.old }
+    requires number { number < 2 * bend_count job.now * stage_count job.now }
+    requires next { IsNext job.now head.now.key.mask (action_at (stage_count job.now) number)
+        next.now }
+    ensures { IsTrue result
+        ↔ ClosesAt job.now rows.now.rows head.now (action_at (stage_count job.now) number) }
 {
     let _ = job.setup();
-    let mask = head.key.mask;
-    let facts = sets.facts(job, mask);
-    let attitude = facts.attitude(action.bend, action.back);
-    let cost = cost_to(job, &head.key, attitude, action.stage);
-    let next = Key {
-        mask: mask.union(group(job, mask, action.bend)),
-        attitude,
-        stage: action.stage,
-    };
-    is_proved(job, rows, sets, &next, cost, head.worth)
+    let cost = cost_to(job, &head.key, next.key.attitude, next.key.stage);
+    is_proved_with(rows, &next.key, next.bound, cost, head.worth)
 }
 
-/// Whether a cost and what is proved of a key are at least the worth: with its bound, or with the
-/// worth of its row.
+/// Whether a cost and what is proved of a key are at least the worth.
 pub(crate) fn is_proved(
     job: &Job,
     rows: &RowTable,
@@ -173,7 +207,19 @@ pub(crate) fn is_proved(
     ensures proved { IsTrue result ↔ ProvesAfter job.now rows.now.rows key.now cost worth }
     ensures sets { sets.new ≡ sets.old }
 {
-    if worth.is_at_most(Worth::Cost(cost + bound_at(job, sets, key))) {
+    let bound = bound_at(job, sets, key);
+    is_proved_with(rows, key, bound, cost, worth)
+}
+
+/// The same where the key's bound is known: with the bound, or with the worth of the key's row.
+fn is_proved_with(rows: &RowTable, key: &Key, bound: u64, cost: u64, worth: Worth) -> bool
+    requires key { IsKeyOf rows.now.job key.now }
+    requires bound { bound ≡ bound_of rows.now.job key.now }
+    requires small { bound ≤ 18000000 }
+    requires cost { cost ≤ 8000000 }
+    ensures { IsTrue result ↔ ProvesAfter rows.now.job rows.now.rows key.now cost worth }
+{
+    if worth.is_at_most(Worth::Cost(cost + bound)) {
         true
     } else {
         match rows.worth(key) {
@@ -184,7 +230,7 @@ pub(crate) fn is_proved(
 }
 
 /// The bound of a key.
-fn bound_at(job: &Job, sets: &mut SetTable, key: &Key) -> u64
+pub(crate) fn bound_at(job: &Job, sets: &mut SetTable, key: &Key) -> u64
     requires sets { sets.old ≡ job.now }
     requires key { IsKeyOf job.now key.now }
     ensures value { result ≡ bound_of job.now key.now }

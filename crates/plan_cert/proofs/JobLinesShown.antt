@@ -10,7 +10,6 @@ use Rattle.machine_file.specs.declared.machine.GaugeRule.{GaugeRule}
 use Rattle.machine_file.specs.declared.machine.Costs.{Costs}
 use Rattle.tool_library.specs.Tools.{PunchData, DieData}
 use Rattle.job_setup.specs.Setup.{StageData, SetupData}
-use Rattle.plan_cert.specs.declared.format.Format.{Format}
 use Rattle.plan_cert.specs.declared.format.Format.TheVariants.{Version2}
 use Rattle.plan_cert.specs.declared.job_reading.LineKind.{LineKind}
 use Rattle.plan_cert.specs.declared.job_reading.LineKind.TheVariants as kinds

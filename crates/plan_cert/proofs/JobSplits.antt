@@ -20,7 +20,7 @@ use Rattle.plan_cert.specs.JobText.{job_lines}
 use Rattle.plan_cert.specs.JobTest.{is_job}
 use Rattle.plan_cert.specs.JobReading.{format_of, has_loads, JobLinesData, take_line, no_lines, job_of, is_complete, keyword_in, behind_keyword}
 use Rattle.plan_cert.specs.PlanReading.{first_section, may_follow_job}
-use Rattle.plan_cert.specs.Items.{next_number, plan_items, judged_items, may_be_judged, items_behind, job_items, items_of_lines, items}
+use Rattle.plan_cert.specs.Items.{next_number, plan_items, judged_items, may_be_judged, items_behind, job_items, items_of_lines}
 use Rattle.plan_cert.proofs.JobDecided.{job_decided}
 use Rattle.plan_cert.proofs.PlanRanges.{Each}
 use Rattle.plan_cert.proofs.FormatKept.{SameFormat, TellsNone, TellsAsFormat, Keeps, keeps_line}

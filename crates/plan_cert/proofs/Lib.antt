@@ -15,6 +15,7 @@ pub mod Endings
 pub mod Collecting
 pub mod Beginnings
 pub mod PlanRanges
+pub mod KnownLines
 pub mod Follows
 pub mod WellRead
 pub mod ItemLists

@@ -1,5 +1,5 @@
 -- The lines of a text, cut off one by one.
-use Rattle.std.proofs.Common.{◌≡◌, ◌≢◌, ℕ, ◌+◌, ◌<◌, ◌==◌, Bool, false, List, [], ◌∷◌, length, take, drop, get_or, Option, Some, None, Err, All, refl, sym, ap, ◌∙◌, eqb-true, arith}
+use Rattle.std.proofs.Common.{◌≡◌, ◌≢◌, ℕ, ◌+◌, ◌<◌, ◌==◌, Bool, false, List, [], ◌∷◌, ◌++◌, length, take, drop, get_or, Option, Some, None, Err, All, refl, sym, ap, ◌∙◌, eqb-true, arith}
 use Rattle.std.specs.List.{position}
 use Rattle.std.proofs.lemmas.Bool.{false_from_ne_true, true≢false}
 use Rattle.std.proofs.lemmas.List.Splits.{slice_split_at, slice_split_none, length-slice_split}
@@ -16,6 +16,14 @@ pub cut : (text : List ℕ) (i : ℕ) → position is_line_feed text ≡ Some i 
 cut text i found =
     let line = first_line-ended text i found in
     ap (λ (t : List ℕ). lines_in t) line.0 ∙ slice_split_at is_line_feed (take i text) 10 (drop (i + 1) text) (plain (take i text) line.1) refl
+
+-- no line feed stands in it
+pub alone : (text : List ℕ) (i : ℕ) → position is_line_feed text ≡ Some i → All (λ byte. byte ≢ 10) (take i text)
+alone text i found = (first_line-ended text i found).1
+
+-- a line behind which its line feed stands
+pub cut_line : (line rest : List ℕ) → All (λ byte. byte ≢ 10) line → lines_in (line ++ 10 ∷ rest) ≡ line ∷ lines_in rest
+cut_line line rest none = slice_split_at is_line_feed line 10 rest (plain line none) refl
 
 -- the last one
 pub uncut : (text : List ℕ) → position is_line_feed text ≡ None → lines_in text ≡ text ∷ []

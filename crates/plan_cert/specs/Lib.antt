@@ -12,6 +12,7 @@ pub mod Facts
 pub mod Items
 pub mod PlanItem
 pub mod Reading
+pub mod KnownNotes
 pub mod CertReading
 pub mod CertItems
 pub mod ExactTexts

@@ -10,6 +10,7 @@ mod job_facts;
 mod job_line;
 mod job_lines;
 mod job_reading;
+mod known_notes;
 mod plan_reading;
 mod reader;
 mod rows;

@@ -126,7 +126,7 @@ fn take_row(facts: &JobFacts, section: &Section, text: &[u8]) -> Option<(PlanIte
 
 /// A note at a key, where its action's number is at least the least one.
 #[tactic(auto, unfolding(crate::specs::PlanReading::noted))]
-fn noted(
+pub(crate) fn noted(
     facts: &JobFacts,
     key: &Key,
     least: u8,
@@ -180,7 +180,7 @@ fn take_note(facts: &JobFacts, section: &Section, text: &[u8]) -> Option<(PlanIt
 }
 
 /// The kind of a line by its keyword.
-fn plan_line_of(keyword: &[u8]) -> Option<PlanLine>
+pub(crate) fn plan_line_of(keyword: &[u8]) -> Option<PlanLine>
     ensures { result ≡ plan_line_of keyword.now }
 {
     match keyword {

@@ -12,6 +12,7 @@ use crate::format::{Format, Kind, format_of};
 use crate::item::{CertFault, Item, PlanItem};
 use crate::job_facts::JobFacts;
 use crate::job_reading::{JobLines, may_be_judged};
+use crate::known_notes::{KnownNotes, known_line};
 use crate::plan_reading::{first_section, is_end_line, may_leave, take_plan_line};
 use crate::section::Section;
 use crate::stand::{Stand, next_number, whole_line};
@@ -26,6 +27,7 @@ pub struct CertReader<'a> {
     text: &'a [u8],
     answered: u64,
     stand: Stand<'a>,
+    known: KnownNotes<'a>,
 }
 
 impl<'a> Model for CertReader<'a> {
@@ -93,8 +95,33 @@ fn plan_item(
     }
 }
 
-/// The answer behind the job.
-fn answer_behind_job(stand: &mut Stand) -> Result<PlanItem, CertFault>
+/// The answer behind the job: that of a line that is known, or else of one that is read.
+fn answer_behind_job<'a>(
+    stand: &mut Stand<'a>,
+    known: &mut KnownNotes<'a>,
+) -> Result<PlanItem, CertFault>
+    requires begun { stand.old.is_begun ≡ true }
+    requires few { HasFew stand.old.facts }
+    ensures { (answers : List (Result Item CertFault))
+        → LeavesIn stand.old.section stand.old answers → 0 < length answers
+        → Gives answers (plan_answer result) stand.new }
+{
+    match known_line(known, &stand.facts, &stand.section, stand.rest) {
+        Some((item, section, rest)) => {
+            stand.rest = rest;
+            stand.number = next_number(stand.number);
+            stand.section = section;
+            Ok(item)
+        }
+        None => read_answer(stand, known),
+    }
+}
+
+/// The answer behind the job, of which the line is read.
+fn read_answer<'a>(
+    stand: &mut Stand<'a>,
+    known: &mut KnownNotes<'a>,
+) -> Result<PlanItem, CertFault>
     requires begun { stand.old.is_begun ≡ true }
     requires few { HasFew stand.old.facts }
     ensures { (answers : List (Result Item CertFault))
@@ -110,6 +137,7 @@ fn answer_behind_job(stand: &mut Stand) -> Result<PlanItem, CertFault>
                 line,
                 rest,
             );
+            known.keep_at(&stand.section, line, stand.facts.bends, stand.facts.stages);
             stand.rest = rest;
             stand.number = next_number(stand.number);
             stand.section = section;
@@ -277,6 +305,7 @@ impl<'a> CertReader<'a> {
                 section: Section::Over,
                 facts: JobFacts::none(),
             },
+            known: KnownNotes::none(),
         }
     }
 
@@ -315,6 +344,6 @@ impl<'a> CertReader<'a> {
         ensures after { self.new ≡ record self.old { answered = self.old.answered + 1 } }
     {
         self.answered += 1;
-        answer_behind_job(&mut self.stand)
+        answer_behind_job(&mut self.stand, &mut self.known)
     }
 }

@@ -1,5 +1,5 @@
 //! Where a reader stands in its text.
-ghost use Rattle.std.specs.Prelude.{◌≡◌, ◌+◌, ◌<◌, ℕ, [], ◌∷◌, length, position, Some, IsNone, IfSome};
+ghost use Rattle.std.specs.Prelude.{◌≡◌, ◌≢◌, ◌+◌, ◌<◌, ℕ, [], ◌∷◌, All, length, position, Some, IsNone, IfSome};
 ghost use Rattle.brake_text.specs.Lines.{is_line_feed};
 ghost use Rattle.plan_cert.specs.Items.{lines_in, next_number};
 
@@ -28,6 +28,7 @@ fn first_line_feed(text: &[u8]) -> Option<usize>
 /// text has no line feed.
 pub(crate) fn whole_line(text: &[u8]) -> Option<(&[u8], &[u8])>
     ensures some { IfSome result (λ x. lines_in text.now ≡ x.0.now ∷ lines_in x.1.now) }
+    ensures alone { IfSome result (λ x. All (λ byte. byte ≢ 10) x.0.now) }
     ensures shorter { IfSome result (λ x. length x.1.now < length text.now) }
     ensures none { IsNone result → lines_in text.now ≡ text.now ∷ [] }
 {

@@ -1,12 +1,15 @@
 use Rattle.std.proofs.Common.{Option, refl, sym, subst}
 use Rattle.brake_base.specs.declared.reason.Reason.{Reason}
-use Rattle.handling_cost.proofs.Actions.{lead_is}
 use Rattle.cert_check.specs.declared.fault.CheckFault.TheVariants.{NotClosed}
-use Rattle.cert_check.specs.Rows.{ClosesAt, IsUnmet}
+use Rattle.cert_check.specs.Rows.{IsUnmet}
+use Rattle.cert_check.proofs.RowLemmas.{row_key}
 use Rattle.cert_check.proofs.rows.check_action.Goals as goal
 
-pub holds-requires-clause-flat : goal.holds-requires-clause-flat
-holds-requires-clause-flat c = (lead_is c.args.job.now c.args.head.now.key.mask c.args.action.bend c.requires.action.lead).flat
+pub holds-requires-clause-mask : goal.holds-requires-clause-mask
+holds-requires-clause-mask c = (row_key c.args.job.now c.args.head.now c.requires.head).mask
+
+pub holds-requires-clause-lead : goal.holds-requires-clause-lead
+holds-requires-clause-lead c = c.requires.next.lead
 
 pub returns-else-is_closed-clause-answer : goal.returns-else-is_closed-clause-answer
 returns-else-is_closed-clause-answer c =
@@ -17,7 +20,7 @@ returns-else-is_closed-clause-answer c =
       refl,
       refl,
       λ closed.
-          let yes = c.is_closed.ensures.closed.1 (subst (ClosesAt job rows head) (sym c.requires.number) closed) in
+          let yes = c.is_closed.ensures.1 closed in
           let fails = c.if-is_closed.false in
           cc,
     )

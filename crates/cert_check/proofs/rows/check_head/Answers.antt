@@ -1,6 +1,14 @@
-use Rattle.std.proofs.Common.{arith}
-use Rattle.handling_cost.proofs.Actions.{few_bends}
+use Rattle.std.proofs.Common.{◌∙◌}
+use Rattle.cert_check.proofs.RowLemmas.{row_key, met_on}
 use Rattle.cert_check.proofs.rows.check_head.Goals as goal
 
-pub contains-requires-clause-last : goal.contains-requires-clause-last
-contains-requires-clause-last c = let few = few_bends c.args.job.now c.setup.ensures.valid in let last = c.action_at-action.ensures.last in omega (arith, few, last)
+pub turn_to-requires-clause-mask : goal.turn_to-requires-clause-mask
+turn_to-requires-clause-mask c = (row_key c.args.job.now c.args.head.now c.requires.head).mask
+
+pub loop-number-preserved : goal.loop-number-preserved
+loop-number-preserved c = record {
+  met = met_on c.args.job.now c.args.rows.now.rows c.args.head.now c.args.reasons.now c.loop-number.number c.loop-number.invariant.met c.in_default.ensures.answer;
+  sets = c.check_number.ensures.sets ∙ c.loop-number.invariant.sets;
+  actions = c.check_number.ensures.actions;
+  mask = c.check_number.ensures.same;
+}

@@ -1,40 +1,64 @@
-use Rattle.std.proofs.Common.{◌≡◌, ◌∙◌, ℕ, arith, sym, ap, subst}
+use Rattle.std.proofs.Common.{◌≡◌, ◌∙◌, ◌<◌, ℕ, arith, sym, ap, subst}
 use Rattle.brake_base.specs.declared.stroke.Key.{Key}
-use Rattle.brake_base.specs.Masks.{union}
-use Rattle.job_setup.specs.StrokeGroup.{group_of}
+use Rattle.job_setup.specs.Setup.{JobData, stage_count}
 use Rattle.handling_cost.specs.StepCost.{IsKeyOf, cost_of, cost_to, attitude_at}
-use Rattle.handling_cost.proofs.Actions.{few_bends}
+use Rattle.handling_cost.specs.Bound.{bound_of}
 use Rattle.handling_cost.proofs.Keys.{next_in_range}
+use Rattle.handling_cost.proofs.Small.{bound_small}
+use Rattle.plan_cert.specs.Lines.{action_at}
 use Rattle.cert_check.specs.Rows.{ProvesAfter}
-use Rattle.cert_check.proofs.RowLemmas.{next_is, row_key}
+use Rattle.cert_check.proofs.RowLemmas.{row_key}
+use Rattle.cert_check.proofs.ActionLemmas.{next_key_is, tried_at}
 use Rattle.cert_check.proofs.rows.is_closed.Goals as goal
 
-pub attitude-attitude-requires-clause-last : goal.attitude-attitude-requires-clause-last
-attitude-attitude-requires-clause-last c = let few = few_bends c.args.job.now c.setup.ensures.valid in let last = c.requires.action.last in omega (arith, few, last)
+pub cost_to-cost-requires-clause-to : goal.cost_to-cost-requires-clause-to
+cost_to-cost-requires-clause-to c =
+    let job = c.args.job.now in
+    let next = c.requires.next in
+    subst (λ (stage : ℕ). stage < stage_count job) (sym next.stage) (tried_at job c.args.head.now.key c.args.number c.requires.number next.lead).stage
 
-pub is_proved-requires-clause-key : goal.is_proved-requires-clause-key
-is_proved-requires-clause-key c =
+pub is_proved_with-requires-clause-key : goal.is_proved_with-requires-clause-key
+is_proved_with-requires-clause-key c =
     let job = c.args.job.now in
     let head = c.args.head.now in
-    let action = c.args.action in
-    let attitude : c.attitude-attitude.result ≡ attitude_at job head.key.mask action = c.attitude-attitude.ensures ∙ c.facts-facts.ensures.facts.held action 0 c.requires.action.first c.requires.action.last in
-    let mask : c.union.result ≡ union head.key.mask (group_of job head.key.mask action.bend) = c.union.ensures.value ∙ ap (union head.key.mask) c.group.ensures.value in
-    subst (IsKeyOf job) (sym (next_is job head.key action c.union.result c.attitude-attitude.result mask attitude))
-    (next_in_range job c.setup.ensures.valid head.key action (row_key job head c.requires.head) c.requires.action)
+    let next = c.requires.next in
+    let action = action_at (stage_count job) c.args.number in
+    let key = next_key_is job head.key action c.args.next.now next in
+    subst (λ (j : JobData). IsKeyOf j c.args.next.now.key) (sym c.requires.rows)
+    (subst (IsKeyOf job) (sym key) (next_in_range job c.setup.ensures.valid head.key action (row_key job head c.requires.head) (tried_at job head.key c.args.number c.requires.number next.lead)))
 
-pub returns-clause-closed : goal.returns-clause-closed
-returns-clause-closed c =
+pub is_proved_with-requires-clause-bound : goal.is_proved_with-requires-clause-bound
+is_proved_with-requires-clause-bound c = c.requires.next.bound ∙ ap (λ (j : JobData). bound_of j c.args.next.now.key) (sym c.requires.rows)
+
+pub is_proved_with-requires-clause-small : goal.is_proved_with-requires-clause-small
+is_proved_with-requires-clause-small c =
     let job = c.args.job.now in
     let head = c.args.head.now in
-    let action = c.args.action in
-    let attitude : c.attitude-attitude.result ≡ attitude_at job head.key.mask action = c.attitude-attitude.ensures ∙ c.facts-facts.ensures.facts.held action 0 c.requires.action.first c.requires.action.last in
-    let mask : c.union.result ≡ union head.key.mask (group_of job head.key.mask action.bend) = c.union.ensures.value ∙ ap (union head.key.mask) c.group.ensures.value in
-    let next = next_is job head.key action c.union.result c.attitude-attitude.result mask attitude in
-    let made : Key = record { mask = c.union.result; attitude = c.attitude-attitude.result; stage = action.stage } in
-    let cost : c.cost_to-cost.result ≡ cost_of job head.key action = c.cost_to-cost.ensures.value ∙ ap (λ (a : ℕ). cost_to job head.key a action.stage) attitude in (
-      (λ yes. subst (λ (k : Key). ProvesAfter job c.args.rows.now.rows k (cost_of job head.key action) head.worth) next
-          (subst (λ (n : ℕ). ProvesAfter job c.args.rows.now.rows made n head.worth) cost (c.is_proved.ensures.proved.0 yes))),
-      λ closed. c.is_proved.ensures.proved.1
-          (subst (λ (n : ℕ). ProvesAfter job c.args.rows.now.rows made n head.worth) (sym cost)
-          (subst (λ (k : Key). ProvesAfter job c.args.rows.now.rows k (cost_of job head.key action) head.worth) (sym next) closed)),
+    let next = c.requires.next in
+    let action = action_at (stage_count job) c.args.number in
+    let key = next_key_is job head.key action c.args.next.now next in
+    let ranged : IsKeyOf job c.args.next.now.key =
+    subst (IsKeyOf job) (sym key) (next_in_range job c.setup.ensures.valid head.key action (row_key job head c.requires.head) (tried_at job head.key c.args.number c.requires.number next.lead)) in
+    let small = bound_small job c.setup.ensures.valid c.args.next.now.key ranged in
+    let bound = next.bound in
+    omega (arith, small, bound)
+
+pub returns : goal.returns
+returns c =
+    let job = c.args.job.now in
+    let rows = c.args.rows.now.rows in
+    let head = c.args.head.now in
+    let next = c.requires.next in
+    let made = c.args.next.now.key in
+    let action = action_at (stage_count job) c.args.number in
+    let key = next_key_is job head.key action c.args.next.now next in
+    let cost : c.cost_to-cost.result ≡ cost_of job head.key action =
+    c.cost_to-cost.ensures.value ∙ (ap (λ (attitude : ℕ). cost_to job head.key attitude made.stage) next.attitude ∙ ap (λ (stage : ℕ). cost_to job head.key (attitude_at job head.key.mask action) stage) next.stage) in (
+      (λ yes. subst (λ (k : Key). ProvesAfter job rows k (cost_of job head.key action) head.worth) key
+          (subst (λ (n : ℕ). ProvesAfter job rows made n head.worth) cost
+          (subst (λ (j : JobData). ProvesAfter j rows made c.cost_to-cost.result head.worth) c.requires.rows (c.is_proved_with.ensures.0 yes)))),
+      λ closed. c.is_proved_with.ensures.1
+          (subst (λ (j : JobData). ProvesAfter j rows made c.cost_to-cost.result head.worth) (sym c.requires.rows)
+          (subst (λ (n : ℕ). ProvesAfter job rows made n head.worth) (sym cost)
+          (subst (λ (k : Key). ProvesAfter job rows k (cost_of job head.key action) head.worth) (sym key) closed))),
     )

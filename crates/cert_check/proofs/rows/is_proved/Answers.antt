@@ -1,36 +1,18 @@
-use Rattle.std.proofs.Common.{◌+◌, ℕ, refl, sym, subst}
-use Rattle.brake_base.specs.declared.stroke.Worth.TheVariants.{Cost}
+use Rattle.std.proofs.Common.{◌∙◌, sym, ap, subst}
+use Rattle.job_setup.specs.Setup.{JobData}
+use Rattle.handling_cost.specs.StepCost.{IsKeyOf}
 use Rattle.handling_cost.specs.Bound.{bound_of}
-use Rattle.brake_base.specs.Worths.{IsAtMost}
-use Rattle.cert_check.proofs.RowLemmas.{proved_by_bound, proved_by_row, not_proved_by_row, not_proved_by_none, true_unless}
+use Rattle.cert_check.specs.Rows.{ProvesAfter}
 use Rattle.cert_check.proofs.rows.is_proved.Goals as goal
 
-pub returns-then-is_at_most-clause-proved : goal.returns-then-is_at_most-clause-proved
-returns-then-is_at_most-clause-proved c = (
-  (λ yes. proved_by_bound c.args.job.now c.args.rows.now.rows c.args.key.now c.args.cost c.args.worth
-      (subst (λ (bound : ℕ). IsAtMost c.args.worth (Cost (c.args.cost + bound))) c.bound_at.ensures.value (c.is_at_most.ensures.0 c.if-is_at_most.true))),
-  λ proves. refl,
+pub is_proved_with-requires-clause-key : goal.is_proved_with-requires-clause-key
+is_proved_with-requires-clause-key c = subst (λ (job : JobData). IsKeyOf job c.args.key.now) (sym c.requires.rows) c.requires.key
+
+pub is_proved_with-requires-clause-bound : goal.is_proved_with-requires-clause-bound
+is_proved_with-requires-clause-bound c = c.bound_at-bound.ensures.value ∙ ap (λ (job : JobData). bound_of job c.args.key.now) (sym c.requires.rows)
+
+pub returns-clause-proved : goal.returns-clause-proved
+returns-clause-proved c = (
+  (λ yes. subst (λ (job : JobData). ProvesAfter job c.args.rows.now.rows c.args.key.now c.args.cost c.args.worth) c.requires.rows (c.is_proved_with.ensures.0 yes)),
+  λ proves. c.is_proved_with.ensures.1 (subst (λ (job : JobData). ProvesAfter job c.args.rows.now.rows c.args.key.now c.args.cost c.args.worth) (sym c.requires.rows) proves),
 )
-
-pub returns-in-Some-clause-proved : goal.returns-in-Some-clause-proved
-returns-in-Some-clause-proved c =
-    let low : IsAtMost c.args.worth (Cost (c.args.cost + bound_of c.args.job.now c.args.key.now)) → ⊥ = λ enough.
-    let yes = c.is_at_most.ensures.1 (subst (λ (bound : ℕ). IsAtMost c.args.worth (Cost (c.args.cost + bound))) (sym c.bound_at.ensures.value) enough) in
-    let fails = c.if-is_at_most.false in
-    cc in (
-      (λ yes. proved_by_row c.args.job.now c.args.rows.now.rows c.args.key.now c.args.cost c.args.worth c.in-Some.next c.in-Some.ensures
-          (subst (IsAtMost c.args.worth) c.after_cost.ensures (c.is_at_most-in-Some.ensures.0 yes))),
-      λ proves. true_unless c.is_at_most-in-Some.result (λ fails.
-          not_proved_by_row c.args.job.now c.args.rows.now.rows c.args.key.now c.args.cost c.args.worth c.in-Some.next low c.in-Some.ensures
-          (λ enough. let yes = c.is_at_most-in-Some.ensures.1 (subst (IsAtMost c.args.worth) (sym c.after_cost.ensures) enough) in cc) proves),
-    )
-
-pub returns-in-None-clause-proved : goal.returns-in-None-clause-proved
-returns-in-None-clause-proved c =
-    let low : IsAtMost c.args.worth (Cost (c.args.cost + bound_of c.args.job.now c.args.key.now)) → ⊥ = λ enough.
-    let yes = c.is_at_most.ensures.1 (subst (λ (bound : ℕ). IsAtMost c.args.worth (Cost (c.args.cost + bound))) (sym c.bound_at.ensures.value) enough) in
-    let fails = c.if-is_at_most.false in
-    cc in (
-      (λ yes. absurd cc),
-      λ proves. absurd (not_proved_by_none c.args.job.now c.args.rows.now.rows c.args.key.now c.args.cost c.args.worth low c.in-None.ensures proves),
-    )

@@ -1,15 +1,15 @@
-use Rattle.std.proofs.Common.{Err, refl}
-use Rattle.plan_cert.specs.PlanItem.{plan_answer}
-use Rattle.plan_cert.proofs.PlanItems.{line_given, line_unended}
+use Rattle.std.proofs.Common.{Ok, refl}
+use Rattle.plan_cert.specs.PlanItem.{placed}
+use Rattle.plan_cert.proofs.PlanItems.{line_given, item_taken}
 use Rattle.plan_cert.proofs.reader.answer_behind_job.Goals as goal
 
 pub returns-in-Some : goal.returns-in-Some
 returns-in-Some c = λ answers left some.
     let old = c.args.stand.now in
-    let given = c.plan_item-answer.result in
-    line_given old (record { is_begun = old.is_begun; rest = c.in-Some.rest; number = c.next_number-stand.result; section = given.1; facts = old.facts })
-    answers c.in-Some.line.now c.in-Some.rest.now (plan_answer given.0, given.1) left some c.in-Some.ensures.some c.plan_item-answer.ensures c.requires.few c.requires.begun refl c.next_number-stand.ensures refl refl
-
-pub returns-in-None : goal.returns-in-None
-returns-in-None c = λ answers left some.
-    line_unended c.args.stand.now c.refuse.new.stand answers (Err c.refuse.result) left some (c.in-None.ensures.none refl) c.refuse.ensures
+    let read = c.in-Some.ensures in
+    let rest = c.in-Some.rest in
+    let taken = placed (c.in-Some.item, c.in-Some.section) in
+    line_given old (record { is_begun = old.is_begun; rest = rest; number = c.next_number-stand.result; section = c.in-Some.section; facts = old.facts })
+    answers read.line rest.now (Ok taken.0, taken.1) left some read.cut
+    (λ job kept. item_taken old.facts.format job old.number old.section read.line rest.now taken (read.gives job kept))
+    c.requires.few c.requires.begun refl c.next_number-stand.ensures refl refl

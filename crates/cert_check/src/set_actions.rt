@@ -1,0 +1,202 @@
+//! What belongs to the actions where the bends of a set are folded: it is found once for all rows
+//! of the set, which follow one another.
+ghost use Rattle.std.specs.Prelude.{◌≡◌, ◌↔◌, ◌*◌, ◌^◌, ◌<◌, ◌≤◌, ℕ, IsTrue, None, Some, slice_index_or, slice_set};
+ghost use Rattle.job_setup.specs.Setup.{bend_count, stage_count};
+ghost use Rattle.job_setup.specs.StrokeGroup.{is_lead};
+ghost use Rattle.handling_cost.specs.Plan.{IsReasonFor};
+ghost use Rattle.plan_cert.specs.Lines.{action_at};
+ghost use Rattle.cert_check.specs.Sets.{IsFacts};
+ghost use Rattle.cert_check.specs.SetActions.{IsNext, IsNextOf, AreActionsOf};
+
+use crate::rows::{action_at, action_count, bound_at};
+use crate::set_table::{SetFacts, SetTable};
+use brake_base::{Action, Key, Mask, Reason};
+use job_setup::{Job, group};
+
+/// The key to which an action leads, and what every rest from there costs at least.
+#[derive(Clone, Copy, Debug)]
+pub(crate) struct NextKey {
+    pub key: Key,
+    pub bound: u64,
+}
+
+/// What belongs to the actions where the bends of the mask are folded, by their numbers.
+#[derive(Drop)]
+pub(crate) struct SetActions {
+    pub mask: Mask,
+    /// Where they lead. None where the bend of the number's action is no lead.
+    pub next: [Option<NextKey>; 144],
+    /// Reasons that were found to hold against them.
+    pub held: [Option<Reason>; 144],
+}
+
+/// Where an action leads whose bend is a lead.
+fn next_after(
+    job: &Job,
+    sets: &mut SetTable,
+    facts: &SetFacts,
+    mask: Mask,
+    action: Action,
+) -> NextKey
+    requires sets { sets.old ≡ job.now }
+    requires facts { IsFacts job.now mask facts.now }
+    requires mask { mask.0 < 2 ^ bend_count job.now }
+    requires first { 1 ≤ action.bend }
+    requires last { action.bend ≤ bend_count job.now }
+    requires stage { action.stage < stage_count job.now }
+    requires lead { IsTrue (is_lead job.now mask action.bend) }
+    ensures next { IsNext job.now mask action result }
+    ensures sets { sets.new ≡ sets.old }
+{
+    let _ = job.setup();
+    let attitude = facts.attitude(action.bend, action.back);
+    let key = Key {
+        mask: mask.union(group(job, mask, action.bend)),
+        attitude,
+        stage: action.stage,
+    };
+    let bound = bound_at(job, sets, &key);
+    NextKey { key, bound }
+}
+
+/// Where the action of a number leads.
+fn next_of(
+    job: &Job,
+    sets: &mut SetTable,
+    facts: &SetFacts,
+    mask: Mask,
+    number: u8,
+) -> Option<NextKey>
+    requires sets { sets.old ≡ job.now }
+    requires facts { IsFacts job.now mask facts.now }
+    requires mask { mask.0 < 2 ^ bend_count job.now }
+    requires number { number < 2 * bend_count job.now * stage_count job.now }
+    ensures next { IsNextOf job.now mask (action_at (stage_count job.now) number) result }
+    ensures sets { sets.new ≡ sets.old }
+{
+    let _ = job.setup();
+    let action = action_at(job, number);
+    if facts.leads.contains(action.bend) {
+        Some(next_after(job, sets, facts, mask, action))
+    } else {
+        None
+    }
+}
+
+/// Where the actions lead.
+fn all_next(job: &Job, sets: &mut SetTable, mask: Mask) -> [Option<NextKey>; 144]
+    requires sets { sets.old ≡ job.now }
+    requires mask { mask.0 < 2 ^ bend_count job.now }
+    ensures next { (number : ℕ) → number < 2 * bend_count job.now * stage_count job.now
+        → IsNextOf job.now mask (action_at (stage_count job.now) number)
+        (slice_index_or result number None) }
+    ensures sets { sets.new ≡ sets.old }
+{
+    let facts = sets.facts(job, mask);
+    let mut next = [None; 144];
+    for number in 0..action_count(job) {
+        next[usize::from(number)] = next_of(job, sets, &facts, mask, number);
+    }
+    next
+}
+
+impl SetActions {
+    /// What belongs to the actions of a set, against which no reason is known to hold.
+    pub fn of(job: &Job, sets: &mut SetTable, mask: Mask) -> SetActions
+        requires sets { sets.old ≡ job.now }
+        requires mask { mask.0 < 2 ^ bend_count job.now }
+        ensures actions { AreActionsOf job.now result }
+        ensures mask { result.mask ≡ mask }
+        ensures sets { sets.new ≡ sets.old }
+    {
+        let next = all_next(job, sets, mask);
+        SetActions {
+            mask,
+            next,
+            held: [None; 144],
+        }
+    }
+
+    /// Makes them those of a set.
+    pub fn turn_to(&mut self, job: &Job, sets: &mut SetTable, mask: Mask)
+        requires actions { AreActionsOf job.now self.old }
+        requires sets { sets.old ≡ job.now }
+        requires mask { mask.0 < 2 ^ bend_count job.now }
+        ensures actions { AreActionsOf job.now self.new }
+        ensures mask { self.new.mask ≡ mask }
+        ensures sets { sets.new ≡ sets.old }
+    {
+        if self.mask != mask {
+            *self = SetActions::of(job, sets, mask);
+        }
+    }
+
+    /// Where the action of a number leads.
+    pub fn next(&self, number: u8) -> Option<NextKey>
+        requires { number < 144 }
+        ensures { result ≡ slice_index_or self.now.next number None }
+    {
+        self.next[usize::from(number)]
+    }
+
+    /// Whether the reason holds against the action of a number.
+    pub fn holds(
+        &mut self,
+        job: &Job,
+        sets: &mut SetTable,
+        mask: Mask,
+        number: u8,
+        reason: Reason,
+    ) -> bool
+        requires actions { AreActionsOf job.now self.old }
+        requires same { self.old.mask ≡ mask }
+        requires sets { sets.old ≡ job.now }
+        requires mask { mask.0 < 2 ^ bend_count job.now }
+        requires number { number < 2 * bend_count job.now * stage_count job.now }
+        requires lead { IsTrue (is_lead job.now mask (action_at (stage_count job.now) number).bend) }
+        ensures holds { IsTrue result
+            ↔ IsReasonFor job.now mask (action_at (stage_count job.now) number) reason }
+        ensures actions { AreActionsOf job.now self.new }
+        ensures same { self.new.mask ≡ mask }
+        ensures sets { sets.new ≡ sets.old }
+    {
+        let _ = job.setup();
+        let action = action_at(job, number);
+        if self.is_held(number, reason) {
+            true
+        } else if sets.holds(job, mask, action, reason) {
+            self.keep(number, reason);
+            true
+        } else {
+            false
+        }
+    }
+
+    /// Whether the reason was found to hold against the action of a number.
+    fn is_held(&self, number: u8, reason: Reason) -> bool
+        requires { number < 144 }
+        ensures { IsTrue result → slice_index_or self.now.held number None ≡ Some reason }
+    {
+        match self.held[usize::from(number)] {
+            Some(held) => is_same(held, reason),
+            None => false,
+        }
+    }
+
+    /// Keeps a reason that holds against the action of a number.
+    fn keep(&mut self, number: u8, reason: Reason)
+        requires { number < 144 }
+        ensures mask { self.new.mask ≡ self.old.mask }
+        ensures next { self.new.next ≡ self.old.next }
+        ensures held { self.new.held ≡ slice_set self.old.held number (Some reason) }
+    {
+        self.held[usize::from(number)] = Some(reason);
+    }
+}
+
+/// Whether both reasons are one.
+fn is_same(first: Reason, second: Reason) -> bool
+    ensures { IsTrue result ↔ (first ≡ second) }
+{
+    first == second
+}
