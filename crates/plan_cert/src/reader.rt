@@ -118,10 +118,7 @@ fn answer_behind_job<'a>(
 }
 
 /// The answer behind the job, of which the line is read.
-fn read_answer<'a>(
-    stand: &mut Stand<'a>,
-    known: &mut KnownNotes<'a>,
-) -> Result<PlanItem, CertFault>
+fn read_answer<'a>(stand: &mut Stand<'a>, known: &mut KnownNotes<'a>) -> Result<PlanItem, CertFault>
     requires begun { stand.old.is_begun ≡ true }
     requires few { HasFew stand.old.facts }
     ensures { (answers : List (Result Item CertFault))
