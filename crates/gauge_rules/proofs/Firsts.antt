@@ -7,7 +7,7 @@ use Rattle.fold_boxes.specs.declared.posed_part.PoseBox.{PoseBox}
 use Rattle.fold_boxes.specs.Pose.{PoseData}
 use Rattle.job_setup.specs.Setup.{JobData}
 use Rattle.job_setup.specs.LegalGauge.{IsFlatFace, IsPair, IsLegalPair}
-use Rattle.gauge_rules.specs.Pairs.{IsFirstLegal, IsFirstWith}
+use Rattle.gauge_rules.specs.Pairs.{HasFlatFace, IsFirstLegal, IsFirstWith}
 
 from_some : (A B : PoseBox → Type 0) (xs : List PoseBox) (R : Type 0) → ((x : PoseBox) → A x → B x → R) → Any (λ x. A x × B x) xs → R
 from_some A B xs R f h = f h.1 h.4.0 h.4.1
@@ -20,6 +20,10 @@ legal_within job pose gauge legal =
     let P = IsPair job.setup.gauge job.part.thickness pose in
     let R = (gauge.left_face < length pose.places) × (gauge.right_face < length pose.places) in
     from_some A (λ left. Any (λ right. B right × P left right) pose.boxes) pose.boxes R (λ left flat rest. from_some B (P left) pose.boxes R (λ right flat_right pair. (flat.within, flat_right.within)) rest) legal
+
+-- the left face of a legal pair lies in the sheet's plane
+pub legal_flat : (job : JobData) (pose : PoseData) (gauge : Gauge) → IsLegalPair job pose gauge → HasFlatFace job pose gauge.left_face
+legal_flat job pose gauge legal = (legal.0, legal.1, legal.2, legal.3, legal.4.0)
 
 pub more_right : (job : JobData) (pose : PoseData) (left k : ℕ) → ((other : Gauge) → other.left_face ≡ left → other.right_face < k → IsLegalPair job pose other → ⊥)
     → (IsLegalPair job pose (record { left_face = left; right_face = k }) → ⊥) → (other : Gauge) → other.left_face ≡ left → other.right_face < k + 1 → IsLegalPair job pose other → ⊥

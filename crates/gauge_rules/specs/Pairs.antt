@@ -19,6 +19,10 @@ pub record FillsTheSheet (thickness : ℤ) (box : PoseBox) : Type 0 where
   pub low : box.body.lo.z ≡ neg_ℤ thickness
   pub high : box.body.hi.z ≡ pos 0
 
+-- some box of the part is that of the face, in the back half, and lies in the sheet's plane
+abbrev pub HasFlatFace : JobData → PoseData → ℕ → Type 0
+HasFlatFace job pose face = Any (λ box. IsFlatFace job.part.thickness pose face box) pose.boxes
+
 -- the box is the left one of a legal pair
 abbrev pub IsLeft : JobData → PoseData → Gauge → PoseBox → Type 0
 IsLeft job pose gauge left =

@@ -3,7 +3,7 @@ ghost use Rattle.std.specs.Prelude.{◌≡◌, ◌↔◌, IsTrue, All, length};
 ghost use Rattle.fold_boxes.specs.Pose.{pose_data};
 ghost use Rattle.fold_boxes.specs.Posing.{IsNearPoseBox};
 ghost use Rattle.job_setup.specs.LegalGauge.{IsLegalPair};
-ghost use Rattle.gauge_rules.specs.Pairs.{IsLeft, IsFirstLegal, IsFirstWith};
+ghost use Rattle.gauge_rules.specs.Pairs.{HasFlatFace, IsLeft, IsFirstLegal, IsFirstWith};
 
 use crate::fingers::is_pair;
 use crate::flat_faces::is_flat_face;
@@ -54,6 +54,9 @@ fn first_with(job: &Job, pose: &Pose, left_face: u8) -> Option<Gauge>
     requires near { All IsNearPoseBox pose.now.boxes.items }
     ensures { IsFirstWith job.now (pose_data pose.now) left_face result }
 {
+    if !is_some_flat_face(job, pose, left_face) {
+        return None;
+    }
     for right_face in 0..face_count(pose) {
         let gauge = Gauge {
             left_face,
@@ -64,6 +67,15 @@ fn first_with(job: &Job, pose: &Pose, left_face: u8) -> Option<Gauge>
         }
     }
     None
+}
+
+/// Whether the face lies in the sheet's plane in the back half.
+fn is_some_flat_face(job: &Job, pose: &Pose, face: u8) -> bool
+    ensures { IsTrue result ↔ HasFlatFace job.now (pose_data pose.now) face }
+{
+    pose.boxes
+        .iter()
+        .any(|part_box| is_flat_face(job, pose, face, part_box))
 }
 
 /// The number of the part's faces.

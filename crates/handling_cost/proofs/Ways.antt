@@ -32,6 +32,10 @@ is_picked p a (suc n) s first last passes = elim (eqb_tells s a) [
 pub nearest_at_most : (p : ℕ → Bool) (n from s : ℕ) → s < n → p s ≡ true → nearest from (filter p (range_with_len 0 n)) ≤ distance from s
 nearest_at_most p n from s within passes = at_most_one from s (filter p (range_with_len 0 n)) (is_picked p 0 n s (omega arith) (omega arith) passes)
 
+-- a stage that passes is the nearest to itself
+pub nearest_itself : (p : ℕ → Bool) (n s : ℕ) → s < n → p s ≡ true → nearest s (filter p (range_with_len 0 n)) ≡ 0
+nearest_itself p n s within passes = let most = nearest_at_most p n s s within passes in omega (arith, most)
+
 -- the way over another stage is no shorter
 pub nearest_through : (from to : ℕ) (stages : List ℕ) → nearest from stages ≤ distance from to + nearest to stages
 nearest_through from to [] = omega arith

@@ -98,8 +98,12 @@ fn greater(first: u8, second: u8) -> u8
 fn nearest(job: &Job, mask: Mask, bend: u8, from: u8) -> u8
     requires some { 0 < bend }
     requires bend { bend < length job.now.part.faces }
+    requires from { from < length job.now.setup.stages }
     ensures { result ≡ nearest from (meeting_stages job.now mask bend) }
 {
+    if meets_at(job, mask, bend, from) {
+        return 0;
+    }
     let mut nearest = None;
     for stage in 0..job.stages() {
         if meets_at(job, mask, bend, stage) {

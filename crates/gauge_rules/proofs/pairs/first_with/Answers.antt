@@ -3,7 +3,7 @@ use Rattle.std.proofs.lemmas.List.{length-map}
 use Rattle.brake_base.specs.Turns.{map_of}
 use Rattle.fold_boxes.specs.Pose.{pose_data}
 use Rattle.gauge_rules.proofs.Small.{clash}
-use Rattle.gauge_rules.proofs.Firsts.{legal_within, more_right}
+use Rattle.gauge_rules.proofs.Firsts.{legal_flat, legal_within, more_right}
 use Rattle.gauge_rules.proofs.pairs.first_with.Goals as goal
 
 pub loop-right_face-preserved : goal.loop-right_face-preserved
@@ -14,3 +14,6 @@ returns c = λ other same legal.
     let faces = c.args.pose.now.places.items in
     let within = (legal_within c.args.job.now (pose_data c.args.pose.now) other legal).1 in
     c.loop-right_face.invariant other same (omega (arith, within, c.face_count-right_face-end.ensures, length-map faces map_of)) legal
+
+pub returns-then-is_some_flat_face : goal.returns-then-is_some_flat_face
+returns-then-is_some_flat_face c = λ other same legal. clash c.is_some_flat_face.result c.if-is_some_flat_face.true _

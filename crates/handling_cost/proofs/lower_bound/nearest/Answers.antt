@@ -8,6 +8,7 @@ use Rattle.job_setup.specs.Reasons.{meets}
 use Rattle.job_setup.specs.Setup.{stage_count}
 use Rattle.handling_cost.specs.Bound.{nearest}
 use Rattle.handling_cost.specs.Nearest.{lesser}
+use Rattle.handling_cost.proofs.Ways.{nearest_itself}
 use Rattle.handling_cost.proofs.LeadTests.{nearest_next, nearest_skip, nearest_or_none}
 use Rattle.handling_cost.proofs.lower_bound.nearest.Goals.{then-meets_at, else-meets_at}
 use Rattle.handling_cost.proofs.lower_bound.nearest.Goals as goal
@@ -31,3 +32,8 @@ returns c =
     let all : c.loop-stage.stage ≡ stage_count c.args.job.now = omega (arith, c.loop-stage-test.false, c.loop-stage.auto.stage-end, c.stages-stage-end.ensures.value) in
     c.unwrap_or.ensures ∙ ap (λ (o : Option ℕ). unwrap_or o 0) c.loop-stage.invariant
     ∙ nearest_or_none from (filter meets_here (range_with_len 0 c.loop-stage.stage)) ∙ ap (λ (n : ℕ). nearest from (filter meets_here (range_with_len 0 n))) all
+
+pub returns-then-meets_at : goal.returns-then-meets_at
+returns-then-meets_at c =
+    let meets_here : ℕ → Bool = λ stage. meets c.args.job.now (in_group c.args.job.now (has c.args.mask) c.args.bend) (stage_of c.args.job.now stage) in
+    sym (nearest_itself meets_here (stage_count c.args.job.now) c.args.from c.requires.from (sym c.meets_at-if.ensures ∙ c.if-meets_at.true))
