@@ -102,8 +102,18 @@ fn nearest(job: &Job, mask: Mask, bend: u8, from: u8) -> u8
     ensures { result ≡ nearest from (meeting_stages job.now mask bend) }
 {
     if meets_at(job, mask, bend, from) {
-        return 0;
+        0
+    } else {
+        nearest_among(job, mask, bend, from)
     }
+}
+
+/// The same, for which every stage is looked at.
+fn nearest_among(job: &Job, mask: Mask, bend: u8, from: u8) -> u8
+    requires some { 0 < bend }
+    requires bend { bend < length job.now.part.faces }
+    ensures { result ≡ nearest from (meeting_stages job.now mask bend) }
+{
     let mut nearest = None;
     for stage in 0..job.stages() {
         if meets_at(job, mask, bend, stage) {

@@ -1,12 +1,15 @@
 //! The reasons that a pool's rows have for their actions.
 ghost use Rattle.std.specs.Int.{bit_at};
-ghost use Rattle.std.specs.Prelude.{◌≡◌, ◌<◌, ◌+◌, ◌/◌, ◌==◌, ◌⊎◌, ℕ, false, Some, IsTrue, IfOk, IfSome, IfNone, slice_index_or, vec_len, vec_capacity};
+ghost use Rattle.std.specs.Prelude.{◌≡◌, ◌<◌, ◌≤◌, ◌+◌, ◌/◌, ◌==◌, ◌⊎◌, ℕ, false, Some, IsTrue, IfOk, IfSome, IfNone, slice_index_or, vec_len, vec_capacity};
 ghost use Rattle.row_pool.specs.Notes.{noted_at};
 ghost use Rattle.row_pool.specs.Kept.{is_marked, notes_data, no_notes, reason_in, IsHeld, StandsAfter};
 
 use crate::note::Note;
 use brake_base::Reason;
 use std::alloc::{AllocError, Global};
+
+/// How many marks stand in a number.
+const MARKS: usize = 16;
 
 /// Reasons, each at a place of its own that shares a common place with others. The first reason that
 /// came for a common place is kept there, and the places that have the same are marked: so where
@@ -93,8 +96,8 @@ fn noted_in(notes: &[Note], place: usize) -> Option<Reason>
 fn is_marked(marks: &[u16], place: usize) -> bool
     ensures { result ≡ is_marked marks.now place }
 {
-    match marks.get(place / 16) {
-        Some(bits) => has_bit(*bits, place % 16),
+    match marks.get(place / MARKS) {
+        Some(bits) => has_bit(*bits, place % MARKS),
         None => false,
     }
 }
@@ -130,8 +133,34 @@ fn set_mark(marks: &mut Vec<u16>, place: usize, mark: bool)
         ⊎ (vec_len marks.new ≡ place / 16 + 1) }
     ensures same_memory { vec_capacity marks.new ≡ vec_capacity marks.old }
 {
-    fill(marks, place / 16, 0);
-    marks[place / 16] = with_bit(marks[place / 16], place % 16, mark);
+    fill(marks, place / MARKS, 0);
+    marks[place / MARKS] = with_bit(marks[place / MARKS], place % MARKS, mark);
+}
+
+/// How many bits from this one on aren't set, up to the first that is or to the last.
+fn unset_from(bits: u16, place: usize) -> usize
+    requires { place < 16 }
+    ensures few { place + result ≤ 16 }
+    ensures unset { (k : ℕ) → k < result → bit_at bits (place + k) ≡ 0 }
+{
+    let rest = bits >> place;
+    if rest == 0 {
+        MARKS - place
+    } else {
+        rest.trailing_zeros() as usize
+    }
+}
+
+/// How many places from this one on aren't marked, as far as its number tells.
+#[tactic(auto, unfolding(crate::specs::Kept::is_marked))]
+fn unmarked_from(marks: &[u16], place: usize) -> usize
+    ensures few { result ≤ 16 }
+    ensures unmarked { (k : ℕ) → k < result → is_marked marks.now (place + k) ≡ false }
+{
+    match marks.get(place / MARKS) {
+        Some(bits) => unset_from(*bits, place % MARKS),
+        None => MARKS,
+    }
 }
 
 impl Notes {
@@ -142,7 +171,7 @@ impl Notes {
         ensures common { IfOk result (λ notes. vec_capacity notes.common ≡ common) }
         ensures own { IfOk result (λ notes. vec_capacity notes.own ≡ places) }
     {
-        let marks = Vec::with_capacity(alloc, places / 16)?;
+        let marks = Vec::with_capacity(alloc, places / MARKS)?;
         let common = Vec::with_capacity(alloc, common)?;
         let own = Vec::with_capacity(alloc, places)?;
         Ok(Notes { marks, common, own })
@@ -181,6 +210,19 @@ impl Notes {
             noted_in(&self.common, common)
         } else {
             noted_in(&self.own, place)
+        }
+    }
+
+    /// How many places from this one on are known to have no reason, at most sixteen.
+    pub fn blank_from(&self, place: usize) -> usize
+        ensures few { result ≤ 16 }
+        ensures blank { (common k : ℕ) → k < result
+            → reason_in (notes_data self.now) common (place + k) ≡ None }
+    {
+        if place < self.own.len() {
+            0
+        } else {
+            unmarked_from(&self.marks, place)
         }
     }
 }

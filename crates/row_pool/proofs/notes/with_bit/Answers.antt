@@ -1,4 +1,4 @@
-use Rattle.std.proofs.Common.{◌≡◌, ℕ, ◌==◌, sym, ◌∙◌, ap}
+use Rattle.std.proofs.Common.{ℕ, ◌==◌, sym, ◌∙◌, ap}
 use Rattle.std.specs.Int.{w16}
 use Rattle.std.proofs.lemmas.Nat.Bits.{bit_at_set_same, bit_at_set_other, bit_at_clear_same, bit_at_clear_other}
 use Rattle.row_pool.proofs.notes.with_bit.Goals as goal
