@@ -46,17 +46,18 @@ module _ (pool : Pool) (orders : List ℕ) where
     ascending = are.ascending;
   }
 
+  -- from one action of a row to a later one, where it has no reason in between
+  pub notes_up_to : (place from action : ℕ) (notes : List Note) → from ≤ action → action ≤ 256 → ((number : ℕ) → from ≤ number → number < action → reason_in pool orders place number ≡ None) →
+      AreNotes pool orders (note_order place from) notes → AreNotes pool orders (note_order place action) notes
+  notes_up_to place from action notes later few none = notes_skip (note_order place from) (note_order place action) notes (omega (arith, later))
+      (λ other number low late early.
+      let here : place ≡ other = omega (arith, low, late, early, few) in
+      subst (λ (n : ℕ). reason_in pool orders n number ≡ None) here (none number (omega (arith, here, late)) (omega (arith, here, early))))
+
   module _ (place action : ℕ) (few : action < 256) (notes : List Note) (are : AreNotes pool orders (note_order place action) notes) where
     -- between an action and the next there is no other
     here_alone : (other number : ℕ) → number < 256 → note_order place action ≤ note_order other number → note_order other number < note_order place (action + 1) → (place ≡ other) × (action ≡ number)
     here_alone other number low late early = (omega (arith, low, late, early, few), omega (arith, low, late, early, few))
-
-    -- the action has no reason
-    pub notes_none : reason_in pool orders place action ≡ None → AreNotes pool orders (note_order place (action + 1)) notes
-    notes_none none = notes_skip (note_order place action) (note_order place (action + 1)) notes (omega arith)
-        (λ other number low late early. let here = here_alone other number low late early in
-        subst (λ (n : ℕ). reason_in pool orders n number ≡ None) here.0 (subst (λ (n : ℕ). reason_in pool orders place n ≡ None) here.1 none))
-        are
 
     -- the action has a reason, which is noted
     pub notes_more : (reason : Reason) → reason_in pool orders place action ≡ Some reason →

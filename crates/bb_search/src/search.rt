@@ -193,7 +193,7 @@ impl Search {
     {
         let orders = sorted_rows(alloc, &self.pool)?;
         let rows = row_heads(alloc, &self.pool, &orders)?;
-        let notes = notes_of(alloc, &self.pool, 24 * job.stages(), &orders)?;
+        let notes = notes_of(alloc, &self.pool, &orders)?;
         Ok(Cert {
             claim: claim_of(self.outcome),
             steps: copy_of(&self.steps),
