@@ -2,6 +2,8 @@
 #![tactic(auto)]
 
 mod blank;
+#[cfg(test)]
+mod blank_tests;
 mod brake;
 mod check;
 #[cfg(test)]
@@ -14,8 +16,6 @@ mod plan_tests;
 mod refusal;
 #[cfg(test)]
 mod test_runs;
-#[cfg(test)]
-mod tests;
 mod trial;
 mod usage;
 mod words;

@@ -1,11 +1,11 @@
 //! The runs of `plan` that the documentation names, over files in memory, and runs in which the
 //! shelf or the sink fails.
 
-use crate::test_runs::{joined, run};
-use brake_io::{MemShelf, MemSink};
+use crate::test_runs::{certificate, run, shelf_with};
+use brake_io::MemSink;
+use certificate_texts::VERSION_2_JOB;
 use command_runner::Status;
-use common_files::{L_SECTION, MACHINE, STAGE, TOOLS, U_CHANNEL};
-use std::alloc::{AllocError, Global};
+use common_files::{L_SECTION, STAGE, U_CHANNEL};
 use std::test::Fail;
 
 /// What `plan` puts for the U channel.
@@ -23,39 +23,6 @@ order 2
 step 1 bend 2 south back parent stage 0 turn none gauge 84243 fingers 1 205000 1 285000 cost 100
 step 2 bend 1 north back child stage 0 turn none gauge 28081 fingers 1 205000 1 285000 cost 100
 total 200
-";
-
-/// What it stores.
-pub const U_CERT: &str = "brake-cert 2
-part S235 2000 2000 1919
-face web 100000 60000
-face north 0 N 0 100000 30000 up
-face south 0 S 0 100000 30000 up
-bed 0 3000000
-upper 0 3000000 -60000 60000 0 300000
-lower 0 3000000 -30000 30000 -300000 0
-uncovered 5000
-gauge 5000 600000 5000 10000 10000 20000 10000 10000
-cost 100 20 30 60 80 40
-gang 0
-force 0
-stage 200000 300000
-punch P100 100000 6000
-box -6000 6000 6000 100000
-die D16 60000 16000 11000
-box -20000 -8000 -60000 0
-box -8000 8000 -60000 -8000
-box 8000 20000 -60000 0
-pieces 100000
-load 0 0
-claim 200
-step 2 P 0 1 1
-step 1 C 0 1 1
-row 0 0 0 200
-row 1 0 0 130
-x 2 P 0 8
-row 2 0 0 100
-end
 ";
 
 /// What `plan` puts for the L section.
@@ -91,16 +58,6 @@ stage 0 P100 D16 200000 260000
 pieces 60000
 no plan
 ";
-
-/// A shelf with this part's file, a tools file and a machine file with this stage.
-fn shelf_with(alloc: Global, part: &str, stage: &str) -> Result<MemShelf, AllocError> {
-    let machine = joined(alloc, MACHINE, stage)?;
-    let mut shelf = MemShelf::new(alloc);
-    shelf.add("part", part.as_bytes())?;
-    shelf.add("tools", TOOLS.as_bytes())?;
-    shelf.add("machine", machine.as_slice())?;
-    Ok(shelf)
-}
 
 /// The words of `plan`.
 const WORDS: &[&str] = &["plan", "part", "tools", "machine", "cert"];
@@ -143,6 +100,7 @@ fn plans(rt: HostRuntime) -> Result<(), Fail> {
 #[test]
 fn each_call_failing_in_turn(rt: HostRuntime) -> Result<(), Fail> {
     let alloc = rt.alloc();
+    let cert = certificate(alloc, &VERSION_2_JOB)?;
     for (call, put, taken, status, written) in [
         (1, 0, 0, Status::Fault, 0),
         (2, 0, 0, Status::Fault, 0),
@@ -166,7 +124,7 @@ fn each_call_failing_in_turn(rt: HostRuntime) -> Result<(), Fail> {
         let stored = if put == 0 {
             None
         } else {
-            Some(U_CERT.as_bytes())
+            Some(cert.as_bytes())
         };
         assert_eq!(rt; shelf.bytes_of("cert"), stored);
     }

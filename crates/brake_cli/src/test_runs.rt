@@ -1,15 +1,26 @@
-//! What the tests of all commands share: texts put together, and runs over files in memory.
+//! What the tests of all commands share: files in memory, texts put together, and runs.
 
 use crate::brake::brake;
 use brake_io::{MemShelf, MemSink};
+use certificate_texts::{ROWS, STEPS};
 use command_runner::Status;
+use common_files::{MACHINE, TOOLS};
 use std::alloc::{AllocError, Global};
 
-/// A text and another one behind it.
-pub fn joined(alloc: Global, text: &str, more: &str) -> Result<Vec<u8>, AllocError> {
-    let mut bytes = Vec::from_slice(alloc, text.as_bytes())?;
-    bytes.extend_from_slice(more.as_bytes())?;
-    Ok(bytes)
+/// A shelf with this part's file, a tools file and a machine file with this stage.
+pub fn shelf_with(alloc: Global, part: &str, stage: &str) -> Result<MemShelf, AllocError> {
+    let machine = format!(in alloc; "{MACHINE}{stage}")?;
+    let mut shelf = MemShelf::new(alloc);
+    shelf.add("part", part.as_bytes())?;
+    shelf.add("tools", TOOLS.as_bytes())?;
+    shelf.add("machine", machine.as_bytes())?;
+    Ok(shelf)
+}
+
+/// The U channel's certificate whose job lines have these pieces.
+pub fn certificate(alloc: Global, job: &[&str]) -> Result<String, AllocError> {
+    let job = job.concat(alloc)?;
+    format!(in alloc; "{job}{STEPS}{ROWS}")
 }
 
 /// Runs the command of these words.

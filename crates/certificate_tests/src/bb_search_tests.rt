@@ -1,16 +1,15 @@
 //! The worked parts, searched with ample and with little budget.
 
-ghost use Rattle.std.specs.Prelude.{◌<◌};
-
-use crate::jobs::job_of;
+use crate::first_stage::{key, step};
 use bb_search::{Outcome, Search, nodes};
-use brake_base::{Action, Back, Gauge, Key, Mask, Quarter, Reason, Step, Turn, Worth};
-use common_files::{L_SECTION, MACHINE, STAGE, U_CHANNEL};
+use brake_base::{Back, Quarter, Reason, Worth};
+use common_files::{L_SECTION, MACHINE, STAGE, TOOLS, U_CHANNEL};
 use job_setup::Job;
 use part_gen::made_job;
 use plan_cert::{Cert, Note, RowHead};
 use std::alloc::{AllocError, Global};
 use std::test::Fail;
+use test_jobs::job_of;
 
 /// A base of 100,000 by 60,000 with two flanges each on its sides S and N.
 const FOUR_FLANGES: &str = "material = \"S235\"
@@ -108,11 +107,11 @@ fn six_stages(alloc: Global) -> Result<String, AllocError> {
     Ok(machine)
 }
 
-/// The job of a part on a machine with one stage of one piece; None where there is none.
-fn job_with(alloc: Global, part: &str, piece: &str) -> Result<Option<Job>, Fail> {
+/// The job of a part on a machine with one stage of one piece.
+fn job_with(alloc: Global, part: &str, piece: &str) -> Result<Job, Fail> {
     let stage = STAGE.replacen(alloc, "[100000]", piece, 1)?;
     let machine = format!(in alloc; "{MACHINE}{stage}")?;
-    job_of(alloc, part, &machine)
+    job_of(alloc, part, TOOLS, &machine)
 }
 
 /// What a search of the job answers within a budget.
@@ -130,17 +129,6 @@ fn certificate_of(alloc: Global, job: &Job) -> Result<Option<Cert>, AllocError> 
     }
 }
 
-/// The key with these bends folded, held so, at stage 0.
-fn key(mask: u16, attitude: u8) -> Key
-    requires { attitude < 24 }
-{
-    Key {
-        mask: Mask(mask),
-        attitude: Turn::from_number(attitude),
-        stage: 0,
-    }
-}
-
 /// A row of a certificate, of a part that is held as its file describes it.
 fn row(mask: u16, worth: Worth) -> RowHead {
     RowHead {
@@ -149,29 +137,14 @@ fn row(mask: u16, worth: Worth) -> RowHead {
     }
 }
 
-/// A step at stage 0 with both fingers at one face.
-fn step(bend: u8, back: Back, face: u8) -> Step {
-    Step {
-        action: Action {
-            bend,
-            back,
-            stage: 0,
-        },
-        gauge: Gauge {
-            left_face: face,
-            right_face: face,
-        },
-    }
-}
-
 #[test]
 fn outcomes_of_the_worked_parts(rt: HostRuntime) -> Result<(), Fail> {
     let alloc = rt.alloc();
     let high = U_CHANNEL.replace(alloc, "length = 30000", "length = 80000")?;
-    let l_section = job_with(alloc, L_SECTION, "[100000]")?.expect(&rt, "a job");
-    let u_channel = job_with(alloc, U_CHANNEL, "[100000]")?.expect(&rt, "a job");
-    let high_channel = job_with(alloc, &high, "[100000]")?.expect(&rt, "a job");
-    let four = job_with(alloc, FOUR_FLANGES, "[45000]")?.expect(&rt, "a job");
+    let l_section = job_with(alloc, L_SECTION, "[100000]")?;
+    let u_channel = job_with(alloc, U_CHANNEL, "[100000]")?;
+    let high_channel = job_with(alloc, &high, "[100000]")?;
+    let four = job_with(alloc, FOUR_FLANGES, "[45000]")?;
     assert_eq!(rt; nodes(&u_channel), 49);
     assert_eq!(rt;
         outcome_of(alloc, &l_section, 1)?,
@@ -192,7 +165,7 @@ fn the_most_nodes_of_a_job(rt: HostRuntime) -> Result<(), Fail> {
     let alloc = rt.alloc();
     let part = twelve_flanges(alloc)?;
     let machine = six_stages(alloc)?;
-    let job = job_of(alloc, &part, &machine)?.expect(&rt, "a job");
+    let job = job_of(alloc, &part, TOOLS, &machine)?;
     assert_eq!(rt; nodes(&job), 589_537);
     Ok(())
 }
@@ -200,7 +173,7 @@ fn the_most_nodes_of_a_job(rt: HostRuntime) -> Result<(), Fail> {
 #[test]
 fn the_u_channel_is_proved(rt: HostRuntime) -> Result<(), Fail> {
     let alloc = rt.alloc();
-    let job = job_with(alloc, U_CHANNEL, "[100000]")?.expect(&rt, "a job");
+    let job = job_with(alloc, U_CHANNEL, "[100000]")?;
     let cert = certificate_of(alloc, &job)?.expect(&rt, "a certificate");
     let steps = [step(2, Back::Parent, 1), step(1, Back::Child, 1)];
     let rows = [
@@ -223,7 +196,7 @@ fn the_u_channel_is_proved(rt: HostRuntime) -> Result<(), Fail> {
 fn the_high_u_channel_has_no_plan(rt: HostRuntime) -> Result<(), Fail> {
     let alloc = rt.alloc();
     let high = U_CHANNEL.replace(alloc, "length = 30000", "length = 80000")?;
-    let job = job_with(alloc, &high, "[100000]")?.expect(&rt, "a job");
+    let job = job_with(alloc, &high, "[100000]")?;
     let cert = certificate_of(alloc, &job)?.expect(&rt, "a certificate");
     let keys = [key(0, 0), key(1, 0), key(1, 2), key(2, 0), key(2, 2)];
     let rows = keys.map(|key| RowHead {

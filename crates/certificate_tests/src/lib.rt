@@ -1,5 +1,5 @@
-//! Tests of the crates that search, write, read and check certificates, print sheets and make jobs
-//! for trials. They stand above what they test, on public calls.
+//! Tests of the crates that search and keep what the search found, write, read and check certificates,
+//! print sheets and make jobs for trials. They stand above what they test, on public calls.
 #![tactic(auto)]
 
 #[cfg(test)]
@@ -9,12 +9,12 @@ mod cert_check_tests;
 #[cfg(test)]
 mod cert_words_tests;
 #[cfg(test)]
-mod jobs;
+mod first_stage;
 #[cfg(test)]
 mod part_gen_tests;
 #[cfg(test)]
 mod plan_cert_tests;
 #[cfg(test)]
-mod setup_sheet_tests;
+mod row_pool_tests;
 #[cfg(test)]
-mod texts;
+mod setup_sheet_tests;

@@ -1,27 +1,13 @@
 //! The order sheets of the worked parts, worked out by hand.
 
-use crate::jobs::job_of;
-use brake_base::{Action, Back, Gauge, Step};
-use common_files::{L_SECTION, MACHINE, STAGE, TWO_FLANGES, U_CHANNEL};
+use crate::first_stage::step;
+use brake_base::{Back, Gauge, Step};
+use common_files::{L_SECTION, MACHINE, STAGE, TOOLS, TWO_FLANGES, U_CHANNEL};
 use job_setup::Job;
 use setup_sheet::{are_steps, order_sheet};
 use std::alloc::Global;
 use std::test::Fail;
-
-/// A step at stage 0 with both fingers at one face.
-fn step(bend: u8, back: Back, face: u8) -> Step {
-    Step {
-        action: Action {
-            bend,
-            back,
-            stage: 0,
-        },
-        gauge: Gauge {
-            left_face: face,
-            right_face: face,
-        },
-    }
-}
+use test_jobs::job_of;
 
 /// The order sheet; None where it can't tell the steps.
 fn sheet_of(alloc: Global, job: &Job, steps: &[Step]) -> Result<Option<Vec<u8>>, Fail> {
@@ -66,9 +52,9 @@ fn order_sheets(rt: HostRuntime) -> Result<(), Fail> {
     let up = "side = \"S\"\nat = 0\nwidth = 100000\nlength = 30000\ndir = \"up\"";
     let down = "side = \"S\"\nat = 0\nwidth = 100000\nlength = 30000\ndir = \"down\"";
     let z_section = U_CHANNEL.replacen(alloc, up, down, 1)?;
-    let u = job_of(alloc, U_CHANNEL, &alone)?.expect(&rt, "a job");
-    let z = job_of(alloc, &z_section, &alone)?.expect(&rt, "a job");
-    let two = job_of(alloc, TWO_FLANGES, &gangs)?.expect(&rt, "a job");
+    let u = job_of(alloc, U_CHANNEL, TOOLS, &alone)?;
+    let z = job_of(alloc, &z_section, TOOLS, &alone)?;
+    let two = job_of(alloc, TWO_FLANGES, TOOLS, &gangs)?;
     let both = Step {
         gauge: Gauge {
             left_face: 1,
@@ -93,7 +79,7 @@ fn order_sheets(rt: HostRuntime) -> Result<(), Fail> {
 fn steps_that_are_none(rt: HostRuntime) -> Result<(), Fail> {
     let alloc = rt.alloc();
     let machine = format!(in alloc; "{MACHINE}{STAGE}")?;
-    let job = job_of(alloc, L_SECTION, &machine)?.expect(&rt, "a job");
+    let job = job_of(alloc, L_SECTION, TOOLS, &machine)?;
     let first = step(1, Back::Child, 1);
     assert!(rt; are_steps(&job, &[first]));
     assert!(rt; !are_steps(&job, &[first, first]));

@@ -2,12 +2,10 @@
 
 use brake_base::Mask;
 use common_files::{EAST_FLANGE, L_SECTION, MACHINE, STAGE, TOOLS, TWO_FLANGES};
-use job_setup::{Job, JobFault, group, make_job, meets_at};
-use machine_file::read_machine;
-use part_file::read_part;
+use job_setup::{Job, JobFault, group, meets_at};
 use std::alloc::Global;
 use std::test::Fail;
-use tool_library::read_tools;
+use test_jobs::made_of;
 
 const LOAD: &str = "[[load]]
 material = \"S235\"
@@ -34,19 +32,6 @@ thickness = 2000
 v = 12000
 load = 300
 ";
-
-/// What comes of the texts of a part file, a tools file and a machine file.
-fn made_of(
-    alloc: Global,
-    part: &str,
-    tools: &str,
-    machine: &str,
-) -> Result<Result<Job, JobFault>, Fail> {
-    let part = read_part(alloc, part.as_bytes())?;
-    let tools = read_tools(alloc, tools.as_bytes())?;
-    let machine = read_machine(alloc, machine.as_bytes())?;
-    Ok(make_job(part, &tools, &machine))
-}
 
 /// What comes of the L section with these load rows and stages.
 fn made_with(alloc: Global, loads: &str, stages: &str) -> Result<Result<Job, JobFault>, Fail> {

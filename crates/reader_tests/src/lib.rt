@@ -9,6 +9,8 @@ mod fold_boxes_tests;
 #[cfg(test)]
 mod job_setup_tests;
 #[cfg(test)]
+mod key_rows;
+#[cfg(test)]
 mod machine_file_tests;
 #[cfg(test)]
 mod part_file_tests;

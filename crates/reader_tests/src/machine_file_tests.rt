@@ -1,5 +1,6 @@
 //! A whole machine file, and what becomes of it when a line is changed.
 
+use crate::key_rows::{OTHER_LINES, cell};
 use brake_base::Rect;
 use machine_file::{Costs, Fixed, GaugeRule, MachineFault, are_within, is_bed_range, read_machine};
 use std::alloc::{AllocError, Global};
@@ -35,8 +36,7 @@ at = 200000
 pieces = [100000]
 ";
 
-/// A row of each key: its table and number, its line in the file, two lines that may stand for it,
-/// and three that may not, of another type or just out of range.
+/// A row of each key.
 const KEYS: &str =
     "0 | 1 | bed = [0, 3000000] | bed = [-20000000, 20000000] | bed = [0, 1] | bed = 1 | bed = [1] | bed = [0, 1.0]
 0 | 2 | frames = [[0, 100]] | frames = [] | frames = [[-20000000, 20000000]] | frames = [0, 1] | frames = [[0]] | frames = [[0, 1, 2]]
@@ -137,14 +137,12 @@ fn refusal(alloc: Global, line: &str, other: &str) -> Result<Option<MachineFault
 #[test]
 fn each_key_takes_its_range_alone(rt: HostRuntime) -> Result<(), Fail> {
     for row in KEYS.lines() {
-        let mut cells = row.split(" | ");
-        let table = cells.next().unwrap_or("").parse::<u8>()?;
-        let key = cells.next().unwrap_or("").parse::<u8>()?;
-        let line = cells.next().unwrap_or("");
-        for (i, other) in cells.enumerate() {
-            let bad = Some(MachineFault::BadField { table, key });
-            let wanted = if i < 2 { None } else { bad };
-            assert!(rt; refusal(rt.alloc(), line, other)? == wanted);
+        let table = cell(row, 0).parse::<u8>()?;
+        let key = cell(row, 1).parse::<u8>()?;
+        for (place, may_stand) in OTHER_LINES {
+            let found = refusal(rt.alloc(), cell(row, 2), cell(row, place))?;
+            let bad = MachineFault::BadField { table, key };
+            assert!(rt; found == (!may_stand).then_some(bad), "{row}");
         }
     }
     Ok(())

@@ -1,5 +1,6 @@
 //! A tools file of one row of each kind, and what becomes of it when a line is changed.
 
+use crate::key_rows::{OTHER_LINES, cell};
 use allowance::Factor;
 use brake_base::Rect;
 use std::alloc::{AllocError, Global};
@@ -34,8 +35,7 @@ v = 12000
 load = 300
 ";
 
-/// A row of each key: its table and number, its line in the file, two lines that may stand for it,
-/// and three that may not, of another type or just out of range.
+/// A row of each key.
 const KEYS: &str = "0 | 1 | [[allow]] | [[allow]] | [['allow']] | [allow] | [allow.x] | [[allow.x]]
 0 | 2 | [[punch]] | [[punch]] | [['punch']] | [punch] | [punch.x] | [[punch.x]]
 0 | 3 | [[die]] | [[die]] | [['die']] | [die] | [die.x] | [[die.x]]
@@ -126,14 +126,12 @@ fn refusal(alloc: Global, line: &str, other: &str) -> Result<Option<ToolFault>, 
 #[test]
 fn each_key_takes_its_range_alone(rt: HostRuntime) -> Result<(), Fail> {
     for row in KEYS.lines() {
-        let mut cells = row.split(" | ");
-        let table = cells.next().unwrap_or("").parse::<u16>()?;
-        let key = cells.next().unwrap_or("").parse::<u8>()?;
-        let line = cells.next().unwrap_or("");
-        for (i, other) in cells.enumerate() {
-            let bad = Some(ToolFault::BadField { table, key });
-            let wanted = if i < 2 { None } else { bad };
-            assert!(rt; refusal(rt.alloc(), line, other)? == wanted);
+        let table = cell(row, 0).parse::<u16>()?;
+        let key = cell(row, 1).parse::<u8>()?;
+        for (place, may_stand) in OTHER_LINES {
+            let found = refusal(rt.alloc(), cell(row, 2), cell(row, place))?;
+            let bad = ToolFault::BadField { table, key };
+            assert!(rt; found == (!may_stand).then_some(bad), "{row}");
         }
     }
     Ok(())

@@ -65,15 +65,9 @@ pub(crate) fn stroke_group(job: &Job, mask: Mask, lead: u8) -> Mask
     group(job, mask, lead)
 }
 
-/// The part on the machine before the group is bent at a stage.
-pub(crate) fn pose_at(
-    job: &Job,
-    places: &[Place],
-    mask: Mask,
-    group: Mask,
-    back: Back,
-    stage: u8,
-) -> Pose
+/// The part on the machine before the group is bent at a stage, from the places of its faces where the
+/// bends of the mask are folded.
+pub fn pose_at(job: &Job, places: &[Place], mask: Mask, group: Mask, back: Back, stage: u8) -> Pose
     requires count { length places.now ≡ length job.now.part.faces }
     requires places { ArePlaces (shape_of job.now) mask places.now }
     requires group { IsGroup (shape_of job.now) mask group }

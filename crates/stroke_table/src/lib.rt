@@ -9,10 +9,6 @@ mod holding;
 mod stroke;
 mod table;
 
+pub use finding::pose_at;
 pub use stroke::{StageStroke, Stroke};
 pub use table::StrokeTable;
-
-#[cfg(test)]
-mod tests;
-#[cfg(test)]
-mod worked_strokes;

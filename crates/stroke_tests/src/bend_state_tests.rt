@@ -1,18 +1,18 @@
 //! A U channel whose second leg is folded and unfolded.
 
-use crate::jobs::job_of;
 use bend_state::BendState;
 use brake_base::Mask;
-use common_files::{MACHINE, STAGE, U_CHANNEL};
+use common_files::{MACHINE, STAGE, TOOLS, U_CHANNEL};
 use fold_boxes::is_group;
 use std::test::Fail;
+use test_jobs::job_of;
 use undo_region::Region;
 
 #[test]
 fn a_leg_is_folded_and_unfolded(rt: HostRuntime) -> Result<(), Fail> {
     let alloc = rt.alloc();
     let machine = format!(in alloc; "{MACHINE}{STAGE}")?;
-    let job = job_of(alloc, U_CHANNEL, &machine)?.expect(&rt, "a job");
+    let job = job_of(alloc, U_CHANNEL, TOOLS, &machine)?;
     let mut trail = Region::open(alloc, 13)?;
     let mut state = BendState::start(&job);
     let flat = state.places().get(2).copied();

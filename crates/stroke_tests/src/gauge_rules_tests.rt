@@ -1,11 +1,11 @@
 //! The first legal pairs of the worked parts.
 
-use crate::jobs::job_of;
 use brake_base::{Back, Gauge, Mask};
-use common_files::{L_SECTION, MACHINE, STAGE, U_CHANNEL};
+use common_files::{L_SECTION, MACHINE, STAGE, TOOLS, U_CHANNEL};
 use fold_boxes::{is_group, pose};
 use gauge_rules::first_legal;
 use std::test::Fail;
+use test_jobs::job_of;
 
 #[test]
 fn gauges(rt: HostRuntime) -> Result<(), Fail> {
@@ -20,7 +20,7 @@ fn gauges(rt: HostRuntime) -> Result<(), Fail> {
         (U_CHANNEL, Mask(1), Mask(2), Back::Parent, None),
     ];
     for (part, mask, group, back, gauge) in cases {
-        let job = job_of(alloc, part, &machine)?.expect(&rt, "a job");
+        let job = job_of(alloc, part, TOOLS, &machine)?;
         let shape = job.shape();
         assert!(rt; is_group(shape, mask, group));
         let posed = pose(shape, mask, group, back, 200_000, 300_000);

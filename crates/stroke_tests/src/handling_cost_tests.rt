@@ -1,11 +1,11 @@
 //! Costs of the worked parts, worked out by hand.
 
-use crate::jobs::job_of;
 use brake_base::{Action, Back, Gauge, Step};
-use common_files::{L_SECTION, MACHINE, STAGE, TWO_FLANGES, U_CHANNEL};
+use common_files::{L_SECTION, MACHINE, STAGE, TOOLS, TWO_FLANGES, U_CHANNEL};
 use handling_cost::{is_action_at, next_key, plan_cost, start_key, step_cost};
 use job_setup::Job;
 use std::test::Fail;
+use test_jobs::job_of;
 
 /// An action at stage 0.
 fn action(bend: u8, back: Back) -> Action {
@@ -53,10 +53,10 @@ fn costs(rt: HostRuntime) -> Result<(), Fail> {
     let up = "side = \"S\"\nat = 0\nwidth = 100000\nlength = 30000\ndir = \"up\"";
     let down = "side = \"S\"\nat = 0\nwidth = 100000\nlength = 30000\ndir = \"down\"";
     let z_section = U_CHANNEL.replacen(alloc, up, down, 1)?;
-    let l = job_of(alloc, L_SECTION, &alone)?.expect(&rt, "a job");
-    let u = job_of(alloc, U_CHANNEL, &alone)?.expect(&rt, "a job");
-    let z = job_of(alloc, &z_section, &alone)?.expect(&rt, "a job");
-    let two = job_of(alloc, TWO_FLANGES, &gangs)?.expect(&rt, "a job");
+    let l = job_of(alloc, L_SECTION, TOOLS, &alone)?;
+    let u = job_of(alloc, U_CHANNEL, TOOLS, &alone)?;
+    let z = job_of(alloc, &z_section, TOOLS, &alone)?;
+    let two = job_of(alloc, TWO_FLANGES, TOOLS, &gangs)?;
     let one_child = action(1, Back::Child);
     let two_child = action(2, Back::Child);
     assert!(rt; first_cost(&l, one_child) == Some(100));

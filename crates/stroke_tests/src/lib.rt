@@ -1,6 +1,6 @@
 //! Tests of the crates that tell whether a stroke is possible and what it costs: swept sectors, the
-//! folding of bends and its undoing, gauges and costs. They stand above what they test, on public
-//! calls.
+//! folding of bends and its undoing, gauges, costs, the reasons against a stroke and the table of
+//! strokes. They stand above what they test, on public calls.
 #![tactic(auto)]
 
 #[cfg(test)]
@@ -10,8 +10,10 @@ mod gauge_rules_tests;
 #[cfg(test)]
 mod handling_cost_tests;
 #[cfg(test)]
-mod jobs;
-#[cfg(test)]
 mod sector_geom_tests;
+#[cfg(test)]
+mod stroke_table_tests;
+#[cfg(test)]
+mod sweep_check_tests;
 #[cfg(test)]
 mod undo_region_tests;

@@ -1,5 +1,5 @@
 use Rattle.handling_cost.proofs.Keys.{some_stage}
-use Rattle.stroke_table.proofs.worked_strokes.posed.Goals as goal
+use Rattle.stroke_tests.proofs.sweep_check_tests.posed.Goals as goal
 
 pub pose_at-requires-clause-stage : goal.pose_at-requires-clause-stage
 pose_at-requires-clause-stage c = some_stage c.args.job.now c.shape.ensures.valid

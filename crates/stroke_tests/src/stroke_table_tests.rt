@@ -4,19 +4,15 @@ ghost use Rattle.brake_base.specs.Masks.{has};
 ghost use Rattle.fold_boxes.specs.Places.{ArePlaces};
 ghost use Rattle.job_setup.specs.Setup.{shape_of};
 
-use crate::StrokeTable;
-use crate::finding::{pose_at, stroke_group};
 use brake_base::{Back, Mask, Place, Reason};
 use common_files::{MACHINE, PAN, STAGE, TOOLS, TWO_FLANGES};
-use fold_boxes::{attitude, place};
+use fold_boxes::{attitude, is_group, place};
 use gauge_rules::first_legal;
-use job_setup::{Job, make_job};
-use machine_file::read_machine;
-use part_file::read_part;
-use std::alloc::Global;
+use job_setup::{Job, group};
 use std::test::Fail;
+use stroke_table::{StrokeTable, pose_at};
 use sweep_check::first_reason;
-use tool_library::read_tools;
+use test_jobs::job_of;
 
 /// A strip of seven faces, each bent onto the one before.
 const CHAIN: &str = "material = \"S235\"
@@ -84,19 +80,6 @@ at = 600000
 pieces = [60000]
 ";
 
-/// The job of a part, tools and a machine; None where there is none.
-pub(crate) fn job_of(
-    alloc: Global,
-    part: &str,
-    tools: &str,
-    machine: &str,
-) -> Result<Option<Job>, Fail> {
-    let part = read_part(alloc, part.as_bytes())?;
-    let tools = read_tools(alloc, tools.as_bytes())?;
-    let machine = read_machine(alloc, machine.as_bytes())?;
-    Ok(make_job(part, &tools, &machine).ok())
-}
-
 /// Whether the table's stroke is what the rules say, at each stage.
 fn is_stroke_right(
     table: &mut StrokeTable,
@@ -116,7 +99,10 @@ fn is_stroke_right(
     ensures job { table.new ≡ table.old }
 {
     let stroke = table.stroke(job, places, mask, lead, back);
-    let group = stroke_group(job, mask, lead);
+    let group = group(job, mask, lead);
+    if !is_group(job.shape(), mask, group) {
+        return false;
+    }
     let mut is_right = stroke.attitude == attitude(job.shape(), mask, lead, back);
     for stage in 0..job.stages() {
         let pose = pose_at(job, places, mask, group, back, stage);
@@ -194,7 +180,7 @@ fn the_table_says_what_the_rules_say(rt: HostRuntime) -> Result<(), Fail> {
         (TWO_FLANGES, gangs.as_str(), 8),
     ];
     for (part, machine, strokes) in cases {
-        let job = job_of(alloc, part, TOOLS, machine)?.expect(&rt, "a job");
+        let job = job_of(alloc, part, TOOLS, machine)?;
         let mut table = StrokeTable::open(alloc, &job)?;
         assert_eq!(rt; all_right_strokes(&mut table, &job, false), strokes);
         assert_eq!(rt; all_right_strokes(&mut table, &job, true), strokes);

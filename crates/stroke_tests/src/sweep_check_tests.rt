@@ -1,17 +1,17 @@
-//! The worked strokes: where the part lies before them, and the first reason against them.
+//! The worked strokes: the part before them, and the first reason against them.
 ghost use Rattle.fold_boxes.specs.Pose.{IsGroup, pose_data};
 ghost use Rattle.job_setup.specs.Setup.{shape_of};
 ghost use Rattle.job_setup.specs.Reasons.{IsPoseAt};
 
-use crate::finding::pose_at;
-use crate::tests::job_of;
-use brake_base::{Back, Box3, Half, Mask, Quarter, Reason, V3};
+use brake_base::{Back, Half, Mask, Quarter, Reason};
 use common_files::{L_SECTION, MACHINE, STAGE, TOOLS, TWO_FLANGES, U_CHANNEL};
-use fold_boxes::{Pose, PoseBox, is_group, place};
+use fold_boxes::{Pose, is_group, place, pose};
 use job_setup::Job;
 use std::alloc::Global;
 use std::test::Fail;
+use stroke_table::pose_at;
 use sweep_check::{first_reason, holds};
+use test_jobs::job_of;
 
 /// The common machine with these keys more, and its stage with these pieces.
 fn machine_with(alloc: Global, keys: &str, pieces: &str) -> Result<String, Fail> {
@@ -47,91 +47,20 @@ fn is_reason(job: &Job, mask: Mask, group: Mask, back: Back, reason: Reason) -> 
     }
 }
 
-/// A box of a pose, by its number, half and ends.
-fn pose_box(id: u8, half: Half, x: [i64; 2], y: [i64; 2], z: [i64; 2]) -> PoseBox {
-    PoseBox {
-        id,
-        half,
-        body: Box3 {
-            lo: V3 {
-                x: x[0],
-                y: y[0],
-                z: z[0],
-            },
-            hi: V3 {
-                x: x[1],
-                y: y[1],
-                z: z[1],
-            },
-        },
-    }
-}
-
 #[test]
-fn poses(rt: HostRuntime) -> Result<(), Fail> {
+fn poses_at_the_first_stage(rt: HostRuntime) -> Result<(), Fail> {
     let alloc = rt.alloc();
     let machine = machine_with(alloc, "", "[100000]")?;
-    let whole = [200_000, 300_000];
-    let flat = [-2_000, 0];
-    let leg = [0, 28_081];
-    let web = [-58_081, 0];
-    let (back, front) = (Half::Back, Half::Front);
-    let cases = [
-        (U_CHANNEL, 2, 1, pose_box(1, back, whole, leg, flat)),
-        (
-            U_CHANNEL,
-            2,
-            1,
-            pose_box(2, front, whole, [-58_081, -56_081], [-81, 28_000]),
-        ),
-        (
-            U_CHANNEL,
-            2,
-            1,
-            pose_box(14, front, whole, [-58_081, -56_162], [-2_000, -81]),
-        ),
-        (TWO_FLANGES, 0, 3, pose_box(0, front, whole, web, flat)),
-        (
-            TWO_FLANGES,
-            0,
-            3,
-            pose_box(1, back, [200_000, 245_000], leg, flat),
-        ),
-        (
-            TWO_FLANGES,
-            0,
-            3,
-            pose_box(2, back, [255_000, 300_000], leg, flat),
-        ),
-        (
-            TWO_FLANGES,
-            0,
-            1,
-            pose_box(0, front, [227_500, 327_500], web, flat),
-        ),
-        (
-            TWO_FLANGES,
-            0,
-            1,
-            pose_box(1, back, [227_500, 272_500], leg, flat),
-        ),
-        (
-            TWO_FLANGES,
-            0,
-            1,
-            pose_box(2, front, [282_500, 327_500], leg, flat),
-        ),
-    ];
-    for (part, mask, group, posed_box) in cases {
-        let job = job_of(alloc, part, TOOLS, &machine)?.expect(&rt, "a job");
-        assert!(rt; is_group(job.shape(), Mask(mask), Mask(group)));
-        let pose = posed(&job, Mask(mask), Mask(group), Back::Child);
-        assert!(rt;
-            pose.boxes
-                .as_slice()
-                .iter()
-                .any(|other| *other == posed_box)
-        );
+    for (part, mask, group) in [
+        (U_CHANNEL, Mask(2), Mask(1)),
+        (TWO_FLANGES, Mask(0), Mask(3)),
+        (TWO_FLANGES, Mask(0), Mask(1)),
+    ] {
+        let job = job_of(alloc, part, TOOLS, &machine)?;
+        assert!(rt; is_group(job.shape(), mask, group));
+        let found = posed(&job, mask, group, Back::Child);
+        let wanted = pose(job.shape(), mask, group, Back::Child, 200_000, 300_000);
+        assert!(rt; found.boxes.as_slice() == wanted.boxes.as_slice());
     }
     Ok(())
 }
@@ -149,7 +78,7 @@ fn covers_and_frames(rt: HostRuntime) -> Result<(), Fail> {
     ];
     for (keys, pieces, reason) in cases {
         let machine = machine_with(alloc, keys, pieces)?;
-        let job = job_of(alloc, L_SECTION, TOOLS, &machine)?.expect(&rt, "a job");
+        let job = job_of(alloc, L_SECTION, TOOLS, &machine)?;
         assert!(rt; is_group(job.shape(), Mask(0), Mask(1)));
         assert!(rt; reason_of(&job, Mask(0), Mask(1), Back::Parent) == reason);
         assert!(rt; reason_of(&job, Mask(0), Mask(1), Back::Child) == reason);
@@ -169,7 +98,7 @@ fn rests(rt: HostRuntime) -> Result<(), Fail> {
     ];
     for (leg, back, reason) in cases {
         let part = L_SECTION.replacen(alloc, "30000", leg, 1)?;
-        let job = job_of(alloc, &part, TOOLS, &machine)?.expect(&rt, "a job");
+        let job = job_of(alloc, &part, TOOLS, &machine)?;
         assert!(rt; is_group(job.shape(), Mask(0), Mask(1)));
         assert!(rt; reason_of(&job, Mask(0), Mask(1), back) == reason);
     }
@@ -196,7 +125,7 @@ fn a_punch_touches_and_meets_the_leg(rt: HostRuntime) -> Result<(), Fail> {
         (high.as_str(), TOOLS, 1, 2, Back::Child, wall, true),
     ];
     for (part, tools, mask, group, back, reason, is_met) in cases {
-        let job = job_of(alloc, part, tools, &machine)?.expect(&rt, "a job");
+        let job = job_of(alloc, part, tools, &machine)?;
         assert!(rt; is_group(job.shape(), Mask(mask), Mask(group)));
         let first = reason_of(&job, Mask(mask), Mask(group), back);
         assert!(rt; first == is_met.then_some(reason));
@@ -224,7 +153,7 @@ fn a_flange_hangs_over_the_die(rt: HostRuntime) -> Result<(), Fail> {
     ];
     for (keys, pieces, mask, group, back, kind) in cases {
         let machine = machine_with(alloc, keys, pieces)?;
-        let job = job_of(alloc, TWO_FLANGES, TOOLS, &machine)?.expect(&rt, "a job");
+        let job = job_of(alloc, TWO_FLANGES, TOOLS, &machine)?;
         assert!(rt; is_group(job.shape(), Mask(mask), Mask(group)));
         let first = reason_of(&job, Mask(mask), Mask(group), back);
         assert!(rt; first.map(|reason| reason.kind()) == kind);
@@ -261,7 +190,7 @@ fn loads(rt: HostRuntime) -> Result<(), Fail> {
     ];
     for (part, tools, keys, group, reason) in cases {
         let machine = machine_with(alloc, keys, "[100000]")?;
-        let job = job_of(alloc, part, tools, &machine)?.expect(&rt, "a job");
+        let job = job_of(alloc, part, tools, &machine)?;
         assert!(rt; is_group(job.shape(), Mask(0), Mask(group)));
         assert!(rt; reason_of(&job, Mask(0), Mask(group), Back::Parent) == reason);
         assert!(rt; reason_of(&job, Mask(0), Mask(group), Back::Child) == reason);
