@@ -16,11 +16,19 @@ use Rattle.machine_file.specs.declared.machine.Costs.{Costs}
 use Rattle.job_setup.specs.Setup.{StageData, SetupData}
 use Rattle.plan_cert.specs.declared.format.Format.{Format}
 use Rattle.plan_cert.specs.declared.format.Format.TheVariants.{Version1}
-use Rattle.plan_cert.specs.declared.job_reading.LineKind.{LineKind}
-use Rattle.plan_cert.specs.declared.job_reading.LineKind.TheVariants as kinds
+use Rattle.plan_cert.specs.declared.line_kind.LineKind.{LineKind}
+use Rattle.plan_cert.specs.declared.line_kind.LineKind.TheVariants as kinds
 use Rattle.plan_cert.specs.Lines.{CertLine, part_line, face_line, bed_line, frame_line, upper_line, lower_line, uncovered_line, gauge_line, gang_line, force_line, stage_line, punch_line, die_line, box_line, pieces_line, load_line, words_of, face_words, fixed_words, number, side_word, dir_word}
 use Rattle.plan_cert.specs.JobText.{gang_number, costs_line}
-use Rattle.plan_cert.specs.JobReading.{JobLinesData, has_loads, may_be_frame, may_be_upper, may_be_lower, is_of_punch, is_of_die, is_complete, take_line, take_words, take_part, take_face, take_bed, take_frame, take_upper, take_lower, take_uncovered, take_gauge, take_cost, take_gang, take_force, take_stage, take_punch, take_box, take_punch_box, take_die_box, take_die, take_pieces, take_load, with_part, with_face, with_bed, with_frame, with_upper, with_lower, with_uncovered, with_gauge, with_costs, with_gang, with_force, with_range, with_punch, with_punch_box, with_die_box, with_die, with_pieces, with_load, with_stage, begun_stage}
+use Rattle.plan_cert.specs.Formats.{has_loads}
+use Rattle.plan_cert.specs.LineKinds.{may_be_frame, may_be_upper, may_be_lower, is_of_punch, is_of_die, is_complete}
+use Rattle.plan_cert.specs.JobLines.{JobLinesData, begun_stage}
+use Rattle.plan_cert.specs.PartReading.{take_part, take_face, with_part, with_face}
+use Rattle.plan_cert.specs.FixtureReading.{take_bed, take_frame, take_upper, take_lower, with_bed, with_frame, with_upper, with_lower}
+use Rattle.plan_cert.specs.RuleReading.{take_uncovered, take_gauge, take_cost, take_gang, take_force, with_uncovered, with_gauge, with_costs, with_gang, with_force}
+use Rattle.plan_cert.specs.StageReading.{take_stage, take_pieces, take_load, with_range, with_pieces, with_load, with_stage}
+use Rattle.plan_cert.specs.ToolReading.{take_punch, take_punch_box, take_die_box, take_die, with_punch, with_punch_box, with_die_box, with_die}
+use Rattle.plan_cert.specs.JobReading.{take_line, take_words}
 use Rattle.plan_cert.proofs.WordsRead.{IsShort, IsSmall, IsPlain, number_plain, signed_plain, name_plain}
 use Rattle.plan_cert.proofs.LinesRead.{spelled, number_alone, pair_alone, SmallRect, rect_alone, SmallFixed, fixed_alone, part_alone, root_alone, SmallFace, child_alone, SmallGauge, gauge_alone, costs_alone, costs_back, gang_back, punch_alone, die_alone, AllSmall, pieces_alone}
 use Rattle.plan_cert.proofs.TextLines.{ArePlain, line_bytes}
@@ -148,7 +156,7 @@ punch_step format p q su sg n h s is a b = ((name_plain n is, (signed_plain h a,
 
 pub punch_box_step : (format : Format) (last : LineKind) (p : PartData) (q : ℤ) (su : SetupData) (sg : StageData) (r : Rect) → is_of_punch last ≡ true → length sg.punch.body < 8 → SmallRect r
     → Step (state format last p q su sg) (box_line r) (state format kinds.PunchBox p q su (record sg { punch = record sg.punch { body = sg.punch.body ++ r ∷ [] } }))
-unfolding take_line take_words take_box take_punch_box with_punch_box
+unfolding take_line take_words take_punch_box with_punch_box
 punch_box_step format last p q su sg r of few s = (plain_rect r s, rw (of, lt-ltb (length sg.punch.body) 8 few, rect_alone r s) refl)
 
 pub die_step : (format : Format) (last : LineKind) (p : PartData) (q : ℤ) (su : SetupData) (sg : StageData) (n : List ℕ) (h v l : ℤ) → is_of_punch last ≡ true → is_name n ≡ true → IsSmall h → IsSmall v → IsSmall l
@@ -165,7 +173,7 @@ not_punch _ of = refl
 
 pub die_box_step : (format : Format) (last : LineKind) (p : PartData) (q : ℤ) (su : SetupData) (sg : StageData) (r : Rect) → is_of_die last ≡ true → length sg.die.body < 8 → SmallRect r
     → Step (state format last p q su sg) (box_line r) (state format kinds.DieBox p q su (record sg { die = record sg.die { body = sg.die.body ++ r ∷ [] } }))
-unfolding take_line take_words take_box take_die_box with_die_box
+unfolding take_line take_words take_die_box with_die_box
 die_box_step format last p q su sg r of few s = (plain_rect r s, rw (not_punch last of, of, lt-ltb (length sg.die.body) 8 few, rect_alone r s) refl)
 
 plain_all : (zs : List ℤ) → AllSmall zs → ArePlain (map signed_decimal zs)
