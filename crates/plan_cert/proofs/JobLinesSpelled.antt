@@ -7,6 +7,8 @@ use Rattle.std.proofs.lemmas.Bool.Decides.{Decides-int_eq}
 use Rattle.std.proofs.lemmas.Grind.{common_steps}
 use Rattle.std.proofs.lemmas.Int.{ints}
 use Rattle.part_file.specs.Part.{FaceData, PartData}
+use Rattle.machine_file.specs.declared.bounds.TheConstants.{MOST_FRAMES, MOST_BOXES}
+use Rattle.tool_library.specs.declared.bounds.TheConstants.{MOST_BOXES as MOST_BODY_BOXES}
 use Rattle.machine_file.specs.declared.machine.Costs.{Costs}
 use Rattle.tool_library.specs.Tools.{PunchData, DieData}
 use Rattle.plan_cert.specs.declared.line_kind.LineKind.{LineKind}
@@ -152,21 +154,21 @@ unfolding take_frame with_frame
 add_frame s text fresh =
     one_kind (Is pair_words text) s (codes "frame") text (may_take_frame s) (pair_in text) (with_frame s) (pair_alone text)
     (λ may f is. adds s (with_frame s f) (codes "frame") text (frame_line f) refl is (λ sound. sound)
-    (frame_grows_in s.format s.part s.q s.setup s.stage f s.last ((and_parts (may_be_frame s.last) (nat_lt (length s.setup.frames) 4) may).0) fresh))
+    (frame_grows_in s.format s.part s.q s.setup s.stage f s.last ((and_parts (may_be_frame s.last) (nat_lt (length s.setup.frames) MOST_FRAMES) may).0) fresh))
 
 add_upper : (s : JobLinesData) (text : List ℕ) → FreshIn s.format s.last s.setup → Each (Adds s (codes "upper") text) (take_upper s text)
 unfolding take_upper with_upper
 add_upper s text fresh =
     one_kind (Is fixed_words text) s (codes "upper") text (may_take_upper s) (fixed_in text) (with_upper s) (fixed_alone text)
     (λ may b is. adds s (with_upper s b) (codes "upper") text (upper_line b) refl is (λ sound. sound)
-    (upper_grows_in s.format s.part s.q s.setup s.stage b s.last ((and_parts (may_be_upper s.last) (nat_lt (length s.setup.upper) 16) may).0) fresh))
+    (upper_grows_in s.format s.part s.q s.setup s.stage b s.last ((and_parts (may_be_upper s.last) (nat_lt (length s.setup.upper) MOST_BOXES) may).0) fresh))
 
 add_lower : (s : JobLinesData) (text : List ℕ) → FreshIn s.format s.last s.setup → Each (Adds s (codes "lower") text) (take_lower s text)
 unfolding take_lower with_lower
 add_lower s text fresh =
     one_kind (Is fixed_words text) s (codes "lower") text (may_take_lower s) (fixed_in text) (with_lower s) (fixed_alone text)
     (λ may b is. adds s (with_lower s b) (codes "lower") text (lower_line b) refl is (λ sound. sound)
-    (lower_grows_in s.format s.part s.q s.setup s.stage b s.last ((and_parts (may_be_lower s.last) (nat_lt (length s.setup.lower) 16) may).0) fresh))
+    (lower_grows_in s.format s.part s.q s.setup s.stage b s.last ((and_parts (may_be_lower s.last) (nat_lt (length s.setup.lower) MOST_BOXES) may).0) fresh))
 
 add_uncovered : (s : JobLinesData) (text : List ℕ) → FreshIn s.format s.last s.setup → Each (Adds s (codes "uncovered") text) (take_uncovered s text)
 unfolding take_uncovered with_uncovered
@@ -238,14 +240,14 @@ unfolding take_punch_box with_punch_box
 add_punch_box s text fresh =
     one_kind (Is rect_words text) s (codes "box") text (may_take_punch_box s) (rect_in text) (with_punch_box s) (rect_alone text)
     (λ may b is. adds s (with_punch_box s b) (codes "box") text (box_line b) refl is (λ sound. sound)
-    (punch_box_grows_in s.format s.part s.q s.setup s.stage b s.last ((and_parts (is_of_punch s.last) (nat_lt (length s.stage.punch.body) 8) may).0) fresh))
+    (punch_box_grows_in s.format s.part s.q s.setup s.stage b s.last ((and_parts (is_of_punch s.last) (nat_lt (length s.stage.punch.body) MOST_BODY_BOXES) may).0) fresh))
 
 add_die_box : (s : JobLinesData) (text : List ℕ) → FreshIn s.format s.last s.setup → Each (Adds s (codes "box") text) (take_die_box s text)
 unfolding take_die_box with_die_box
 add_die_box s text fresh =
     one_kind (Is rect_words text) s (codes "box") text (may_take_die_box s) (rect_in text) (with_die_box s) (rect_alone text)
     (λ may b is. adds s (with_die_box s b) (codes "box") text (box_line b) refl is (λ sound. sound)
-    (die_box_grows_in s.format s.part s.q s.setup s.stage b s.last ((and_parts (is_of_die s.last) (nat_lt (length s.stage.die.body) 8) may).0) fresh))
+    (die_box_grows_in s.format s.part s.q s.setup s.stage b s.last ((and_parts (is_of_die s.last) (nat_lt (length s.stage.die.body) MOST_BODY_BOXES) may).0) fresh))
 
 add_die : (s : JobLinesData) (text : List ℕ) → FreshIn s.format s.last s.setup → Each (Adds s (codes "die") text) (take_die s text)
 unfolding take_die with_die

@@ -1,6 +1,7 @@
 -- The job lines so far: what they give, and what is given before the first.
 use Rattle.std.specs.Prelude.{◌≡◌, ℤ, pos, Bool, true, false, nat_lt, [], length, Option, Some, None}
 use Rattle.part_file.specs.Part.{PartData, part_data}
+use Rattle.machine_file.specs.declared.bounds.TheConstants.{MOST_STAGES}
 use Rattle.machine_file.specs.declared.machine.GaugeRule.{GaugeRule}
 use Rattle.machine_file.specs.declared.machine.Costs.{Costs}
 use Rattle.tool_library.specs.Tools.{PunchData, DieData}
@@ -55,9 +56,9 @@ no_setup = record { bed = (pos 0, pos 0); frames = []; upper = []; lower = []; u
 abbrev pub no_lines : Format → JobLinesData
 no_lines format = record { format = format; last = kinds.Format; part = no_part; q = pos 0; setup = no_setup; stage = begun_stage (pos 0) (pos 0); is_sound = true }
 
--- there is room for another stage, of which there are at most 6
+-- there is room for another stage
 abbrev pub has_room : JobLinesData → Bool
-has_room s = nat_lt (length s.setup.stages) 6
+has_room s = nat_lt (length s.setup.stages) MOST_STAGES
 
 -- the values that the job lines give
 abbrev pub job_of : JobLinesData → JobData

@@ -1,5 +1,6 @@
 -- Reading the lines of the part: the sheet, and the faces, each on an earlier one.
 use Rattle.std.specs.Prelude.{ℕ, ℤ, Bool, nat_lt, List, [], ◌∷◌, ◌++◌, length, Option, Some, None, if◌then◌else◌}
+use Rattle.part_file.specs.declared.bounds.TheConstants.{MOST_FACES}
 use Rattle.part_file.specs.Part.{FaceData, PartData}
 use Rattle.plan_cert.specs.declared.line_kind.LineKind.{LineKind}
 use Rattle.plan_cert.specs.declared.line_kind.LineKind.TheVariants as kinds
@@ -28,9 +29,9 @@ take_part s text = only_if (may_take_part s) (part_in text >>= λ part. Some (wi
 unfoldable pub with_face : JobLinesData → FaceData → JobLinesData
 with_face s face = record s { last = kinds.Face; part = record s.part { faces = s.part.faces ++ face ∷ [] } }
 
--- at most 13 faces
+-- there is room for another face
 abbrev pub may_take_face : JobLinesData → Bool
-may_take_face s = nat_lt (length s.part.faces) 13
+may_take_face s = nat_lt (length s.part.faces) MOST_FACES
 
 unfoldable pub take_face : JobLinesData → List ℕ → Option JobLinesData
 take_face s text = only_if (may_take_face s) (face_behind s.last (length s.part.faces) text >>= λ face. Some (with_face s face))

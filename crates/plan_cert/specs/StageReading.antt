@@ -11,7 +11,6 @@ use Rattle.plan_cert.specs.JobLines.{JobLinesData, begun_stage, has_room}
 unfoldable pub with_range : JobLinesData → ℤ × ℤ → JobLinesData
 with_range s range = record s { last = kinds.Stage; stage = begun_stage range.0 range.1 }
 
--- at most 6 stages
 abbrev pub may_take_stage : JobLinesData → Bool
 may_take_stage s = is_complete s.format s.last && has_room s
 

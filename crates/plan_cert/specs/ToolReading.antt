@@ -1,6 +1,7 @@
 -- Reading the lines of a stage's tools: the punch, the die, and the boxes of each.
 use Rattle.std.specs.Prelude.{ℕ, Bool, ◌&&◌, nat_lt, List, [], ◌∷◌, ◌++◌, length, Option, Some}
 use Rattle.brake_base.specs.declared.plane.Rect.{Rect}
+use Rattle.tool_library.specs.declared.bounds.TheConstants.{MOST_BOXES}
 use Rattle.tool_library.specs.Tools.{PunchData, DieData}
 use Rattle.plan_cert.specs.declared.line_kind.LineKind.TheVariants as kinds
 use Rattle.cert_words.specs.LineWords.{◌>>=◌}
@@ -21,9 +22,9 @@ take_punch s text = only_if (may_take_punch s) (punch_in text >>= λ punch. Some
 unfoldable pub with_punch_box : JobLinesData → Rect → JobLinesData
 with_punch_box s box = record s { last = kinds.PunchBox; stage = record s.stage { punch = record s.stage.punch { body = s.stage.punch.body ++ box ∷ [] } } }
 
--- at most 8 boxes of a punch
+-- there is room for another box of the punch
 abbrev pub may_take_punch_box : JobLinesData → Bool
-may_take_punch_box s = is_of_punch s.last && nat_lt (length s.stage.punch.body) 8
+may_take_punch_box s = is_of_punch s.last && nat_lt (length s.stage.punch.body) MOST_BOXES
 
 unfoldable pub take_punch_box : JobLinesData → List ℕ → Option JobLinesData
 take_punch_box s text = only_if (may_take_punch_box s) (rect_in text >>= λ box. Some (with_punch_box s box))
@@ -40,9 +41,9 @@ take_die s text = only_if (may_take_die s) (die_in text >>= λ die. Some (with_d
 unfoldable pub with_die_box : JobLinesData → Rect → JobLinesData
 with_die_box s box = record s { last = kinds.DieBox; stage = record s.stage { die = record s.stage.die { body = s.stage.die.body ++ box ∷ [] } } }
 
--- at most 8 boxes of a die
+-- there is room for another box of the die
 abbrev pub may_take_die_box : JobLinesData → Bool
-may_take_die_box s = is_of_die s.last && nat_lt (length s.stage.die.body) 8
+may_take_die_box s = is_of_die s.last && nat_lt (length s.stage.die.body) MOST_BOXES
 
 unfoldable pub take_die_box : JobLinesData → List ℕ → Option JobLinesData
 take_die_box s text = only_if (may_take_die_box s) (rect_in text >>= λ box. Some (with_die_box s box))

@@ -8,6 +8,7 @@ use crate::job_reading::JobLines;
 use crate::line_kind::LineKind;
 use cert_words::{fixed, pair_alone};
 use machine_file::Fixed;
+use machine_file::bounds::{MOST_BOXES, MOST_FRAMES};
 
 impl JobLines {
     #[tactic(auto, unfolding(crate::specs::FixtureReading::with_bed), using(crate::proofs::Texts::pieces))]
@@ -34,19 +35,19 @@ impl JobLines {
     fn may_take_frame(&self) -> bool
         ensures { result ≡ may_take_frame (job_lines_data self.now) }
     {
-        self.last.may_be_frame() && self.setup.frames.len() < 4
+        self.last.may_be_frame() && self.setup.frames.len() < MOST_FRAMES
     }
 
     #[tactic(auto, unfolding(crate::specs::FixtureReading::with_frame), using(crate::proofs::Texts::pieces))]
     fn set_frame(&mut self, frame: (i64, i64))
-        requires { length self.old.setup.frames.items < 4 }
+        requires { length self.old.setup.frames.items < MOST_FRAMES }
         ensures { job_lines_data self.new ≡ with_frame (job_lines_data self.old) frame }
     {
         self.last = LineKind::Frame;
         self.setup.frames.push(frame);
     }
 
-    /// A side frame, of which there are at most 4.
+    /// A side frame, where there is room for one.
     #[tactic(auto, unfolding(crate::specs::FixtureReading::take_frame))]
     pub(crate) fn take_frame(&mut self, text: &[u8]) -> Option<()>
         ensures { Takes result self.old self.new (take_frame (job_lines_data self.old) text.now) }
@@ -62,19 +63,19 @@ impl JobLines {
     fn may_take_upper(&self) -> bool
         ensures { result ≡ may_take_upper (job_lines_data self.now) }
     {
-        self.last.may_be_upper() && self.setup.upper.len() < 16
+        self.last.may_be_upper() && self.setup.upper.len() < MOST_BOXES
     }
 
     #[tactic(auto, unfolding(crate::specs::FixtureReading::with_upper), using(crate::proofs::Texts::pieces))]
     fn set_upper(&mut self, upper: Fixed)
-        requires { length self.old.setup.upper.items < 16 }
+        requires { length self.old.setup.upper.items < MOST_BOXES }
         ensures { job_lines_data self.new ≡ with_upper (job_lines_data self.old) upper }
     {
         self.last = LineKind::Upper;
         self.setup.upper.push(upper);
     }
 
-    /// A box above the bed, of which there are at most 16.
+    /// A box above the bed, where there is room for one.
     #[tactic(auto, unfolding(crate::specs::FixtureReading::take_upper))]
     pub(crate) fn take_upper(&mut self, text: &[u8]) -> Option<()>
         ensures { Takes result self.old self.new (take_upper (job_lines_data self.old) text.now) }
@@ -90,19 +91,19 @@ impl JobLines {
     fn may_take_lower(&self) -> bool
         ensures { result ≡ may_take_lower (job_lines_data self.now) }
     {
-        self.last.may_be_lower() && self.setup.lower.len() < 16
+        self.last.may_be_lower() && self.setup.lower.len() < MOST_BOXES
     }
 
     #[tactic(auto, unfolding(crate::specs::FixtureReading::with_lower), using(crate::proofs::Texts::pieces))]
     fn set_lower(&mut self, lower: Fixed)
-        requires { length self.old.setup.lower.items < 16 }
+        requires { length self.old.setup.lower.items < MOST_BOXES }
         ensures { job_lines_data self.new ≡ with_lower (job_lines_data self.old) lower }
     {
         self.last = LineKind::Lower;
         self.setup.lower.push(lower);
     }
 
-    /// A box of the bed, of which there are at most 16.
+    /// A box of the bed, where there is room for one.
     #[tactic(auto, unfolding(crate::specs::FixtureReading::take_lower))]
     pub(crate) fn take_lower(&mut self, text: &[u8]) -> Option<()>
         ensures { Takes result self.old self.new (take_lower (job_lines_data self.old) text.now) }

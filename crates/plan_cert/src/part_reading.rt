@@ -10,7 +10,7 @@ use crate::line_kind::LineKind;
 use arrayvec::ArrayVec;
 use brake_base::Name;
 use cert_words::{child, part, root};
-use part_file::{Face, Part};
+use part_file::{Face, MOST_FACES, Part};
 
 /// A part of which nothing is known.
 pub(crate) fn no_part() -> Part
@@ -62,19 +62,19 @@ impl JobLines {
     fn may_take_face(&self) -> bool
         ensures { result ≡ may_take_face (job_lines_data self.now) }
     {
-        self.part.faces.len() < 13
+        self.part.faces.len() < MOST_FACES
     }
 
     #[tactic(auto, unfolding(crate::specs::PartReading::with_face), using(crate::proofs::Texts::pieces))]
     fn set_face(&mut self, face: Face)
-        requires { length self.old.part.faces.items < 13 }
+        requires { length self.old.part.faces.items < MOST_FACES }
         ensures { job_lines_data self.new ≡ with_face (job_lines_data self.old) (face_data face) }
     {
         self.last = LineKind::Face;
         self.part.faces.push(face);
     }
 
-    /// A face, of which there are at most 13.
+    /// A face, where there is room for one.
     #[tactic(auto, unfolding(crate::specs::PartReading::take_face))]
     pub(crate) fn take_face(&mut self, text: &[u8]) -> Option<()>
         ensures { Takes result self.old self.new (take_face (job_lines_data self.old) text.now) }

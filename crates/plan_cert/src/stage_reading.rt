@@ -1,7 +1,7 @@
 //! Reading the lines of a stage but for those of its tools: its range, its pieces and its load.
 ghost use Rattle.std.specs.Prelude.{◌≡◌, ◌<◌, length};
 ghost use Rattle.job_setup.specs.Setup.{stage_data};
-ghost use Rattle.plan_cert.specs.JobLines.{job_lines_data, Takes, begun_stage};
+ghost use Rattle.plan_cert.specs.JobLines.{job_lines_data, Takes, begun_stage, has_room};
 ghost use Rattle.plan_cert.specs.StageReading.{with_range, may_take_stage, take_stage, with_stage, with_pieces, behind_pieces, may_take_pieces, take_pieces, with_load, may_take_load, take_load};
 
 use crate::job_reading::JobLines;
@@ -10,6 +10,7 @@ use arrayvec::ArrayVec;
 use brake_base::Name;
 use cert_words::{pair_alone, pieces};
 use job_setup::Stage;
+use machine_file::bounds::{MOST_PIECES, MOST_STAGES};
 use std::mem;
 use tool_library::{Die, Punch};
 
@@ -45,10 +46,17 @@ pub(crate) fn begun_stage(x0: i64, x1: i64) -> Stage
 }
 
 impl JobLines {
+    /// Whether there is room for another stage.
+    fn has_room(&self) -> bool
+        ensures { result ≡ has_room (job_lines_data self.now) }
+    {
+        self.setup.stages.len() < MOST_STAGES
+    }
+
     fn may_take_stage(&self) -> bool
         ensures { result ≡ may_take_stage (job_lines_data self.now) }
     {
-        self.last.is_complete(self.format) && self.setup.stages.len() < 6
+        self.last.is_complete(self.format) && self.has_room()
     }
 
     #[tactic(auto, unfolding(crate::specs::StageReading::with_range), using(crate::proofs::Texts::pieces))]
@@ -59,7 +67,7 @@ impl JobLines {
         self.stage = begun_stage(range.0, range.1);
     }
 
-    /// A stage's range. There are at most 6 stages.
+    /// A stage's range, where there is room for another stage.
     #[tactic(auto, unfolding(crate::specs::StageReading::take_stage))]
     pub(crate) fn take_stage(&mut self, text: &[u8]) -> Option<()>
         ensures { Takes result self.old self.new (take_stage (job_lines_data self.old) text.now) }
@@ -75,7 +83,7 @@ impl JobLines {
     /// Puts the stage behind those that are complete.
     #[tactic(auto, unfolding(crate::specs::StageReading::with_stage))]
     fn end_stage(&mut self)
-        requires { length self.old.setup.stages.items < 6 }
+        requires { length self.old.setup.stages.items < MOST_STAGES }
         ensures { job_lines_data self.new ≡ with_stage (job_lines_data self.old) }
     {
         let stage = mem::replace(&mut self.stage, begun_stage(0, 0));
@@ -85,11 +93,11 @@ impl JobLines {
     fn may_take_pieces(&self) -> bool
         ensures { result ≡ may_take_pieces (job_lines_data self.now) }
     {
-        self.last.is_of_die() && self.setup.stages.len() < 6
+        self.last.is_of_die() && self.has_room()
     }
 
     #[tactic(auto, unfolding(crate::specs::StageReading::with_pieces))]
-    fn set_pieces(&mut self, pieces: ArrayVec<i64, 32>)
+    fn set_pieces(&mut self, pieces: ArrayVec<i64, MOST_PIECES>)
         ensures value { job_lines_data self.new
             ≡ with_pieces (job_lines_data self.old) pieces.items }
         ensures stages { self.new.setup.stages.items ≡ self.old.setup.stages.items }
@@ -100,7 +108,7 @@ impl JobLines {
 
     /// With its pieces a stage of version 1 is complete.
     fn end_pieces(&mut self)
-        requires { length self.old.setup.stages.items < 6 }
+        requires { length self.old.setup.stages.items < MOST_STAGES }
         ensures { job_lines_data self.new ≡ behind_pieces (job_lines_data self.old) }
     {
         if !self.format.has_loads() {
@@ -125,7 +133,7 @@ impl JobLines {
     fn may_take_load(&self) -> bool
         ensures { result ≡ may_take_load (job_lines_data self.now) }
     {
-        self.format.has_loads() && self.last.is_pieces() && self.setup.stages.len() < 6
+        self.format.has_loads() && self.last.is_pieces() && self.has_room()
     }
 
     #[tactic(auto, unfolding(crate::specs::StageReading::with_load))]

@@ -8,6 +8,7 @@ use crate::job_reading::JobLines;
 use crate::line_kind::LineKind;
 use brake_base::Rect;
 use cert_words::{die, punch, rect_alone};
+use tool_library::bounds::MOST_BOXES;
 use tool_library::{Die, Punch};
 
 impl JobLines {
@@ -36,19 +37,19 @@ impl JobLines {
     fn may_take_punch_box(&self) -> bool
         ensures { result ≡ may_take_punch_box (job_lines_data self.now) }
     {
-        self.last.is_of_punch() && self.stage.punch.body.len() < 8
+        self.last.is_of_punch() && self.stage.punch.body.len() < MOST_BOXES
     }
 
     #[tactic(auto, unfolding(crate::specs::ToolReading::with_punch_box), using(crate::proofs::Texts::pieces))]
     fn set_punch_box(&mut self, rect: Rect)
-        requires { length self.old.stage.punch.body.items < 8 }
+        requires { length self.old.stage.punch.body.items < MOST_BOXES }
         ensures { job_lines_data self.new ≡ with_punch_box (job_lines_data self.old) rect }
     {
         self.last = LineKind::PunchBox;
         self.stage.punch.body.push(rect);
     }
 
-    /// A box of the punch, of which there are at most 8.
+    /// A box of the punch, where there is room for one.
     #[tactic(auto, unfolding(crate::specs::ToolReading::take_punch_box))]
     pub(crate) fn take_punch_box(&mut self, text: &[u8]) -> Option<()>
         ensures { Takes result self.old self.new
@@ -86,19 +87,19 @@ impl JobLines {
     fn may_take_die_box(&self) -> bool
         ensures { result ≡ may_take_die_box (job_lines_data self.now) }
     {
-        self.last.is_of_die() && self.stage.die.body.len() < 8
+        self.last.is_of_die() && self.stage.die.body.len() < MOST_BOXES
     }
 
     #[tactic(auto, unfolding(crate::specs::ToolReading::with_die_box), using(crate::proofs::Texts::pieces))]
     fn set_die_box(&mut self, rect: Rect)
-        requires { length self.old.stage.die.body.items < 8 }
+        requires { length self.old.stage.die.body.items < MOST_BOXES }
         ensures { job_lines_data self.new ≡ with_die_box (job_lines_data self.old) rect }
     {
         self.last = LineKind::DieBox;
         self.stage.die.body.push(rect);
     }
 
-    /// A box of the die, of which there are at most 8.
+    /// A box of the die, where there is room for one.
     #[tactic(auto, unfolding(crate::specs::ToolReading::take_die_box))]
     pub(crate) fn take_die_box(&mut self, text: &[u8]) -> Option<()>
         ensures { Takes result self.old self.new (take_die_box (job_lines_data self.old) text.now) }
