@@ -1,7 +1,6 @@
 pub mod Texts
 pub mod RowOrder
 pub mod Indexes
-pub mod SetLemmas
 pub mod StepLemmas
 pub mod Numbers
 pub mod ActionLemmas

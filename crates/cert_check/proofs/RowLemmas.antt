@@ -1,5 +1,5 @@
 -- What is proved of a key, and the actions of a row.
-use Rattle.std.proofs.Common.{◌≡◌, inl, inr, ℕ, ◌+◌, ◌*◌, ◌<◌, Bool, true, false, List, Option, Some, None, arith, refl, sym, ◌∙◌, subst}
+use Rattle.std.proofs.Common.{◌≡◌, inl, inr, ℕ, ◌+◌, Bool, true, false, List, Option, Some, None, arith, refl, sym, subst}
 use Rattle.std.proofs.lemmas.Bool.Decides.{eqb_tells}
 use Rattle.brake_base.specs.declared.mask.Mask.{Mask}
 use Rattle.brake_base.specs.declared.stroke.Key.{Key}
@@ -7,20 +7,17 @@ use Rattle.brake_base.specs.declared.stroke.Action.{Action}
 use Rattle.brake_base.specs.declared.stroke.Worth.{Worth}
 use Rattle.brake_base.specs.declared.stroke.Worth.TheVariants.{Cost}
 use Rattle.brake_base.specs.declared.reason.Reason.{Reason}
-use Rattle.brake_base.specs.Masks.{has, union}
+use Rattle.brake_base.specs.Masks.{union}
 use Rattle.brake_base.specs.Worths.{IsAtMost, plus}
-use Rattle.job_setup.specs.Setup.{JobData, bend_count, stage_count}
+use Rattle.job_setup.specs.Setup.{JobData}
 use Rattle.job_setup.specs.StrokeGroup.{group_of}
-use Rattle.handling_cost.specs.StepCost.{IsKeyOf, IsActionAt, attitude_at, key_after}
+use Rattle.handling_cost.specs.StepCost.{IsKeyOf, attitude_at, key_after}
 use Rattle.handling_cost.specs.Bound.{bound_of}
 use Rattle.plan_cert.specs.declared.cert.RowHead.{RowHead}
-use Rattle.plan_cert.specs.Lines.{action_at}
 use Rattle.plan_cert.specs.WellFormed.{IsRow}
 use Rattle.cert_check.specs.RowTable.{IsWorthAt}
 use Rattle.cert_check.specs.RowFaults.{IsTried}
 use Rattle.cert_check.specs.Rows.{ProvesAfter, IsMet, AreMet, noted_of}
-use Rattle.cert_check.specs.Sets.{AreLeads}
-use Rattle.cert_check.proofs.Numbers.{bend_of_number}
 
 module _ (job : JobData) (rows : List RowHead) (key : Key) (cost : ℕ) (worth : Worth) where
   pub proved_by_bound : IsAtMost worth (Cost (cost + bound_of job key)) → ProvesAfter job rows key cost worth
@@ -48,22 +45,6 @@ pub row_key : (job : JobData) (head : RowHead) → IsRow job head → IsKeyOf jo
 row_key job head row = let mask = row.mask in record { mask = omega (arith, mask); attitude = row.attitude; stage = row.stage }
 
 -- ---- the actions of a row one after the other
-module _ (job : JobData) (head : RowHead) (leads : Mask) (are : AreLeads job head.key.mask leads) (number : ℕ) (within : number < 2 * bend_count job * stage_count job) where
-  -- a lead's number is one of an action at the row's key
-  pub lead_is_tried : has leads (action_at (stage_count job) number).bend ≡ true → IsActionAt job head.key (action_at (stage_count job) number)
-  lead_is_tried lead =
-      let range = bend_of_number (bend_count job) (stage_count job) number within in
-      record { first = range.0; last = range.1; stage = range.2; lead = sym (are _ range.0 range.1) ∙ lead }
-
-  pub other_is_not : has leads (action_at (stage_count job) number).bend ≡ false → IsTried job head number → ⊥
-  other_is_not none tried =
-      let at = tried.1 in
-      let lead : has leads (action_at (stage_count job) number).bend ≡ true = are _ at.first at.last ∙ at.lead in
-      absurd cc
-
-pub met_start : (job : JobData) (rows : List RowHead) (head : RowHead) (reasons : List (Option Reason)) → AreMet job rows head reasons 0
-met_start job rows head reasons number less tried = absurd (omega (arith, less))
-
 pub met_on : (job : JobData) (rows : List RowHead) (head : RowHead) (reasons : List (Option Reason)) (count : ℕ) → AreMet job rows head reasons count → (IsTried job head count → IsMet job rows head count (noted_of reasons count))
     → AreMet job rows head reasons (count + 1)
 met_on job rows head reasons count met here number less tried = elim (eqb_tells number count) [

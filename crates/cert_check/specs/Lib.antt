@@ -3,7 +3,7 @@ pub mod Texts
 pub mod StepFaults
 pub mod Steps
 pub mod RowFaults
-pub mod Sets
+pub mod Standing
 pub mod SetActions
 pub mod RowTable
 pub mod Rows

@@ -15,9 +15,17 @@ use crate::row_table::RowTable;
 use crate::set_actions::{NextKey, SetActions};
 use crate::set_table::SetTable;
 use brake_base::{Action, Key, Reason, Worth, action_of};
-use handling_cost::{bound_with, cost_to};
+use handling_cost::cost_to;
 use job_setup::Job;
 use plan_cert::RowHead;
+
+/// A row with its number, and the reasons of its notes by the numbers of their actions.
+#[derive(Clone, Copy)]
+struct NotedRow<'a> {
+    number: u32,
+    head: RowHead,
+    reasons: &'a [Option<Reason>; 144],
+}
 
 /// Refuses a row of which an action isn't accounted for. The reasons are those of its notes, by the
 /// numbers of their actions.
@@ -37,31 +45,34 @@ pub(crate) fn check_row(
     ensures sets { sets.new ≡ sets.old }
     ensures actions { AreActionsOf job.now actions.new }
 {
-    let head = rows.head(row);
-    check_head(job, rows, sets, actions, row, &head, reasons)
+    let row = NotedRow {
+        number: row,
+        head: rows.head(row),
+        reasons,
+    };
+    check_actions(job, rows, sets, actions, &row)
 }
 
-/// The same for the row's key and worth.
-fn check_head(
+/// Refuses the first action of a row that isn't accounted for.
+fn check_actions(
     job: &Job,
     rows: &RowTable,
     sets: &mut SetTable,
     actions: &mut SetActions,
-    row: u32,
-    head: &RowHead,
-    reasons: &[Option<Reason>; 144],
+    row: &NotedRow,
 ) -> Result<(), CheckFault>
     requires rows { rows.now.job ≡ job.now }
     requires sets { sets.old ≡ job.now }
     requires actions { AreActionsOf job.now actions.old }
-    requires head { IsRow job.now head.now }
-    ensures answer { HeadAnswer job.now rows.now.rows row head.now reasons.now result }
+    requires row { IsRow job.now row.now.head }
+    ensures answer { HeadAnswer job.now rows.now.rows row.now.number row.now.head
+        row.now.reasons.now result }
     ensures sets { sets.new ≡ sets.old }
     ensures actions { AreActionsOf job.now actions.new }
 {
-    actions.turn_to(job, sets, head.key.mask);
+    actions.turn_to(job, sets, row.head.key.mask);
     for number in 0..action_count(job) {
-        if let Err(fault) = check_number(job, rows, sets, actions, row, head, number, reasons) {
+        if let Err(fault) = check_number(job, rows, sets, actions, row, number) {
             return Err(fault);
         }
     }
@@ -74,27 +85,24 @@ fn check_number(
     rows: &RowTable,
     sets: &mut SetTable,
     actions: &mut SetActions,
-    row: u32,
-    head: &RowHead,
+    row: &NotedRow,
     number: u8,
-    reasons: &[Option<Reason>; 144],
 ) -> Result<(), CheckFault>
     requires rows { rows.now.job ≡ job.now }
     requires sets { sets.old ≡ job.now }
     requires actions { AreActionsOf job.now actions.old }
-    requires same { actions.old.mask ≡ head.now.key.mask }
-    requires head { IsRow job.now head.now }
+    requires same { actions.old.mask ≡ row.now.head.key.mask }
+    requires row { IsRow job.now row.now.head }
     requires number { number < 2 * bend_count job.now * stage_count job.now }
     requires few { number < 144 }
-    ensures answer { NumberAnswer job.now rows.now.rows row head.now number
-        (noted_of reasons.now number) result }
+    ensures answer { NumberAnswer job.now rows.now.rows row.now.number row.now.head number
+        (noted_of row.now.reasons.now number) result }
     ensures sets { sets.new ≡ sets.old }
     ensures actions { AreActionsOf job.now actions.new }
-    ensures same { actions.new.mask ≡ head.now.key.mask }
+    ensures same { actions.new.mask ≡ row.now.head.key.mask }
 {
-    let noted = noted_at(reasons, number);
     match actions.next(number) {
-        Some(next) => check_action(job, rows, sets, actions, row, head, number, &next, noted),
+        Some(next) => check_action(job, rows, sets, actions, row, number, &next),
         None => Ok(()),
     }
 }
@@ -132,42 +140,42 @@ fn check_action(
     rows: &RowTable,
     sets: &mut SetTable,
     actions: &mut SetActions,
-    row: u32,
-    head: &RowHead,
+    row: &NotedRow,
     number: u8,
     next: &NextKey,
-    noted: Option<Reason>,
 ) -> Result<(), CheckFault>
     requires rows { rows.now.job ≡ job.now }
     requires sets { sets.old ≡ job.now }
     requires actions { AreActionsOf job.now actions.old }
-    requires same { actions.old.mask ≡ head.now.key.mask }
-    requires head { IsRow job.now head.now }
+    requires same { actions.old.mask ≡ row.now.head.key.mask }
+    requires row { IsRow job.now row.now.head }
     requires number { number < 2 * bend_count job.now * stage_count job.now }
-    requires next { IsNext job.now head.now.key.mask (action_at (stage_count job.now) number)
-        next.now }
-    ensures answer { ActionAnswer job.now rows.now.rows row head.now number noted result }
+    requires few { number < 144 }
+    requires next { IsNext job.now row.now.head.key.mask
+        (action_at (stage_count job.now) number) next.now }
+    ensures answer { ActionAnswer job.now rows.now.rows row.now.number row.now.head number
+        (noted_of row.now.reasons.now number) result }
     ensures sets { sets.new ≡ sets.old }
     ensures actions { AreActionsOf job.now actions.new }
-    ensures same { actions.new.mask ≡ head.now.key.mask }
+    ensures same { actions.new.mask ≡ row.now.head.key.mask }
 {
-    match noted {
+    match noted_at(row.reasons, number) {
         Some(reason) => {
-            if actions.holds(job, sets, head.key.mask, number, reason) {
+            if actions.holds(job, sets, row.head.key.mask, number, reason) {
                 Ok(())
             } else {
                 Err(CheckFault::BadReason {
-                    row,
+                    row: row.number,
                     action: number,
                 })
             }
         }
         None => {
-            if is_closed(job, rows, head, number, next) {
+            if is_closed(job, rows, &row.head, number, next) {
                 Ok(())
             } else {
                 Err(CheckFault::NotClosed {
-                    row,
+                    row: row.number,
                     action: number,
                 })
             }
@@ -238,8 +246,8 @@ pub(crate) fn bound_at(job: &Job, sets: &mut SetTable, key: &Key) -> u64
     ensures sets { sets.new ≡ sets.old }
 {
     let _ = job.setup();
-    let facts = sets.facts(job, key.mask);
-    bound_with(job, key.mask, facts.lead_count, facts.way(key.stage))
+    let facts = sets.facts(key.mask);
+    u64::from(facts.bound(key.stage))
 }
 
 /// A worth behind a cost.

@@ -5,13 +5,14 @@ ghost use Rattle.job_setup.specs.Setup.{bend_count, stage_count};
 ghost use Rattle.job_setup.specs.StrokeGroup.{is_lead};
 ghost use Rattle.handling_cost.specs.Plan.{IsReasonFor};
 ghost use Rattle.plan_cert.specs.Lines.{action_at};
-ghost use Rattle.cert_check.specs.Sets.{IsFacts};
+ghost use Rattle.set_facts.specs.Facts.{IsFacts};
 ghost use Rattle.cert_check.specs.SetActions.{IsNext, IsNextOf, AreActionsOf};
 
 use crate::rows::{action_at, action_count, bound_at};
-use crate::set_table::{SetFacts, SetTable};
+use crate::set_table::SetTable;
 use brake_base::{Action, Key, Mask, Reason};
 use job_setup::{Job, group};
+use set_facts::SetFacts;
 
 /// The key to which an action leads, and what every rest from there costs at least.
 #[derive(Clone, Copy, Debug)]
@@ -92,7 +93,7 @@ fn all_next(job: &Job, sets: &mut SetTable, mask: Mask) -> [Option<NextKey>; 144
         (slice_index_or result number None) }
     ensures sets { sets.new ≡ sets.old }
 {
-    let facts = sets.facts(job, mask);
+    let facts = sets.facts(mask);
     let mut next = [None; 144];
     for number in 0..action_count(job) {
         next[usize::from(number)] = next_of(job, sets, &facts, mask, number);

@@ -1,11 +1,10 @@
 use Rattle.std.proofs.Common.{Option, None, sym, ◌∙◌, subst}
 use Rattle.brake_base.specs.declared.mask.Mask.{Mask}
-use Rattle.brake_base.specs.declared.reason.Reason.{Reason}
 use Rattle.job_setup.specs.Setup.{stage_count}
 use Rattle.plan_cert.specs.Lines.{action_at}
 use Rattle.cert_check.specs.declared.set_actions.NextKey.{NextKey}
 use Rattle.cert_check.specs.SetActions.{IsNext, IsNextOf}
-use Rattle.cert_check.specs.Rows.{NumberAnswer}
+use Rattle.cert_check.specs.Rows.{noted_of}
 use Rattle.cert_check.proofs.ActionLemmas.{number_answer, tried_at}
 use Rattle.cert_check.proofs.rows.check_number.Goals as goal
 
@@ -19,13 +18,12 @@ check_action-requires-clause-next c =
 pub returns-in-Some-clause-answer : goal.returns-in-Some-clause-answer
 returns-in-Some-clause-answer c =
     let job = c.args.job.now in
-    let rows = c.args.rows.now.rows in
-    let head = c.args.head.now in
+    let row = c.args.row.now in
     let action = action_at (stage_count job) c.args.number in
     let at = subst (λ (next : Option NextKey). IsNextOf job c.args.actions.now.mask action next) (sym c.next.ensures ∙ c.in-Some.is) (c.requires.actions.next c.args.number c.requires.number) in
     let next = subst (λ (mask : Mask). IsNext job mask action c.in-Some.next) c.requires.same at in
-    subst (λ (noted : Option Reason). NumberAnswer job rows c.args.row head c.args.number noted c.check_action.result) c.noted_at-noted.ensures
-    (number_answer job rows c.args.row head c.args.number c.noted_at-noted.result c.check_action.result (c.requires.number, tried_at job head.key c.args.number c.requires.number next.lead) c.check_action.ensures.answer)
+    number_answer job c.args.rows.now.rows row.number row.head c.args.number (noted_of row.reasons.now c.args.number) c.check_action.result
+    (c.requires.number, tried_at job row.head.key c.args.number c.requires.number next.lead) c.check_action.ensures.answer
 
 pub returns-in-None-clause-answer : goal.returns-in-None-clause-answer
 returns-in-None-clause-answer c = λ tried.

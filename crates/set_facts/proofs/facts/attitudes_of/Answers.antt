@@ -2,8 +2,8 @@ use Rattle.std.proofs.Common.{◌≤◌, ◌∙◌, ap, arith}
 use Rattle.brake_base.specs.declared.stroke.Back.TheVariants.{Parent, Child}
 use Rattle.fold_boxes.specs.Shapes.{ShapeData}
 use Rattle.fold_boxes.specs.Pose.{attitude_of}
-use Rattle.cert_check.proofs.SetLemmas.{held_more}
-use Rattle.cert_check.proofs.set_table.attitudes_of.Goals as goal
+use Rattle.set_facts.proofs.Attitudes.{held_more}
+use Rattle.set_facts.proofs.facts.attitudes_of.Goals as goal
 
 pub loop-bend-preserved : goal.loop-bend-preserved
 loop-bend-preserved c =

@@ -1,8 +1,8 @@
 use Rattle.std.proofs.Common.{◌+◌, length, arith, sym, ◌∙◌, ap, subst}
 use Rattle.fold_boxes.specs.Shapes.{ShapeData}
-use Rattle.cert_check.proofs.SetLemmas.{HasLeadsBelow, leads_start, leads_more, leads_less}
-use Rattle.cert_check.proofs.set_table.leads_of.Goals.{then-is_lead, else-is_lead}
-use Rattle.cert_check.proofs.set_table.leads_of.Goals as goal
+use Rattle.set_facts.proofs.Leads.{HasLeadsBelow, leads_start, leads_more, leads_less}
+use Rattle.set_facts.proofs.facts.leads_of.Goals.{then-is_lead, else-is_lead}
+use Rattle.set_facts.proofs.facts.leads_of.Goals as goal
 
 pub loop-bend-init : goal.loop-bend-init
 loop-bend-init c = leads_start c.args.job.now c.args.mask c.empty-leads.result c.empty-leads.ensures.value

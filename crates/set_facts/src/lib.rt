@@ -1,0 +1,9 @@
+//! What all keys of one set of folded bends have in common, found once for each set: the leads of the
+//! strokes that may come next, the bound at each stage, and how the part is held in each stroke.
+#![tactic(auto)]
+
+mod facts;
+mod table;
+
+pub use facts::SetFacts;
+pub use table::FactTable;
