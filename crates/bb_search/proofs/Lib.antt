@@ -8,7 +8,7 @@ pub mod CallLemmas
 pub mod OutcomeLemmas
 pub mod PlanLemmas
 pub mod FoldLemmas
-pub mod SetLemmas
+pub mod TestLemmas
 pub mod RowOrders
 pub mod NoteLists
 pub mod Ranges

@@ -13,7 +13,7 @@ use Rattle.job_setup.specs.ValidJob.{IsJob}
 use Rattle.handling_cost.specs.StepCost.{IsKeyOf, IsActionAt, IsFull, key_after, cost_of}
 use Rattle.handling_cost.specs.Plan.{IsLegal, IsRest, IsPlan, total, start}
 use Rattle.row_pool.specs.Rows.{Pool, PoolRow, keys, worth_at, IsPool}
-use Rattle.bb_search.specs.Sets.{IsFirstGauge}
+use Rattle.bb_search.specs.Tested.{IsFirstGauge}
 use Rattle.bb_search.specs.Onward.{IsOnward}
 use Rattle.bb_search.specs.Orders.{order_of, AreOrders}
 use Rattle.bb_search.specs.Outcomes.{HaveFirstGauges}

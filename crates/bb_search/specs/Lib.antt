@@ -1,7 +1,7 @@
 pub mod Table
 pub mod Orders
 pub mod Candidates
-pub mod Sets
+pub mod Tested
 pub mod Settling
 pub mod Onward
 pub mod Outcomes

@@ -13,7 +13,7 @@ use Rattle.handling_cost.specs.Reach.{IsReached, IsNode, ReachIsAbove}
 use Rattle.row_pool.specs.Rows.{Pool, PoolRow, keys}
 use Rattle.bb_search.specs.declared.outcome.Outcome.{Outcome}
 use Rattle.bb_search.specs.declared.outcome.Outcome.TheVariants.{Best, Blocked, Spent}
-use Rattle.bb_search.specs.Sets.{IsFirstGauge}
+use Rattle.bb_search.specs.Tested.{IsFirstGauge}
 use Rattle.bb_search.specs.Table.{HasRow, HasNote, AreNoted}
 
 -- the gauge of each step is the first that is legal at the key to which the steps before it lead

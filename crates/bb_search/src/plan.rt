@@ -6,7 +6,7 @@ ghost use Rattle.job_setup.specs.Setup.{shape_of};
 ghost use Rattle.job_setup.specs.ValidJob.{IsJob};
 ghost use Rattle.handling_cost.specs.StepCost.{IsKeyOf, IsActionAt, attitude_at, key_after};
 ghost use Rattle.handling_cost.specs.Plan.{IsLegal, IsPlan, total, start};
-ghost use Rattle.bb_search.specs.Sets.{IsFirstGauge};
+ghost use Rattle.bb_search.specs.Tested.{IsFirstGauge};
 ghost use Rattle.bb_search.specs.Settling.{IsKnown, IsSound};
 ghost use Rattle.bb_search.specs.Onward.{IsOnward, NoneGoesOn};
 ghost use Rattle.bb_search.specs.Orders.{AreOrders};

@@ -1,8 +1,8 @@
-use Rattle.std.proofs.Common.{◌∙◌, arith, sym, subst}
+use Rattle.std.proofs.Common.{◌∙◌, sym, subst}
 use Rattle.handling_cost.proofs.Actions.{lead_is}
 use Rattle.bb_search.specs.declared.set_table.Tested.{Tested}
-use Rattle.bb_search.specs.Sets.{IsTested}
-use Rattle.bb_search.proofs.SetLemmas.{refused, has_gauge, free}
+use Rattle.bb_search.specs.Tested.{IsTested}
+use Rattle.bb_search.proofs.TestLemmas.{refused, has_gauge, free}
 use Rattle.bb_search.proofs.set_table.SetTable.test.Goals.{in-Some, in-None}
 use Rattle.bb_search.proofs.set_table.SetTable.test.Goals as goal
 

@@ -1,5 +1,0 @@
-use Rattle.bb_search.proofs.SetLemmas.{AreHeld}
-use Rattle.bb_search.proofs.set_table.attitudes_of.Given as goal
-
-abbrev pub invariant-loop-bend : goal.invariant-loop-bend
-invariant-loop-bend l = AreHeld l.job l.mask l.bend l.attitudes
