@@ -92,18 +92,6 @@ pub first_refused : (text : List ℕ) (fault : CertFault) → slice_get (items C
 unfolding cert_file_of with_job
 first_refused text fault e = ap (λ (a : List (Result Item CertFault)). with_job text a) (left_is (items Certificate text) 0 (Err fault) e)
 
-pub first_other : (text : List ℕ) (item : Item) → slice_get (items Certificate text) 0 ≡ Some (Ok item) → ((job : JobData) → item ≡ given.Job job → ⊥) → cert_file_of text ≡ Err faults.Unended
-unfolding cert_file_of with_job
-first_other text item e other = ap (λ (a : List (Result Item CertFault)). with_job text a) (left_is (items Certificate text) 0 (Ok item) e) ∙ none_of item other
-  where
-    none_of : (item : Item) → ((job : JobData) → item ≡ given.Job job → ⊥) → with_job text (Ok item ∷ drop 1 (items Certificate text)) ≡ Err faults.Unended
-    none_of (given.Job job) other = absurd (other job refl)
-    none_of (given.Claim claim) other = refl
-    none_of (given.Step step) other = refl
-    none_of (given.Row row) other = refl
-    none_of (given.Note action reason) other = refl
-    none_of given.End other = refl
-
 -- a job, and the certificate behind it
 pub file_of : (text : List ℕ) (job : JobData) (more : List (Result Item CertFault)) (cert : CertData) → items Certificate text ≡ Ok (given.Job job) ∷ more → cert_of no_cert more ≡ Ok cert
     → cert_file_of text ≡ Ok (record { job = job; cert = cert; version = version_in text })
@@ -123,10 +111,6 @@ pub begins_refused : (r : Reading) (fault : CertFault) → r.kind ≡ Certificat
 begins_refused r fault kind start e =
     first_refused r.text fault (subst (λ k. slice_get (items k r.text) 0 ≡ Some (Err fault)) kind (subst (λ n. slice_get (items r.kind r.text) n ≡ Some (Err fault)) start e))
 
-pub begins_other : (r : Reading) (item : Item) → r.kind ≡ Certificate → r.answered ≡ 0 → slice_get (items r.kind r.text) r.answered ≡ Some (Ok item) → ((job : JobData) → item ≡ given.Job job → ⊥) → cert_file_of r.text ≡ Err faults.Unended
-begins_other r item kind start e other =
-    first_other r.text item (subst (λ k. slice_get (items k r.text) 0 ≡ Some (Ok item)) kind (subst (λ n. slice_get (items r.kind r.text) n ≡ Some (Ok item)) start e)) other
-
 pub begins_job : (r behind : Reading) (item : Item) (job : JobData) → slice_get (items r.kind r.text) r.answered ≡ Some (Ok item) → item ≡ given.Job job → behind ≡ record r { answered = r.answered + 1 } → BeginsWith r (Ok job) behind
 begins_job r behind item job e is after =
     let first : slice_get (items r.kind r.text) r.answered ≡ Some (Ok (given.Job job)) = subst (λ i. slice_get (items r.kind r.text) r.answered ≡ Some (Ok i)) is e in
@@ -139,11 +123,6 @@ collects r behind cert more item true e is adds after = ended cert (items r.kind
 collects r behind cert more item false e is adds after =
     subst (λ b. Collects (Ok false) cert r more b) (sym after)
     (added cert (items r.kind r.text) r.answered item e (sym is) ∙ ap (λ (c : CertData). cert_of c (drop (r.answered + 1) (items r.kind r.text))) (sym adds), goes_on r.kind r.text r.answered item e (sym is))
-
--- one item more is collected
-pub collects_on : (first old new : Reading) (cert before after : CertData) (last : Bool) → Collects (Ok false) cert first before old → Collects (Ok last) before old after new → Collects (Ok last) cert first after new
-collects_on first old new cert before after true so_far more = so_far.0 ∙ more
-collects_on first old new cert before after false so_far more = (so_far.0 ∙ more.0, more.1)
 
 -- a certificate that is read, and one that is refused behind its job
 pub read_ok : (text : List ℕ) (job : JobData) (behind : Reading) (start cert : CertData) (version : ℕ) → BeginsWith (record { kind = Certificate; text = text; answered = 0 }) (Ok job) behind → start ≡ no_cert

@@ -23,7 +23,10 @@ use Rattle.plan_cert.specs.declared.section.PlanLine.TheVariants as kinds
 use Rattle.cert_words.specs.LineWords.{◌>>=◌}
 use Rattle.cert_words.specs.PlanWords.{step_in, claim_in, row_in, note_in}
 use Rattle.plan_cert.specs.JobTest.{is_job}
-use Rattle.plan_cert.specs.JobReading.{JobLinesData, take_line, no_lines, format_of, job_of, keyword_in, behind_keyword, only_if}
+use Rattle.plan_cert.specs.LineReading.{keyword_in, behind_keyword, only_if}
+use Rattle.plan_cert.specs.Formats.{format_of}
+use Rattle.plan_cert.specs.JobLines.{JobLinesData, no_lines, job_of}
+use Rattle.plan_cert.specs.JobReading.{take_line}
 use Rattle.plan_cert.specs.PlanReading.{behind_claim, may_leave, may_be_row, take_claim, step_behind, take_step, row_behind, take_row, noted, note_behind, take_note, plan_line_of, take_plan_words, take_plan_line, first_section, is_end_line}
 use Rattle.plan_cert.specs.Items.{next_number, is_over, end_before, end_or_fault, plan_items, judged_items, may_be_judged, items_behind, job_items, items_of_lines}
 use Rattle.plan_cert.specs.CertReading.{is_last}

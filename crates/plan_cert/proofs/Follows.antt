@@ -24,7 +24,7 @@ use Rattle.plan_cert.specs.declared.section.PlanLine.{PlanLine}
 use Rattle.plan_cert.specs.declared.section.PlanLine.TheVariants as kinds
 use Rattle.plan_cert.specs.Lines.{action_at}
 use Rattle.plan_cert.specs.WellFormed.{IsWorth, IsActionOf, IsStep, IsRow, IsReason}
-use Rattle.plan_cert.specs.JobReading.{only_if}
+use Rattle.plan_cert.specs.LineReading.{only_if}
 use Rattle.plan_cert.specs.PlanReading.{is_before, behind_claim, are_enough, may_be_row, take_claim, step_behind, take_step, row_behind, take_row, noted, note_behind, take_note, plan_line_of, take_plan_words, take_plan_line}
 use Rattle.plan_cert.proofs.Actions.{action_is, few_actions}
 use Rattle.plan_cert.proofs.PlanRanges.{Each, Any, each_any, each_then, claim_fits, step_fits, RowFits, row_fits, NoteWordsFit, note_fits}

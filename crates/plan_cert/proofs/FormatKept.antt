@@ -7,13 +7,20 @@ use Rattle.machine_file.specs.declared.machine.Costs.{Costs}
 use Rattle.cert_words.specs.LineWords.{◌>>=◌}
 use Rattle.cert_words.specs.JobWords.{number_in, pair_in, rect_in, fixed_in, part_in, gauge_in, costs_in, costs_of, gang_of, punch_in, die_in, pieces_in}
 use Rattle.plan_cert.specs.FirstVersion.{HasNoLoad}
-use Rattle.plan_cert.specs.JobReading.{JobLinesData, only_if, has_loads, has_room, is_gauge, is_cost, is_gang, is_pieces, is_of_punch, keyword_in, behind_keyword, face_behind, with_costs, with_gang, with_stage, with_pieces, behind_pieces, with_load, with_bed, with_die, with_die_box, with_face, with_force, with_frame, with_gauge, with_lower, with_part, with_punch, with_punch_box, with_range, with_uncovered, with_upper, may_take_bed, may_take_die, may_take_die_box, may_take_face, may_take_force, may_take_frame, may_take_gauge, may_take_lower, may_take_part, may_take_punch, may_take_punch_box, may_take_stage, may_take_uncovered, may_take_upper, may_take_gang, may_take_pieces, may_take_load, take_part, take_face, take_bed, take_frame, take_upper, take_lower, take_uncovered, take_gauge, take_force, take_stage, take_punch, take_punch_box, take_die_box, take_die, take_cost, take_gang, take_box, take_pieces, take_load, job_line_of, take_words, take_line}
+use Rattle.plan_cert.specs.LineReading.{only_if, keyword_in, behind_keyword}
+use Rattle.plan_cert.specs.Formats.{has_loads}
+use Rattle.plan_cert.specs.LineKinds.{is_gauge, is_cost, is_gang, is_pieces, job_line_behind}
+use Rattle.plan_cert.specs.JobLines.{JobLinesData, has_room}
+use Rattle.plan_cert.specs.PartReading.{face_behind, with_face, with_part, may_take_face, may_take_part, take_part, take_face}
+use Rattle.plan_cert.specs.FixtureReading.{with_bed, with_frame, with_lower, with_upper, may_take_bed, may_take_frame, may_take_lower, may_take_upper, take_bed, take_frame, take_upper, take_lower}
+use Rattle.plan_cert.specs.RuleReading.{with_costs, with_gang, with_force, with_gauge, with_uncovered, may_take_force, may_take_gauge, may_take_uncovered, may_take_gang, take_uncovered, take_gauge, take_force, take_cost, take_gang}
+use Rattle.plan_cert.specs.StageReading.{with_stage, with_pieces, behind_pieces, with_load, with_range, may_take_stage, may_take_pieces, may_take_load, take_stage, take_pieces, take_load}
+use Rattle.plan_cert.specs.ToolReading.{with_die, with_die_box, with_punch, with_punch_box, may_take_die, may_take_die_box, may_take_punch, may_take_punch_box, take_punch, take_punch_box, take_die_box, take_die}
+use Rattle.plan_cert.specs.JobReading.{take_words, take_line}
 use Rattle.plan_cert.specs.declared.format.Format.{Format}
-use Rattle.plan_cert.specs.declared.job_reading.LineKind.{LineKind}
-use Rattle.plan_cert.specs.declared.job_reading.LineKind.TheVariants as kinds
+use Rattle.plan_cert.specs.declared.line_kind.LineKind.{LineKind}
+use Rattle.plan_cert.specs.declared.line_kind.LineKind.TheVariants as kinds
 use Rattle.job_setup.specs.Setup.{StageData}
-use Rattle.plan_cert.specs.declared.job_line.JobLine.{JobLine}
-use Rattle.plan_cert.specs.declared.job_line.JobLine.TheVariants as lines
 use Rattle.plan_cert.proofs.PlanRanges.{Each, each_weaker}
 
 -- the format is the same
@@ -43,10 +50,6 @@ kept_by : {A : Type 0} (s : JobLinesData) (b : Bool) (x : Option A) (f : A → J
 kept_by s true (Some a) f same = same a refl
 kept_by s true None f same = tt
 kept_by s false x f same = tt
-
-one_of : (s : JobLinesData) (b : Bool) (x y : Option JobLinesData) → Each (Keeps s) x → Each (Keeps s) y → Each (Keeps s) (if b then x else y)
-one_of s true x y one other = one
-one_of s false x y one other = other
 
 kept_part : (s : JobLinesData) (text : List ℕ) → Each (Keeps s) (take_part s text)
 unfolding take_part with_part
@@ -126,10 +129,6 @@ kept_gang : (s : JobLinesData) (text : List ℕ) → Each (Keeps s) (take_gang s
 unfolding take_gang
 kept_gang s text = kept_by s (may_take_gang s) (number_in text) (λ n. with_gang s (gang_of n)) (λ n may. with_loads s (is_cost s.last) (with_gang s (gang_of n)) may (same_gang s (gang_of n)))
 
-kept_box : (s : JobLinesData) (text : List ℕ) → Each (Keeps s) (take_box s text)
-unfolding take_box
-kept_box s text = one_of s (is_of_punch s.last) (take_punch_box s text) (take_die_box s text) (kept_punch_box s text) (kept_die_box s text)
-
 keeps_pieces : (s : JobLinesData) (pieces : List ℤ) → Keeps s (behind_pieces (with_pieces s pieces))
 unfolding with_pieces with_stage
 keeps_pieces s pieces = by_loads (has_loads (with_pieces s pieces).format)
@@ -160,31 +159,33 @@ kept_load : (s : JobLinesData) (text : List ℕ) → Each (Keeps s) (take_load s
 unfolding take_load
 kept_load s text = kept_by s (may_take_load s) (pair_in text) (λ load. with_stage (with_load s load)) (λ load may. with_loads s (is_pieces s.last) (with_stage (with_load s load)) ((and_parts (has_loads s.format && is_pieces s.last) (has_room s) may).0) (same_load s load))
 
-kept_words : (s : JobLinesData) (kind : JobLine) (text : List ℕ) → Each (Keeps s) (take_words s kind text)
+kept_words : (s : JobLinesData) (kind : LineKind) (text : List ℕ) → Each (Keeps s) (take_words s kind text)
 unfolding take_words
-kept_words s lines.Part text = kept_part s text
-kept_words s lines.Face text = kept_face s text
-kept_words s lines.Bed text = kept_bed s text
-kept_words s lines.Frame text = kept_frame s text
-kept_words s lines.Upper text = kept_upper s text
-kept_words s lines.Lower text = kept_lower s text
-kept_words s lines.Uncovered text = kept_uncovered s text
-kept_words s lines.Gauge text = kept_gauge s text
-kept_words s lines.Cost text = kept_cost s text
-kept_words s lines.Gang text = kept_gang s text
-kept_words s lines.Force text = kept_force s text
-kept_words s lines.Stage text = kept_stage s text
-kept_words s lines.Punch text = kept_punch s text
-kept_words s lines.Box text = kept_box s text
-kept_words s lines.Die text = kept_die s text
-kept_words s lines.Pieces text = kept_pieces s text
-kept_words s lines.Load text = kept_load s text
+kept_words s kinds.Format text = tt
+kept_words s kinds.Part text = kept_part s text
+kept_words s kinds.Face text = kept_face s text
+kept_words s kinds.Bed text = kept_bed s text
+kept_words s kinds.Frame text = kept_frame s text
+kept_words s kinds.Upper text = kept_upper s text
+kept_words s kinds.Lower text = kept_lower s text
+kept_words s kinds.Uncovered text = kept_uncovered s text
+kept_words s kinds.Gauge text = kept_gauge s text
+kept_words s kinds.Cost text = kept_cost s text
+kept_words s kinds.Gang text = kept_gang s text
+kept_words s kinds.Force text = kept_force s text
+kept_words s kinds.Stage text = kept_stage s text
+kept_words s kinds.Punch text = kept_punch s text
+kept_words s kinds.PunchBox text = kept_punch_box s text
+kept_words s kinds.Die text = kept_die s text
+kept_words s kinds.DieBox text = kept_die_box s text
+kept_words s kinds.Pieces text = kept_pieces s text
+kept_words s kinds.Load text = kept_load s text
 
 pub keeps_line : (s : JobLinesData) (line : List ℕ) → Each (Keeps s) (take_line s line)
 unfolding take_line
-keeps_line s line = by_kind (job_line_of (keyword_in line))
+keeps_line s line = by_kind (job_line_behind s.last (keyword_in line))
   where
-    by_kind : (kind : Option JobLine) → Each (Keeps s) (kind >>= λ k. take_words s k (behind_keyword line))
+    by_kind : (kind : Option LineKind) → Each (Keeps s) (kind >>= λ k. take_words s k (behind_keyword line))
     by_kind None = tt
     by_kind (Some kind) = kept_words s kind (behind_keyword line)
 

@@ -13,11 +13,13 @@ use Rattle.job_setup.specs.Setup.{StageData, SetupData}
 use Rattle.plan_cert.specs.CertText.{is_of_version1, lines_of_format}
 use Rattle.plan_cert.specs.declared.format.Format.{Format}
 use Rattle.plan_cert.specs.declared.format.Format.TheVariants.{Version1, Version2, Table}
-use Rattle.plan_cert.specs.declared.job_reading.LineKind.{LineKind}
-use Rattle.plan_cert.specs.declared.job_reading.LineKind.TheVariants as kinds
+use Rattle.plan_cert.specs.declared.line_kind.LineKind.{LineKind}
+use Rattle.plan_cert.specs.declared.line_kind.LineKind.TheVariants as kinds
 use Rattle.plan_cert.specs.Lines.{CertLine, part_line, face_line, bed_line, frame_line, upper_line, lower_line, uncovered_line, gauge_line, gang_line, force_line, stage_line, punch_line, die_line, box_line, pieces_line, load_line}
 use Rattle.plan_cert.specs.JobText.{part_lines, costs_line, gang_number}
-use Rattle.plan_cert.specs.JobReading.{has_loads, begun_stage, begins_job, is_face, may_be_frame, may_be_upper, may_be_lower, is_uncovered, is_gauge, is_cost, is_gang, is_complete, is_stage, is_of_punch, is_of_die, is_pieces}
+use Rattle.plan_cert.specs.Formats.{has_loads}
+use Rattle.plan_cert.specs.LineKinds.{begins_job, is_face, may_be_frame, may_be_upper, may_be_lower, is_uncovered, is_gauge, is_cost, is_gang, is_complete, is_stage, is_of_punch, is_of_die, is_pieces}
+use Rattle.plan_cert.specs.JobLines.{begun_stage}
 use Rattle.plan_cert.proofs.FormatLines.{lines_append, lines_kept}
 use Rattle.plan_cert.proofs.LineKinds.{rules_end, stage_end, from_begin, from_face, from_frame, from_upper, from_lower, from_uncovered, from_gauge, from_cost, from_gang, from_complete, from_stage, from_punch, from_die, from_pieces}
 use Rattle.plan_cert.proofs.JobLinesShown.{shown, Fresh, Grows, part_grows, face_grows, bed_grows, frame_grows, upper_grows, lower_grows, uncovered_grows, gauge_grows, cost_grows, gang_grows, force_grows, stage_grows, punch_grows, punch_box_grows, die_grows, die_box_grows, pieces_grows, load_grows}

@@ -13,7 +13,9 @@ use Rattle.plan_cert.specs.declared.item.CertFault.{CertFault}
 use Rattle.plan_cert.specs.declared.item.CertFault.TheVariants as faults
 use Rattle.plan_cert.specs.declared.section.Section.{Section}
 use Rattle.plan_cert.specs.JobTest.{is_job}
-use Rattle.plan_cert.specs.JobReading.{JobLinesData, take_line, no_lines, format_of, job_of}
+use Rattle.plan_cert.specs.Formats.{format_of}
+use Rattle.plan_cert.specs.JobLines.{JobLinesData, no_lines, job_of}
+use Rattle.plan_cert.specs.JobReading.{take_line}
 use Rattle.plan_cert.specs.PlanReading.{first_section}
 use Rattle.plan_cert.specs.Items.{lines_in, next_number, is_over, plan_item, plan_items, judged_items, may_be_judged, items_behind, job_items, items_of_lines, items}
 

@@ -1,9 +1,9 @@
 -- The answers up to the job.
 use Rattle.std.proofs.Common.{◌≡◌, ℕ, ◌<◌, Bool, true, false, not, List, [], ◌∷◌, length, Option, Some, None, Result, Ok, Err, refl, sym, ap, subst, ◌∙◌, arith}
 use Rattle.std.specs.Prelude.{if◌then◌else◌, ◌&&◌, is_some}
-use Rattle.std.proofs.lemmas.Bool.{and_parts, false_from_ne_true, false≢true}
+use Rattle.std.proofs.lemmas.Bool.{false_from_ne_true, false≢true}
 use Rattle.job_setup.specs.Setup.{JobData}
-use Rattle.job_setup.specs.ValidJob.{IsJob, IsJobFrom}
+use Rattle.job_setup.specs.ValidJob.{IsJobFrom}
 use Rattle.plan_cert.specs.declared.format.Kind.{Kind}
 use Rattle.plan_cert.specs.declared.format.Format.{Format}
 use Rattle.plan_cert.specs.declared.item.Item.{Item}
@@ -13,10 +13,12 @@ use Rattle.plan_cert.specs.declared.item.CertFault.TheVariants as faults
 use Rattle.plan_cert.specs.declared.stand.Stand.{Stand}
 use Rattle.plan_cert.specs.JobTest.{is_job}
 use Rattle.plan_cert.specs.declared.job_reading.JobLines.{JobLines}
-use Rattle.plan_cert.specs.JobReading.{Takes, job_lines_data, JobLinesData, take_line, no_lines, format_of, job_of}
+use Rattle.plan_cert.specs.Formats.{format_of}
+use Rattle.plan_cert.specs.JobLines.{Takes, job_lines_data, JobLinesData, no_lines, job_of}
+use Rattle.plan_cert.specs.JobReading.{take_line}
 use Rattle.plan_cert.specs.PlanReading.{first_section}
 use Rattle.plan_cert.specs.Items.{lines_in, next_number, may_be_judged, judged_items, plan_items, items_behind, job_items, items_of_lines, items}
-use Rattle.plan_cert.specs.Reading.{Gives, GivesJob, IsJudged, Stops}
+use Rattle.plan_cert.specs.Reading.{Gives, IsJudged, Stops}
 use Rattle.plan_cert.proofs.JobDecided.{job_decided}
 use Rattle.plan_cert.proofs.WholeLines.{some_line}
 
@@ -42,9 +44,6 @@ stops_any lines line (next ∷ more) e = e
 
 pub stops : (lines : JobLinesData) (line text behind : List ℕ) → lines_in text ≡ line ∷ lines_in behind → take_line lines line ≡ None → Stops lines (lines_in text)
 stops lines line text behind cut e = subst (λ ls. Stops lines ls) (sym cut) (stops_any lines line (lines_in behind) e)
-
-pub stops_at_end : (lines : JobLinesData) (text : List ℕ) → lines_in text ≡ text ∷ [] → Stops lines (lines_in text)
-stops_at_end lines text cut = subst (λ ls. Stops lines ls) (sym cut) tt
 
 stop_any : (lines : JobLinesData) (line : List ℕ) (rest : List (List ℕ)) → 0 < length rest → Stops lines (line ∷ rest) → take_line lines line ≡ None
 stop_any lines line [] some stop = absurd (omega arith)
@@ -93,25 +92,12 @@ unfolding items
 first_good kind format line text rest given stand cut e gives =
     answers_like (job_items 2 (no_lines format) (lines_in rest)) (items kind text) given stand (ap (λ (ls : List (List ℕ)). items_of_lines kind ls) cut ∙ good_any kind format line (lines_in rest) (some_line rest) e) gives
 
--- the line behind the job lines may not follow them
-pub not_judged : (n : ℕ) (lines : JobLinesData) (line : List ℕ) (rest : List (List ℕ)) → may_be_judged lines line ≡ false → items_behind n lines line rest ≡ Err (faults.BadLine n) ∷ []
-not_judged n lines line rest may = ap (λ (b : Bool). if b then judged_items n lines (line ∷ rest) else Err (faults.BadLine n) ∷ []) may
-
+-- the line may follow the job lines, and they are a valid job, or not
 pub judged_by : (n : ℕ) (lines : JobLinesData) (line : List ℕ) (rest : List (List ℕ)) (valid : Bool) → may_be_judged lines line ≡ true → (lines.is_sound && is_job (job_of lines)) ≡ valid
     → items_behind n lines line rest ≡ (if valid then Ok (given.Job (job_of lines)) ∷ plan_items lines.format (job_of lines) n (first_section lines.format) (line ∷ rest) else Err faults.BadJob ∷ [])
 judged_by n lines line rest valid may is =
     ap (λ (b : Bool). if b then judged_items n lines (line ∷ rest) else Err (faults.BadLine n) ∷ []) may
     ∙ ap (λ (b : Bool). if b then Ok (given.Job (job_of lines)) ∷ plan_items lines.format (job_of lines) n (first_section lines.format) (line ∷ rest) else Err faults.BadJob ∷ []) is
-
--- it may, and they are a valid job, or not
-pub judged_some : (n : ℕ) (lines : JobLinesData) (line : List ℕ) (rest : List (List ℕ)) (job : JobData) → may_be_judged lines line ≡ true → IsJudged (Some job) lines → GivesJob lines n (line ∷ rest) (Ok job) (items_behind n lines line rest)
-judged_some n lines line rest job may is = (
-  judged_by n lines line rest true may is.1 ∙ ap (λ (j : JobData). Ok (given.Job j) ∷ plan_items lines.format j n (first_section lines.format) (line ∷ rest)) (sym is.0),
-  subst (λ j. IsJob j) (sym is.0) ((job_decided (job_of lines)).0 ((and_parts lines.is_sound (is_job (job_of lines)) is.1).1)),
-)
-
-pub judged_none : (n : ℕ) (lines : JobLinesData) (line : List ℕ) (rest : List (List ℕ)) → may_be_judged lines line ≡ true → IsJudged None lines → items_behind n lines line rest ≡ Err faults.BadJob ∷ []
-judged_none n lines line rest may is = judged_by n lines line rest false may is
 
 -- what `job_from` says of the values
 pub judged : (lines : JobLinesData) (job : Option JobData) → lines.is_sound ≡ true → IsJobFrom job (job_of lines) → IsJudged job lines
@@ -120,9 +106,6 @@ judged lines (Some job) sound from =
     (from.0, ap (λ (b : Bool). b && is_job (job_of lines)) sound ∙ valid)
 judged lines None sound none =
     ap (λ (b : Bool). b && is_job (job_of lines)) sound ∙ false_from_ne_true (is_job (job_of lines)) (λ t. none ((job_decided (job_of lines)).0 t))
-
-pub unsound : (lines : JobLinesData) → lines.is_sound ≡ false → IsJudged None lines
-unsound lines no_sound = ap (λ (b : Bool). b && is_job (job_of lines)) no_sound
 
 -- a line that was taken
 pub takes_some : (result : Option (Unit {0})) (old new : JobLines) (there : Option JobLinesData) (none : Bool) → Takes result old new there → is_some result ≡ not none → none ≡ false → there ≡ Some (job_lines_data new)

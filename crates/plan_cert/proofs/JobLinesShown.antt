@@ -11,11 +11,12 @@ use Rattle.machine_file.specs.declared.machine.Costs.{Costs}
 use Rattle.tool_library.specs.Tools.{PunchData, DieData}
 use Rattle.job_setup.specs.Setup.{StageData, SetupData}
 use Rattle.plan_cert.specs.declared.format.Format.TheVariants.{Version2}
-use Rattle.plan_cert.specs.declared.job_reading.LineKind.{LineKind}
-use Rattle.plan_cert.specs.declared.job_reading.LineKind.TheVariants as kinds
+use Rattle.plan_cert.specs.declared.line_kind.LineKind.{LineKind}
+use Rattle.plan_cert.specs.declared.line_kind.LineKind.TheVariants as kinds
 use Rattle.plan_cert.specs.Lines.{CertLine, part_line, face_line, bed_line, frame_line, upper_line, lower_line, uncovered_line, gauge_line, gang_line, force_line, stage_line, punch_line, die_line, box_line, pieces_line, load_line}
 use Rattle.plan_cert.specs.JobText.{part_lines, fixture_lines, rule_lines, punch_lines, die_lines, stage_lines, costs_line, gang_number}
-use Rattle.plan_cert.specs.JobReading.{begun_stage, begins_job, is_face, may_be_frame, may_be_upper, may_be_lower, is_uncovered, is_gauge, is_cost, is_gang, is_complete, is_stage, is_of_punch, is_of_die, is_pieces}
+use Rattle.plan_cert.specs.LineKinds.{begins_job, is_face, may_be_frame, may_be_upper, may_be_lower, is_uncovered, is_gauge, is_cost, is_gang, is_complete, is_stage, is_of_punch, is_of_die, is_pieces}
+use Rattle.plan_cert.specs.JobLines.{begun_stage}
 use Rattle.plan_cert.proofs.LineKinds.{from_begin, from_face, from_frame, from_upper, from_lower, from_uncovered, from_gauge, from_cost, from_gang, from_complete, from_stage, from_punch, from_die, from_pieces}
 
 -- the lines up to the fixtures, up to the rules, and up to the stages that are complete

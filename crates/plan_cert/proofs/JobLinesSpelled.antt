@@ -7,17 +7,26 @@ use Rattle.std.proofs.lemmas.Bool.Decides.{Decides-int_eq}
 use Rattle.std.proofs.lemmas.Grind.{common_steps}
 use Rattle.std.proofs.lemmas.Int.{ints}
 use Rattle.part_file.specs.Part.{FaceData, PartData}
+use Rattle.machine_file.specs.declared.bounds.TheConstants.{MOST_FRAMES, MOST_BOXES}
+use Rattle.tool_library.specs.declared.bounds.TheConstants.{MOST_BOXES as MOST_BODY_BOXES}
 use Rattle.machine_file.specs.declared.machine.Costs.{Costs}
 use Rattle.tool_library.specs.Tools.{PunchData, DieData}
-use Rattle.plan_cert.specs.declared.job_reading.LineKind.{LineKind}
-use Rattle.plan_cert.specs.declared.job_reading.LineKind.TheVariants as kinds
-use Rattle.plan_cert.specs.declared.job_line.JobLine.{JobLine}
-use Rattle.plan_cert.specs.declared.job_line.JobLine.TheVariants as lines
+use Rattle.plan_cert.specs.declared.line_kind.LineKind.{LineKind}
+use Rattle.plan_cert.specs.declared.line_kind.LineKind.TheVariants as kinds
 use Rattle.cert_words.specs.LineWords.{◌>>=◌}
 use Rattle.cert_words.specs.JobWords.{number_in, pair_in, rect_in, fixed_in, named_pair_in, named_triple_in, part_in, root_in, child_in, gauge_in, costs_in, costs_of, natural, naturals, gang_of, punch_in, die_in, pieces_in}
 use Rattle.plan_cert.specs.Lines.{CertLine, part_line, face_line, bed_line, frame_line, upper_line, lower_line, uncovered_line, gauge_line, gang_line, force_line, stage_line, punch_line, die_line, box_line, pieces_line, load_line, keyword_of, words_of, fixed_words}
 use Rattle.plan_cert.specs.JobText.{costs_line, gang_number}
-use Rattle.plan_cert.specs.JobReading.{JobLinesData, begun_stage, only_if, has_loads, has_room, is_gauge, is_cost, is_gang, is_pieces, is_of_die, is_complete, face_behind, is_of_punch, may_be_frame, may_be_upper, may_be_lower, may_take_part, may_take_face, may_take_bed, may_take_frame, may_take_upper, may_take_lower, may_take_uncovered, may_take_gauge, may_take_gang, may_take_force, may_take_stage, may_take_punch, may_take_punch_box, may_take_die_box, may_take_die, may_take_pieces, may_take_load, take_part, take_face, take_bed, take_frame, take_upper, take_lower, take_uncovered, take_gauge, take_cost, take_gang, take_force, take_stage, take_punch, take_box, take_punch_box, take_die_box, take_die, take_pieces, take_load, take_words, take_line, with_part, with_face, with_bed, with_frame, with_upper, with_lower, with_uncovered, with_gauge, with_costs, with_gang, with_force, with_range, with_punch, with_punch_box, with_die_box, with_die, with_pieces, behind_pieces, with_load, with_stage, job_line_of, keyword_in, behind_keyword}
+use Rattle.plan_cert.specs.LineReading.{only_if, keyword_in, behind_keyword}
+use Rattle.plan_cert.specs.Formats.{has_loads}
+use Rattle.plan_cert.specs.LineKinds.{is_gauge, is_cost, is_gang, is_pieces, is_of_die, is_complete, is_of_punch, may_be_frame, may_be_upper, may_be_lower, box_behind, job_line_behind}
+use Rattle.plan_cert.specs.JobLines.{JobLinesData, begun_stage, has_room}
+use Rattle.plan_cert.specs.PartReading.{face_behind, may_take_part, may_take_face, take_part, take_face, with_part, with_face}
+use Rattle.plan_cert.specs.FixtureReading.{may_take_bed, may_take_frame, may_take_upper, may_take_lower, take_bed, take_frame, take_upper, take_lower, with_bed, with_frame, with_upper, with_lower}
+use Rattle.plan_cert.specs.RuleReading.{may_take_uncovered, may_take_gauge, may_take_gang, may_take_force, take_uncovered, take_gauge, take_cost, take_gang, take_force, with_uncovered, with_gauge, with_costs, with_gang, with_force}
+use Rattle.plan_cert.specs.StageReading.{may_take_stage, may_take_pieces, may_take_load, take_stage, take_pieces, take_load, with_range, with_pieces, behind_pieces, with_load, with_stage}
+use Rattle.plan_cert.specs.ToolReading.{may_take_punch, may_take_punch_box, may_take_die_box, may_take_die, take_punch, take_punch_box, take_die_box, take_die, with_punch, with_punch_box, with_die_box, with_die}
+use Rattle.plan_cert.specs.JobReading.{take_words, take_line}
 use Rattle.plan_cert.proofs.PlanRanges.{Each, Any, each_any, each_then, each_weaker}
 use Rattle.plan_cert.proofs.Follows.{each_only}
 use Rattle.plan_cert.proofs.LinesRead.{spelled}
@@ -145,21 +154,21 @@ unfolding take_frame with_frame
 add_frame s text fresh =
     one_kind (Is pair_words text) s (codes "frame") text (may_take_frame s) (pair_in text) (with_frame s) (pair_alone text)
     (λ may f is. adds s (with_frame s f) (codes "frame") text (frame_line f) refl is (λ sound. sound)
-    (frame_grows_in s.format s.part s.q s.setup s.stage f s.last ((and_parts (may_be_frame s.last) (nat_lt (length s.setup.frames) 4) may).0) fresh))
+    (frame_grows_in s.format s.part s.q s.setup s.stage f s.last ((and_parts (may_be_frame s.last) (nat_lt (length s.setup.frames) MOST_FRAMES) may).0) fresh))
 
 add_upper : (s : JobLinesData) (text : List ℕ) → FreshIn s.format s.last s.setup → Each (Adds s (codes "upper") text) (take_upper s text)
 unfolding take_upper with_upper
 add_upper s text fresh =
     one_kind (Is fixed_words text) s (codes "upper") text (may_take_upper s) (fixed_in text) (with_upper s) (fixed_alone text)
     (λ may b is. adds s (with_upper s b) (codes "upper") text (upper_line b) refl is (λ sound. sound)
-    (upper_grows_in s.format s.part s.q s.setup s.stage b s.last ((and_parts (may_be_upper s.last) (nat_lt (length s.setup.upper) 16) may).0) fresh))
+    (upper_grows_in s.format s.part s.q s.setup s.stage b s.last ((and_parts (may_be_upper s.last) (nat_lt (length s.setup.upper) MOST_BOXES) may).0) fresh))
 
 add_lower : (s : JobLinesData) (text : List ℕ) → FreshIn s.format s.last s.setup → Each (Adds s (codes "lower") text) (take_lower s text)
 unfolding take_lower with_lower
 add_lower s text fresh =
     one_kind (Is fixed_words text) s (codes "lower") text (may_take_lower s) (fixed_in text) (with_lower s) (fixed_alone text)
     (λ may b is. adds s (with_lower s b) (codes "lower") text (lower_line b) refl is (λ sound. sound)
-    (lower_grows_in s.format s.part s.q s.setup s.stage b s.last ((and_parts (may_be_lower s.last) (nat_lt (length s.setup.lower) 16) may).0) fresh))
+    (lower_grows_in s.format s.part s.q s.setup s.stage b s.last ((and_parts (may_be_lower s.last) (nat_lt (length s.setup.lower) MOST_BOXES) may).0) fresh))
 
 add_uncovered : (s : JobLinesData) (text : List ℕ) → FreshIn s.format s.last s.setup → Each (Adds s (codes "uncovered") text) (take_uncovered s text)
 unfolding take_uncovered with_uncovered
@@ -231,22 +240,14 @@ unfolding take_punch_box with_punch_box
 add_punch_box s text fresh =
     one_kind (Is rect_words text) s (codes "box") text (may_take_punch_box s) (rect_in text) (with_punch_box s) (rect_alone text)
     (λ may b is. adds s (with_punch_box s b) (codes "box") text (box_line b) refl is (λ sound. sound)
-    (punch_box_grows_in s.format s.part s.q s.setup s.stage b s.last ((and_parts (is_of_punch s.last) (nat_lt (length s.stage.punch.body) 8) may).0) fresh))
+    (punch_box_grows_in s.format s.part s.q s.setup s.stage b s.last ((and_parts (is_of_punch s.last) (nat_lt (length s.stage.punch.body) MOST_BODY_BOXES) may).0) fresh))
 
 add_die_box : (s : JobLinesData) (text : List ℕ) → FreshIn s.format s.last s.setup → Each (Adds s (codes "box") text) (take_die_box s text)
 unfolding take_die_box with_die_box
 add_die_box s text fresh =
     one_kind (Is rect_words text) s (codes "box") text (may_take_die_box s) (rect_in text) (with_die_box s) (rect_alone text)
     (λ may b is. adds s (with_die_box s b) (codes "box") text (box_line b) refl is (λ sound. sound)
-    (die_box_grows_in s.format s.part s.q s.setup s.stage b s.last ((and_parts (is_of_die s.last) (nat_lt (length s.stage.die.body) 8) may).0) fresh))
-
-add_box : (s : JobLinesData) (text : List ℕ) → FreshIn s.format s.last s.setup → Each (Adds s (codes "box") text) (take_box s text)
-unfolding take_box
-add_box s text fresh = by_test (is_of_punch s.last)
-  where
-    by_test : (b : Bool) → Each (Adds s (codes "box") text) (if b then take_punch_box s text else take_die_box s text)
-    by_test true = add_punch_box s text fresh
-    by_test false = add_die_box s text fresh
+    (die_box_grows_in s.format s.part s.q s.setup s.stage b s.last ((and_parts (is_of_die s.last) (nat_lt (length s.stage.die.body) MOST_BODY_BOXES) may).0) fresh))
 
 add_die : (s : JobLinesData) (text : List ℕ) → FreshIn s.format s.last s.setup → Each (Adds s (codes "die") text) (take_die s text)
 unfolding take_die with_die
@@ -280,58 +281,69 @@ add_load s text fresh =
     adds s (with_stage (with_load s load)) (codes "load") text (load_line load.0 load.1) refl is (λ sound. sound)
     (load_grows_in s.format s.part s.q s.setup s.stage (begun_stage (pos 0) (pos 0)) load.0 load.1 s.last both.0 both.1 fresh))
 
--- the keyword of a kind
-abbrev keyword_for : JobLine → List ℕ
-keyword_for lines.Part = codes "part"
-keyword_for lines.Face = codes "face"
-keyword_for lines.Bed = codes "bed"
-keyword_for lines.Frame = codes "frame"
-keyword_for lines.Upper = codes "upper"
-keyword_for lines.Lower = codes "lower"
-keyword_for lines.Uncovered = codes "uncovered"
-keyword_for lines.Gauge = codes "gauge"
-keyword_for lines.Cost = codes "cost"
-keyword_for lines.Gang = codes "gang"
-keyword_for lines.Force = codes "force"
-keyword_for lines.Stage = codes "stage"
-keyword_for lines.Punch = codes "punch"
-keyword_for lines.Box = codes "box"
-keyword_for lines.Die = codes "die"
-keyword_for lines.Pieces = codes "pieces"
-keyword_for lines.Load = codes "load"
+-- the keyword of a kind of job line
+abbrev keyword_for : LineKind → List ℕ
+keyword_for kinds.Format = []
+keyword_for kinds.Part = codes "part"
+keyword_for kinds.Face = codes "face"
+keyword_for kinds.Bed = codes "bed"
+keyword_for kinds.Frame = codes "frame"
+keyword_for kinds.Upper = codes "upper"
+keyword_for kinds.Lower = codes "lower"
+keyword_for kinds.Uncovered = codes "uncovered"
+keyword_for kinds.Gauge = codes "gauge"
+keyword_for kinds.Cost = codes "cost"
+keyword_for kinds.Gang = codes "gang"
+keyword_for kinds.Force = codes "force"
+keyword_for kinds.Stage = codes "stage"
+keyword_for kinds.Punch = codes "punch"
+keyword_for kinds.PunchBox = codes "box"
+keyword_for kinds.Die = codes "die"
+keyword_for kinds.DieBox = codes "box"
+keyword_for kinds.Pieces = codes "pieces"
+keyword_for kinds.Load = codes "load"
 
-keyword_is : (w : List ℕ) → Each (λ kind. w ≡ keyword_for kind) (job_line_of w)
-keyword_is w =
-    let P : JobLine → Type 0 = λ kind. w ≡ keyword_for kind in
-    by_word P w (codes "part") lines.Part _ (λ e. e) (by_word P w (codes "face") lines.Face _ (λ e. e)
-    (by_word P w (codes "bed") lines.Bed _ (λ e. e) (by_word P w (codes "frame") lines.Frame _ (λ e. e) (by_word P w (codes "upper") lines.Upper _ (λ e. e) (by_word P w (codes "lower") lines.Lower _ (λ e. e)
-    (by_word P w (codes "uncovered") lines.Uncovered _ (λ e. e) (by_word P w (codes "gauge") lines.Gauge _ (λ e. e) (by_word P w (codes "cost") lines.Cost _ (λ e. e) (by_word P w (codes "gang") lines.Gang _ (λ e. e) (by_word P w (codes "force") lines.Force _ (λ e. e)
-    (by_word P w (codes "stage") lines.Stage _ (λ e. e) (by_word P w (codes "pieces") lines.Pieces _ (λ e. e) (by_word P w (codes "load") lines.Load _ (λ e. e)
-    (by_word P w (codes "punch") lines.Punch _ (λ e. e) (by_word P w (codes "box") lines.Box _ (λ e. e) (by_word P w (codes "die") lines.Die None (λ e. e) tt))))))))))))))))
+box_keyword : (last : LineKind) → codes "box" ≡ keyword_for (box_behind last)
+box_keyword last = by_test (is_of_punch last)
+  where
+    by_test : (b : Bool) → codes "box" ≡ keyword_for (if b then kinds.PunchBox else kinds.DieBox)
+    by_test true = refl
+    by_test false = refl
 
-add_words : (s : JobLinesData) (kind : JobLine) (text : List ℕ) → TellsAsFormat s → FreshIn s.format s.last s.setup → Each (Adds s (keyword_for kind) text) (take_words s kind text)
+keyword_is : (last : LineKind) (w : List ℕ) → Each (λ kind. w ≡ keyword_for kind) (job_line_behind last w)
+keyword_is last w =
+    let P : LineKind → Type 0 = λ kind. w ≡ keyword_for kind in
+    by_word P w (codes "part") kinds.Part _ (λ e. e) (by_word P w (codes "face") kinds.Face _ (λ e. e)
+    (by_word P w (codes "bed") kinds.Bed _ (λ e. e) (by_word P w (codes "frame") kinds.Frame _ (λ e. e) (by_word P w (codes "upper") kinds.Upper _ (λ e. e) (by_word P w (codes "lower") kinds.Lower _ (λ e. e)
+    (by_word P w (codes "uncovered") kinds.Uncovered _ (λ e. e) (by_word P w (codes "gauge") kinds.Gauge _ (λ e. e) (by_word P w (codes "cost") kinds.Cost _ (λ e. e) (by_word P w (codes "gang") kinds.Gang _ (λ e. e) (by_word P w (codes "force") kinds.Force _ (λ e. e)
+    (by_word P w (codes "stage") kinds.Stage _ (λ e. e) (by_word P w (codes "pieces") kinds.Pieces _ (λ e. e) (by_word P w (codes "load") kinds.Load _ (λ e. e)
+    (by_word P w (codes "punch") kinds.Punch _ (λ e. e) (by_word P w (codes "box") (box_behind last) _ (λ e. e ∙ box_keyword last) (by_word P w (codes "die") kinds.Die None (λ e. e) tt))))))))))))))))
+
+add_words : (s : JobLinesData) (kind : LineKind) (text : List ℕ) → TellsAsFormat s → FreshIn s.format s.last s.setup → Each (Adds s (keyword_for kind) text) (take_words s kind text)
 unfolding take_words
-add_words s lines.Part text tells fresh = add_part s text fresh
-add_words s lines.Face text tells fresh = add_face s text fresh
-add_words s lines.Bed text tells fresh = add_bed s text fresh
-add_words s lines.Frame text tells fresh = add_frame s text fresh
-add_words s lines.Upper text tells fresh = add_upper s text fresh
-add_words s lines.Lower text tells fresh = add_lower s text fresh
-add_words s lines.Uncovered text tells fresh = add_uncovered s text fresh
-add_words s lines.Gauge text tells fresh = add_gauge s text fresh
-add_words s lines.Cost text tells fresh = add_cost s text fresh
-add_words s lines.Gang text tells fresh = add_gang s text fresh
-add_words s lines.Force text tells fresh = add_force s text tells fresh
-add_words s lines.Stage text tells fresh = add_stage s text fresh
-add_words s lines.Punch text tells fresh = add_punch s text fresh
-add_words s lines.Box text tells fresh = add_box s text fresh
-add_words s lines.Die text tells fresh = add_die s text fresh
-add_words s lines.Pieces text tells fresh = add_pieces s text fresh
-add_words s lines.Load text tells fresh = add_load s text fresh
+add_words s kinds.Format text tells fresh = tt
+add_words s kinds.Part text tells fresh = add_part s text fresh
+add_words s kinds.Face text tells fresh = add_face s text fresh
+add_words s kinds.Bed text tells fresh = add_bed s text fresh
+add_words s kinds.Frame text tells fresh = add_frame s text fresh
+add_words s kinds.Upper text tells fresh = add_upper s text fresh
+add_words s kinds.Lower text tells fresh = add_lower s text fresh
+add_words s kinds.Uncovered text tells fresh = add_uncovered s text fresh
+add_words s kinds.Gauge text tells fresh = add_gauge s text fresh
+add_words s kinds.Cost text tells fresh = add_cost s text fresh
+add_words s kinds.Gang text tells fresh = add_gang s text fresh
+add_words s kinds.Force text tells fresh = add_force s text tells fresh
+add_words s kinds.Stage text tells fresh = add_stage s text fresh
+add_words s kinds.Punch text tells fresh = add_punch s text fresh
+add_words s kinds.PunchBox text tells fresh = add_punch_box s text fresh
+add_words s kinds.Die text tells fresh = add_die s text fresh
+add_words s kinds.DieBox text tells fresh = add_die_box s text fresh
+add_words s kinds.Pieces text tells fresh = add_pieces s text fresh
+add_words s kinds.Load text tells fresh = add_load s text fresh
 
 pub add_line : (s : JobLinesData) (line : List ℕ) → TellsAsFormat s → FreshIn s.format s.last s.setup → Each (Adds s (keyword_in line) (behind_keyword line)) (take_line s line)
 unfolding take_line
 add_line s line tells fresh =
     let P : JobLinesData → Type 0 = Adds s (keyword_in line) (behind_keyword line) in
-    each_then (λ kind. keyword_in line ≡ keyword_for kind) P (job_line_of (keyword_in line)) (λ kind. take_words s kind (behind_keyword line)) (keyword_is (keyword_in line))
+    each_then (λ kind. keyword_in line ≡ keyword_for kind) P (job_line_behind s.last (keyword_in line)) (λ kind. take_words s kind (behind_keyword line)) (keyword_is s.last (keyword_in line))
     (λ kind is. subst (λ (w : List ℕ). Each (Adds s w (behind_keyword line)) (take_words s kind (behind_keyword line))) (sym is) (add_words s kind (behind_keyword line) tells fresh))

@@ -9,18 +9,29 @@ use Rattle.part_file.specs.declared.part.Side.TheVariants.{N, E, S, W}
 use Rattle.part_file.specs.declared.part.Dir.{Dir}
 use Rattle.part_file.specs.declared.part.Dir.TheVariants.{Up, Down}
 use Rattle.cert_words.specs.JobWords.{child_in}
+use Rattle.part_file.specs.declared.bounds.TheConstants.{MOST_FACES}
 use Rattle.part_file.specs.Part.{FaceData, PartData}
+use Rattle.machine_file.specs.declared.bounds.TheConstants.{MOST_FRAMES, MOST_BOXES, MOST_STAGES}
+use Rattle.tool_library.specs.declared.bounds.TheConstants.{MOST_BOXES as MOST_BODY_BOXES}
 use Rattle.machine_file.specs.declared.machine.Fixed.{Fixed}
 use Rattle.machine_file.specs.declared.machine.GaugeRule.{GaugeRule}
 use Rattle.machine_file.specs.declared.machine.Costs.{Costs}
 use Rattle.job_setup.specs.Setup.{StageData, SetupData}
 use Rattle.plan_cert.specs.declared.format.Format.{Format}
 use Rattle.plan_cert.specs.declared.format.Format.TheVariants.{Version1}
-use Rattle.plan_cert.specs.declared.job_reading.LineKind.{LineKind}
-use Rattle.plan_cert.specs.declared.job_reading.LineKind.TheVariants as kinds
+use Rattle.plan_cert.specs.declared.line_kind.LineKind.{LineKind}
+use Rattle.plan_cert.specs.declared.line_kind.LineKind.TheVariants as kinds
 use Rattle.plan_cert.specs.Lines.{CertLine, part_line, face_line, bed_line, frame_line, upper_line, lower_line, uncovered_line, gauge_line, gang_line, force_line, stage_line, punch_line, die_line, box_line, pieces_line, load_line, words_of, face_words, fixed_words, number, side_word, dir_word}
 use Rattle.plan_cert.specs.JobText.{gang_number, costs_line}
-use Rattle.plan_cert.specs.JobReading.{JobLinesData, has_loads, may_be_frame, may_be_upper, may_be_lower, is_of_punch, is_of_die, is_complete, take_line, take_words, take_part, take_face, take_bed, take_frame, take_upper, take_lower, take_uncovered, take_gauge, take_cost, take_gang, take_force, take_stage, take_punch, take_box, take_punch_box, take_die_box, take_die, take_pieces, take_load, with_part, with_face, with_bed, with_frame, with_upper, with_lower, with_uncovered, with_gauge, with_costs, with_gang, with_force, with_range, with_punch, with_punch_box, with_die_box, with_die, with_pieces, with_load, with_stage, begun_stage}
+use Rattle.plan_cert.specs.Formats.{has_loads}
+use Rattle.plan_cert.specs.LineKinds.{may_be_frame, may_be_upper, may_be_lower, is_of_punch, is_of_die, is_complete}
+use Rattle.plan_cert.specs.JobLines.{JobLinesData, begun_stage}
+use Rattle.plan_cert.specs.PartReading.{take_part, take_face, with_part, with_face}
+use Rattle.plan_cert.specs.FixtureReading.{take_bed, take_frame, take_upper, take_lower, with_bed, with_frame, with_upper, with_lower}
+use Rattle.plan_cert.specs.RuleReading.{take_uncovered, take_gauge, take_cost, take_gang, take_force, with_uncovered, with_gauge, with_costs, with_gang, with_force}
+use Rattle.plan_cert.specs.StageReading.{take_stage, take_pieces, take_load, with_range, with_pieces, with_load, with_stage}
+use Rattle.plan_cert.specs.ToolReading.{take_punch, take_punch_box, take_die_box, take_die, with_punch, with_punch_box, with_die_box, with_die}
+use Rattle.plan_cert.specs.JobReading.{take_line, take_words}
 use Rattle.plan_cert.proofs.WordsRead.{IsShort, IsSmall, IsPlain, number_plain, signed_plain, name_plain}
 use Rattle.plan_cert.proofs.LinesRead.{spelled, number_alone, pair_alone, SmallRect, rect_alone, SmallFixed, fixed_alone, part_alone, root_alone, SmallFace, child_alone, SmallGauge, gauge_alone, costs_alone, costs_back, gang_back, punch_alone, die_alone, AllSmall, pieces_alone}
 use Rattle.plan_cert.proofs.TextLines.{ArePlain, line_bytes}
@@ -61,7 +72,7 @@ dir_plain : (dir : Dir) → IsPlain (dir_word dir)
 dir_plain Up = refl
 dir_plain Down = refl
 
-pub child_step : (format : Format) (p : PartData) (q : ℤ) (su : SetupData) (sg : StageData) (f : FaceData) (joint : Joint) → f.joint ≡ Some joint → joint.on < length p.faces → length p.faces < 13 → SmallFace f joint
+pub child_step : (format : Format) (p : PartData) (q : ℤ) (su : SetupData) (sg : StageData) (f : FaceData) (joint : Joint) → f.joint ≡ Some joint → joint.on < length p.faces → length p.faces < MOST_FACES → SmallFace f joint
     → Step (state format kinds.Face p q su sg) (face_line f) (state format kinds.Face (record p { faces = p.faces ++ f ∷ [] }) q su sg)
 unfolding take_line take_words take_face with_face
 child_step format p q su sg f joint is on few s =
@@ -72,16 +83,16 @@ child_step format p q su sg f joint is on few s =
     )
   where
     taken : (word : List ℕ) (words : List (List ℕ)) → child_in (length p.faces) (spelled (word ∷ words)) ≡ Some f → take_line (state format kinds.Face p q su sg) (codes "face" ++ spelled (word ∷ words)) ≡ Some (state format kinds.Face (record p { faces = p.faces ++ f ∷ [] }) q su sg)
-    taken word words e = rw (lt-ltb (length p.faces) 13 few, e) refl
+    taken word words e = rw (lt-ltb (length p.faces) MOST_FACES few, e) refl
 
 pub bed_step : (format : Format) (p : PartData) (q : ℤ) (su : SetupData) (sg : StageData) (bed : ℤ × ℤ) → IsSmall bed.0 → IsSmall bed.1 → Step (state format kinds.Face p q su sg) (bed_line bed) (state format kinds.Bed p q (record su { bed = bed }) sg)
 unfolding take_line take_words take_bed with_bed
 bed_step format p q su sg bed a b = ((signed_plain bed.0 a, (signed_plain bed.1 b, tt)), rw (pair_alone bed.0 bed.1 a b) refl)
 
-pub frame_step : (format : Format) (last : LineKind) (p : PartData) (q : ℤ) (su : SetupData) (sg : StageData) (f : ℤ × ℤ) → may_be_frame last ≡ true → length su.frames < 4 → IsSmall f.0 → IsSmall f.1
+pub frame_step : (format : Format) (last : LineKind) (p : PartData) (q : ℤ) (su : SetupData) (sg : StageData) (f : ℤ × ℤ) → may_be_frame last ≡ true → length su.frames < MOST_FRAMES → IsSmall f.0 → IsSmall f.1
     → Step (state format last p q su sg) (frame_line f) (state format kinds.Frame p q (record su { frames = su.frames ++ f ∷ [] }) sg)
 unfolding take_line take_words take_frame with_frame
-frame_step format last p q su sg f may few a b = ((signed_plain f.0 a, (signed_plain f.1 b, tt)), rw (may, lt-ltb (length su.frames) 4 few, pair_alone f.0 f.1 a b) refl)
+frame_step format last p q su sg f may few a b = ((signed_plain f.0 a, (signed_plain f.1 b, tt)), rw (may, lt-ltb (length su.frames) MOST_FRAMES few, pair_alone f.0 f.1 a b) refl)
 
 plain_rect : (r : Rect) → SmallRect r → ArePlain (words_of (box_line r))
 plain_rect r s = (signed_plain r.y0 s.y0, (signed_plain r.y1 s.y1, (signed_plain r.z0 s.z0, (signed_plain r.z1 s.z1, tt))))
@@ -89,15 +100,15 @@ plain_rect r s = (signed_plain r.y0 s.y0, (signed_plain r.y1 s.y1, (signed_plain
 plain_fixed : (f : Fixed) → SmallFixed f → ArePlain (fixed_words f)
 plain_fixed f s = (signed_plain f.x0 s.x0, (signed_plain f.x1 s.x1, plain_rect f.rect s.rect))
 
-pub upper_step : (format : Format) (last : LineKind) (p : PartData) (q : ℤ) (su : SetupData) (sg : StageData) (f : Fixed) → may_be_upper last ≡ true → length su.upper < 16 → SmallFixed f
+pub upper_step : (format : Format) (last : LineKind) (p : PartData) (q : ℤ) (su : SetupData) (sg : StageData) (f : Fixed) → may_be_upper last ≡ true → length su.upper < MOST_BOXES → SmallFixed f
     → Step (state format last p q su sg) (upper_line f) (state format kinds.Upper p q (record su { upper = su.upper ++ f ∷ [] }) sg)
 unfolding take_line take_words take_upper with_upper
-upper_step format last p q su sg f may few s = (plain_fixed f s, rw (may, lt-ltb (length su.upper) 16 few, fixed_alone f s) refl)
+upper_step format last p q su sg f may few s = (plain_fixed f s, rw (may, lt-ltb (length su.upper) MOST_BOXES few, fixed_alone f s) refl)
 
-pub lower_step : (format : Format) (last : LineKind) (p : PartData) (q : ℤ) (su : SetupData) (sg : StageData) (f : Fixed) → may_be_lower last ≡ true → length su.lower < 16 → SmallFixed f
+pub lower_step : (format : Format) (last : LineKind) (p : PartData) (q : ℤ) (su : SetupData) (sg : StageData) (f : Fixed) → may_be_lower last ≡ true → length su.lower < MOST_BOXES → SmallFixed f
     → Step (state format last p q su sg) (lower_line f) (state format kinds.Lower p q (record su { lower = su.lower ++ f ∷ [] }) sg)
 unfolding take_line take_words take_lower with_lower
-lower_step format last p q su sg f may few s = (plain_fixed f s, rw (may, lt-ltb (length su.lower) 16 few, fixed_alone f s) refl)
+lower_step format last p q su sg f may few s = (plain_fixed f s, rw (may, lt-ltb (length su.lower) MOST_BOXES few, fixed_alone f s) refl)
 
 pub uncovered_step : (format : Format) (last : LineKind) (p : PartData) (q : ℤ) (su : SetupData) (sg : StageData) (u : ℤ) → may_be_lower last ≡ true → IsSmall u
     → Step (state format last p q su sg) (uncovered_line u) (state format kinds.Uncovered p q (record su { uncovered = u }) sg)
@@ -136,20 +147,20 @@ pub force_step : (format : Format) (p : PartData) (q : ℤ) (su : SetupData) (sg
 unfolding take_line take_words take_force with_force
 force_step format p q su sg f s = ((signed_plain f s, tt), rw (number_alone f s) refl)
 
-pub stage_step : (format : Format) (last : LineKind) (p : PartData) (q : ℤ) (su : SetupData) (sg : StageData) (a b : ℤ) → is_complete format last ≡ true → length su.stages < 6 → IsSmall a → IsSmall b
+pub stage_step : (format : Format) (last : LineKind) (p : PartData) (q : ℤ) (su : SetupData) (sg : StageData) (a b : ℤ) → is_complete format last ≡ true → length su.stages < MOST_STAGES → IsSmall a → IsSmall b
     → Step (state format last p q su sg) (stage_line a b) (state format kinds.Stage p q su (begun_stage a b))
 unfolding take_line take_words take_stage with_range
-stage_step format last p q su sg a b may few s t = ((signed_plain a s, (signed_plain b t, tt)), rw (may, lt-ltb (length su.stages) 6 few, pair_alone a b s t) refl)
+stage_step format last p q su sg a b may few s t = ((signed_plain a s, (signed_plain b t, tt)), rw (may, lt-ltb (length su.stages) MOST_STAGES few, pair_alone a b s t) refl)
 
 pub punch_step : (format : Format) (p : PartData) (q : ℤ) (su : SetupData) (sg : StageData) (n : List ℕ) (h s : ℤ) → is_name n ≡ true → IsSmall h → IsSmall s
     → Step (state format kinds.Stage p q su sg) (punch_line n h s) (state format kinds.Punch p q su (record sg { punch = record { name = n; height = h; nose = s; body = []; sections = []; limit = pos 0 } }))
 unfolding take_line take_words take_punch with_punch
 punch_step format p q su sg n h s is a b = ((name_plain n is, (signed_plain h a, (signed_plain s b, tt))), rw (punch_alone n h s is a b) refl)
 
-pub punch_box_step : (format : Format) (last : LineKind) (p : PartData) (q : ℤ) (su : SetupData) (sg : StageData) (r : Rect) → is_of_punch last ≡ true → length sg.punch.body < 8 → SmallRect r
+pub punch_box_step : (format : Format) (last : LineKind) (p : PartData) (q : ℤ) (su : SetupData) (sg : StageData) (r : Rect) → is_of_punch last ≡ true → length sg.punch.body < MOST_BODY_BOXES → SmallRect r
     → Step (state format last p q su sg) (box_line r) (state format kinds.PunchBox p q su (record sg { punch = record sg.punch { body = sg.punch.body ++ r ∷ [] } }))
-unfolding take_line take_words take_box take_punch_box with_punch_box
-punch_box_step format last p q su sg r of few s = (plain_rect r s, rw (of, lt-ltb (length sg.punch.body) 8 few, rect_alone r s) refl)
+unfolding take_line take_words take_punch_box with_punch_box
+punch_box_step format last p q su sg r of few s = (plain_rect r s, rw (of, of, lt-ltb (length sg.punch.body) MOST_BODY_BOXES few, rect_alone r s) refl)
 
 pub die_step : (format : Format) (last : LineKind) (p : PartData) (q : ℤ) (su : SetupData) (sg : StageData) (n : List ℕ) (h v l : ℤ) → is_of_punch last ≡ true → is_name n ≡ true → IsSmall h → IsSmall v → IsSmall l
     → Step (state format last p q su sg) (die_line n h v l) (state format kinds.Die p q su (record sg { die = record { name = n; height = h; v = v; least_flange = l; body = []; sections = []; limit = pos 0 } }))
@@ -163,29 +174,29 @@ not_punch kinds.Punch of = absurd (cc)
 not_punch kinds.PunchBox of = absurd (cc)
 not_punch _ of = refl
 
-pub die_box_step : (format : Format) (last : LineKind) (p : PartData) (q : ℤ) (su : SetupData) (sg : StageData) (r : Rect) → is_of_die last ≡ true → length sg.die.body < 8 → SmallRect r
+pub die_box_step : (format : Format) (last : LineKind) (p : PartData) (q : ℤ) (su : SetupData) (sg : StageData) (r : Rect) → is_of_die last ≡ true → length sg.die.body < MOST_BODY_BOXES → SmallRect r
     → Step (state format last p q su sg) (box_line r) (state format kinds.DieBox p q su (record sg { die = record sg.die { body = sg.die.body ++ r ∷ [] } }))
-unfolding take_line take_words take_box take_die_box with_die_box
-die_box_step format last p q su sg r of few s = (plain_rect r s, rw (not_punch last of, of, lt-ltb (length sg.die.body) 8 few, rect_alone r s) refl)
+unfolding take_line take_words take_die_box with_die_box
+die_box_step format last p q su sg r of few s = (plain_rect r s, rw (not_punch last of, of, lt-ltb (length sg.die.body) MOST_BODY_BOXES few, rect_alone r s) refl)
 
 plain_all : (zs : List ℤ) → AllSmall zs → ArePlain (map signed_decimal zs)
 plain_all [] small = tt
 plain_all (z ∷ zs) small = (signed_plain z small.0, plain_all zs small.1)
 
-pub pieces_step : (format : Format) (last : LineKind) (p : PartData) (q : ℤ) (su : SetupData) (sg : StageData) (zs : List ℤ) → has_loads format ≡ true → is_of_die last ≡ true → length su.stages < 6 → 0 < length zs → length zs ≤ 32 → AllSmall zs
+pub pieces_step : (format : Format) (last : LineKind) (p : PartData) (q : ℤ) (su : SetupData) (sg : StageData) (zs : List ℤ) → has_loads format ≡ true → is_of_die last ≡ true → length su.stages < MOST_STAGES → 0 < length zs → length zs ≤ 32 → AllSmall zs
     → Step (state format last p q su sg) (pieces_line zs) (state format kinds.Pieces p q su (record sg { pieces = zs }))
 unfolding take_line take_words take_pieces with_pieces
 pieces_step format last p q su sg [] has of few some most small = absurd (omega arith)
-pieces_step format last p q su sg (z ∷ zs) has of few some most small = (plain_all (z ∷ zs) small, rw (of, lt-ltb (length su.stages) 6 few, pieces_alone (z ∷ zs) some most small, has) refl)
+pieces_step format last p q su sg (z ∷ zs) has of few some most small = (plain_all (z ∷ zs) small, rw (of, lt-ltb (length su.stages) MOST_STAGES few, pieces_alone (z ∷ zs) some most small, has) refl)
 
 -- without loads a stage is complete with its pieces
-pub last_pieces_step : (last : LineKind) (p : PartData) (q : ℤ) (su : SetupData) (sg : StageData) (zs : List ℤ) → is_of_die last ≡ true → length su.stages < 6 → 0 < length zs → length zs ≤ 32 → AllSmall zs
+pub last_pieces_step : (last : LineKind) (p : PartData) (q : ℤ) (su : SetupData) (sg : StageData) (zs : List ℤ) → is_of_die last ≡ true → length su.stages < MOST_STAGES → 0 < length zs → length zs ≤ 32 → AllSmall zs
     → Step (state Version1 last p q su sg) (pieces_line zs) (state Version1 kinds.Pieces p q (record su { stages = su.stages ++ (record sg { pieces = zs }) ∷ [] }) (begun_stage (pos 0) (pos 0)))
 unfolding take_line take_words take_pieces with_pieces with_stage
 last_pieces_step last p q su sg [] of few some most small = absurd (omega arith)
-last_pieces_step last p q su sg (z ∷ zs) of few some most small = (plain_all (z ∷ zs) small, rw (of, lt-ltb (length su.stages) 6 few, pieces_alone (z ∷ zs) some most small) refl)
+last_pieces_step last p q su sg (z ∷ zs) of few some most small = (plain_all (z ∷ zs) small, rw (of, lt-ltb (length su.stages) MOST_STAGES few, pieces_alone (z ∷ zs) some most small) refl)
 
-pub load_step : (format : Format) (p : PartData) (q : ℤ) (su : SetupData) (sg : StageData) (l m : ℤ) → has_loads format ≡ true → length su.stages < 6 → IsSmall l → IsSmall m
+pub load_step : (format : Format) (p : PartData) (q : ℤ) (su : SetupData) (sg : StageData) (l m : ℤ) → has_loads format ≡ true → length su.stages < MOST_STAGES → IsSmall l → IsSmall m
     → Step (state format kinds.Pieces p q su sg) (load_line l m) (state format kinds.Load p q (record su { stages = su.stages ++ (record sg { load = l; limit = m }) ∷ [] }) (begun_stage (pos 0) (pos 0)))
 unfolding take_line take_words take_load with_load with_stage
-load_step format p q su sg l m has few s t = ((signed_plain l s, (signed_plain m t, tt)), rw (has, lt-ltb (length su.stages) 6 few, pair_alone l m s t) refl)
+load_step format p q su sg l m has few s t = ((signed_plain l s, (signed_plain m t, tt)), rw (has, lt-ltb (length su.stages) MOST_STAGES few, pair_alone l m s t) refl)

@@ -10,7 +10,7 @@ use Rattle.plan_cert.specs.declared.format.Format.{Format}
 use Rattle.plan_cert.specs.declared.format.Format.TheVariants.{Version1, Version2, Table}
 use Rattle.plan_cert.specs.declared.format.Kind.{Kind}
 use Rattle.plan_cert.specs.declared.format.Kind.TheVariants.{Certificate, Table as TableKind}
-use Rattle.plan_cert.specs.declared.job_reading.LineKind.{LineKind}
+use Rattle.plan_cert.specs.declared.line_kind.LineKind.{LineKind}
 use Rattle.plan_cert.specs.declared.item.Item.{Item}
 use Rattle.plan_cert.specs.declared.item.Item.TheVariants as given
 use Rattle.plan_cert.specs.declared.item.CertFault.{CertFault}
@@ -18,7 +18,11 @@ use Rattle.plan_cert.specs.declared.item.CertFault.TheVariants as faults
 use Rattle.plan_cert.specs.Lines.{CertLine, format_line}
 use Rattle.plan_cert.specs.JobText.{job_lines}
 use Rattle.plan_cert.specs.JobTest.{is_job}
-use Rattle.plan_cert.specs.JobReading.{format_of, has_loads, JobLinesData, take_line, no_lines, job_of, is_complete, keyword_in, behind_keyword}
+use Rattle.plan_cert.specs.LineReading.{keyword_in, behind_keyword}
+use Rattle.plan_cert.specs.Formats.{format_of, has_loads}
+use Rattle.plan_cert.specs.LineKinds.{is_complete}
+use Rattle.plan_cert.specs.JobLines.{JobLinesData, no_lines, job_of}
+use Rattle.plan_cert.specs.JobReading.{take_line}
 use Rattle.plan_cert.specs.PlanReading.{first_section, may_follow_job}
 use Rattle.plan_cert.specs.Items.{next_number, plan_items, judged_items, may_be_judged, items_behind, job_items, items_of_lines}
 use Rattle.plan_cert.proofs.JobDecided.{job_decided}

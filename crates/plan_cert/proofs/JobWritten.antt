@@ -17,11 +17,12 @@ use Rattle.job_setup.proofs.Near.{setup_near}
 use Rattle.plan_cert.specs.CertText.{lines_of_format}
 use Rattle.plan_cert.specs.declared.format.Format.{Format}
 use Rattle.plan_cert.specs.declared.format.Format.TheVariants.{Version1, Version2, Table}
-use Rattle.plan_cert.specs.declared.job_reading.LineKind.{LineKind}
-use Rattle.plan_cert.specs.declared.job_reading.LineKind.TheVariants as kinds
+use Rattle.plan_cert.specs.declared.line_kind.LineKind.{LineKind}
+use Rattle.plan_cert.specs.declared.line_kind.LineKind.TheVariants as kinds
 use Rattle.plan_cert.specs.Lines.{CertLine, part_line, face_line, bed_line, frame_line, upper_line, lower_line, stage_line, punch_line, die_line, box_line, pieces_line, load_line}
 use Rattle.plan_cert.specs.JobText.{part_lines, fixture_lines, rule_lines, punch_lines, die_lines, stage_lines, job_lines}
-use Rattle.plan_cert.specs.JobReading.{JobLinesData, no_part, no_setup, no_lines, may_be_frame, may_be_upper, may_be_lower, is_of_punch, is_of_die, is_complete, begun_stage}
+use Rattle.plan_cert.specs.LineKinds.{may_be_frame, may_be_upper, may_be_lower, is_of_punch, is_of_die, is_complete}
+use Rattle.plan_cert.specs.JobLines.{JobLinesData, no_part, no_setup, no_lines, begun_stage}
 use Rattle.plan_cert.proofs.WordsRead.{IsSmall}
 use Rattle.plan_cert.proofs.LinesRead.{SmallRect, SmallFixed, SmallFace, SmallGauge, AllSmall}
 use Rattle.plan_cert.proofs.LineKinds.{rules_end, stage_end, complete_rules, complete_stage}

@@ -16,7 +16,7 @@ use Rattle.plan_cert.specs.declared.section.PlanLine.{PlanLine}
 use Rattle.plan_cert.specs.declared.known_notes.KnownNote.{KnownNote}
 use Rattle.plan_cert.specs.declared.job_facts.JobFacts.{JobFacts}
 use Rattle.plan_cert.specs.Facts.{KeepsFacts}
-use Rattle.plan_cert.specs.JobReading.{keyword_in, behind_keyword}
+use Rattle.plan_cert.specs.LineReading.{keyword_in, behind_keyword}
 use Rattle.plan_cert.specs.PlanReading.{IsActionAmong, noted, note_behind, take_note, take_plan_words, take_plan_line}
 use Rattle.plan_cert.specs.Items.{lines_in}
 use Rattle.plan_cert.specs.KnownNotes.{IsKnown, AreKnown, IsLineTaken}

@@ -4,10 +4,11 @@ use Rattle.std.proofs.lemmas.Bool.{false≢true}
 use Rattle.part_file.specs.Part.{FaceData}
 use Rattle.plan_cert.specs.declared.format.Format.{Format}
 use Rattle.plan_cert.specs.declared.format.Format.TheVariants.{Version1, Version2, Table}
-use Rattle.plan_cert.specs.declared.job_reading.LineKind.{LineKind}
-use Rattle.plan_cert.specs.declared.job_reading.LineKind.TheVariants as kinds
+use Rattle.plan_cert.specs.declared.line_kind.LineKind.{LineKind}
+use Rattle.plan_cert.specs.declared.line_kind.LineKind.TheVariants as kinds
 use Rattle.cert_words.specs.JobWords.{root_in, child_in}
-use Rattle.plan_cert.specs.JobReading.{begins_job, is_face, may_be_frame, may_be_upper, may_be_lower, is_uncovered, is_gauge, is_cost, is_gang, is_complete, is_stage, is_of_punch, is_of_die, is_pieces, face_behind}
+use Rattle.plan_cert.specs.LineKinds.{begins_job, is_face, may_be_frame, may_be_upper, may_be_lower, is_uncovered, is_gauge, is_cost, is_gang, is_complete, is_stage, is_of_punch, is_of_die, is_pieces}
+use Rattle.plan_cert.specs.PartReading.{face_behind}
 use Rattle.plan_cert.proofs.PlanRanges.{Each}
 
 -- the last line of the rules

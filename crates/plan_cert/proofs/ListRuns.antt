@@ -10,9 +10,9 @@ use Rattle.machine_file.specs.declared.machine.GaugeRule.{GaugeRule}
 use Rattle.machine_file.specs.declared.machine.Costs.{Costs}
 use Rattle.machine_file.specs.Machine.{IsPiece, IsCosts}
 use Rattle.job_setup.specs.Near.{IsNearBox, IsNearProfile, IsNearGauge}
-use Rattle.plan_cert.specs.declared.job_reading.LineKind.{LineKind}
+use Rattle.plan_cert.specs.declared.line_kind.LineKind.{LineKind}
 use Rattle.plan_cert.specs.Lines.{CertLine}
-use Rattle.plan_cert.specs.JobReading.{JobLinesData}
+use Rattle.plan_cert.specs.JobLines.{JobLinesData}
 use Rattle.plan_cert.proofs.WordsRead.{IsShort, IsSmall}
 use Rattle.plan_cert.proofs.LinesRead.{SmallRect, SmallFixed, SmallGauge, AllSmall}
 use Rattle.plan_cert.proofs.JobRun.{Step, Runs, ShortCosts}
@@ -52,17 +52,8 @@ IsClose z = (neg_ℤ (pos 1000000000000) ≤ℤ z) × (z ≤ℤ pos 100000000000
 small : (z : ℤ) → IsClose z → IsSmall z
 small z close = omega (arith, ints, close.0, close.1)
 
-close_above : (n : ℕ) → n ≤ 1000000000000 → IsClose (pos n)
-close_above n few = (omega (arith, ints), omega (arith, ints, few))
-
-close_below : (n : ℕ) → n ≤ 1000000000000 → IsClose (neg_ℤ (pos n))
-close_below n few = (omega (arith, ints, few), omega (arith, ints))
-
 close : (low high z : ℤ) → IsClose low → IsClose high → IsWithin low high z → IsClose z
 close low high z a b within = (omega (arith, ints, a.0, within.bottom), omega (arith, ints, b.1, within.top))
-
-zero_close : IsClose (pos 0)
-zero_close = close_above 0 (omega arith)
 
 pub near_small : (z : ℤ) → IsNear z → IsSmall z
 near_small z near = omega (arith, ints, near.0, near.1)

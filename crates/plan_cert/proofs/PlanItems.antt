@@ -13,7 +13,8 @@ use Rattle.plan_cert.specs.declared.section.Section.TheVariants as sections
 use Rattle.plan_cert.specs.declared.stand.Stand.{Stand}
 use Rattle.plan_cert.specs.Facts.{KeepsFacts, HasFew}
 use Rattle.plan_cert.specs.PlanReading.{take_plan_line, first_section}
-use Rattle.plan_cert.specs.JobReading.{JobLinesData, keyword_in, behind_keyword}
+use Rattle.plan_cert.specs.LineReading.{keyword_in, behind_keyword}
+use Rattle.plan_cert.specs.JobLines.{JobLinesData}
 use Rattle.plan_cert.specs.Items.{lines_in, next_number, is_over, plan_item, end_or_fault, plan_items}
 use Rattle.plan_cert.specs.Reading.{LeavesPlan, LeavesIn, LeavesBy, Leaves, Gives}
 use Rattle.plan_cert.proofs.WholeLines.{some_line}

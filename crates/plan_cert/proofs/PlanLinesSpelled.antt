@@ -29,7 +29,7 @@ use Rattle.plan_cert.specs.Cert.{CertData}
 use Rattle.plan_cert.specs.Lines.{CertLine, claim_line, step_line, row_line, note_line, end_line, keyword_of, words_of, action_at}
 use Rattle.plan_cert.specs.CertText.{line_of_note, row_lines, rows_lines}
 use Rattle.plan_cert.specs.CertItems.{row_items, rows_items}
-use Rattle.plan_cert.specs.JobReading.{only_if, keyword_in, behind_keyword}
+use Rattle.plan_cert.specs.LineReading.{only_if, keyword_in, behind_keyword}
 use Rattle.plan_cert.specs.PlanReading.{behind_claim, may_leave, may_be_row, take_claim, step_behind, take_step, row_behind, take_row, noted, note_behind, take_note, plan_line_of, take_plan_words, take_plan_line, is_end_line}
 use Rattle.plan_cert.specs.Items.{next_number, is_over, end_before, end_or_fault, plan_items}
 use Rattle.plan_cert.specs.CertReading.{is_last}

@@ -35,7 +35,7 @@ use Rattle.plan_cert.specs.declared.cert.Note.{Note}
 use Rattle.plan_cert.specs.Lines.{CertLine, claim_line, step_line, row_line, note_line, number, back_word, half_word, worth_word, action_words, meeting_words, argument_words, reason_words, action_at, words_of}
 use Rattle.plan_cert.specs.CertText.{line_of_note, row_lines}
 use Rattle.plan_cert.specs.WellFormed.{IsWorth, IsActionOf, IsStep, IsRow, IsReason, IsNote, NoteIsBefore}
-use Rattle.plan_cert.specs.JobReading.{keyword_in, behind_keyword}
+use Rattle.plan_cert.specs.LineReading.{keyword_in, behind_keyword}
 use Rattle.plan_cert.specs.declared.item.CertFault.{CertFault}
 use Rattle.plan_cert.specs.Cert.{CertData}
 use Rattle.plan_cert.specs.CertItems.{row_items}

@@ -23,7 +23,10 @@ use Rattle.plan_cert.specs.Cert.{CertData}
 use Rattle.plan_cert.specs.CertItems.{rows_items, cert_items, IsReadFrom}
 use Rattle.plan_cert.specs.WellFormed.{IsWellFormed}
 use Rattle.plan_cert.specs.JobTest.{is_job}
-use Rattle.plan_cert.specs.JobReading.{JobLinesData, take_line, no_lines, version_of, job_of, keyword_in, behind_keyword}
+use Rattle.plan_cert.specs.LineReading.{keyword_in, behind_keyword}
+use Rattle.plan_cert.specs.Formats.{version_of}
+use Rattle.plan_cert.specs.JobLines.{JobLinesData, no_lines, job_of}
+use Rattle.plan_cert.specs.JobReading.{take_line}
 use Rattle.plan_cert.specs.PlanReading.{behind_claim, may_leave, take_plan_line, first_section, is_end_line}
 use Rattle.plan_cert.specs.Items.{next_number, is_over, end_before, end_or_fault, plan_items, judged_items, may_be_judged, items_behind, job_items, items_of_lines, items, lines_in}
 use Rattle.plan_cert.specs.CertReading.{CertFileData, no_cert, with_step, with_note, with_item, is_last, cert_of, with_job, cert_file_of, version_in}

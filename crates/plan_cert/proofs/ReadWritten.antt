@@ -19,7 +19,7 @@ use Rattle.plan_cert.specs.Cert.{CertData}
 use Rattle.plan_cert.specs.Lines.{CertLine, format_line, end_line, line_text, lines_text}
 use Rattle.plan_cert.specs.JobText.{job_lines}
 use Rattle.plan_cert.specs.CertItems.{cert_items, IsReadFrom}
-use Rattle.plan_cert.specs.JobReading.{format_of}
+use Rattle.plan_cert.specs.Formats.{format_of}
 use Rattle.plan_cert.specs.PlanReading.{first_section}
 use Rattle.plan_cert.specs.Items.{is_over, lines_in, plan_items, items_of_lines, items}
 use Rattle.plan_cert.specs.CertReading.{CertFileData, cert_of, with_job, cert_file_of, no_cert, version_in}

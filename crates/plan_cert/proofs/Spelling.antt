@@ -26,7 +26,7 @@ use Rattle.part_file.specs.declared.part.Dir.{Dir}
 use Rattle.part_file.specs.declared.part.Dir.TheVariants.{Up, Down}
 use Rattle.cert_words.specs.LineWords.{◌>>=◌, is_space, word_length, word_at, at_end, count_at, signed_at, pair_at, rect_at, side_of, dir_of, back_of, half_of, quarter_of, cost_of, worth_of, kind_at}
 use Rattle.plan_cert.specs.Lines.{CertLine, keyword_of, words_of, number, side_word, dir_word, back_word, half_word, worth_word, spaced}
-use Rattle.plan_cert.specs.JobReading.{keyword_in, behind_keyword}
+use Rattle.plan_cert.specs.LineReading.{keyword_in, behind_keyword}
 use Rattle.plan_cert.proofs.PlanRanges.{Each, each_then}
 use Rattle.plan_cert.proofs.LinesRead.{spelled}
 

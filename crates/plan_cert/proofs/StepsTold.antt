@@ -20,7 +20,7 @@ use Rattle.plan_cert.specs.declared.cert.Note.{Note}
 use Rattle.plan_cert.specs.Cert.{CertData}
 use Rattle.plan_cert.specs.CertItems.{rows_items}
 use Rattle.plan_cert.specs.CertReading.{is_last}
-use Rattle.plan_cert.specs.JobReading.{keyword_in, behind_keyword}
+use Rattle.plan_cert.specs.LineReading.{keyword_in, behind_keyword}
 use Rattle.plan_cert.specs.PlanReading.{are_enough, behind_claim, may_leave, take_plan_line, is_end_line}
 use Rattle.plan_cert.specs.Items.{next_number, is_over, end_before, end_or_fault, plan_items}
 use Rattle.plan_cert.proofs.PlanItems.{plan_taken, plan_refused}

@@ -18,7 +18,11 @@ use Rattle.plan_cert.specs.declared.section.Section.TheVariants as sections
 use Rattle.plan_cert.specs.Lines.{CertLine, words_of, format_line, end_line, lines_text}
 use Rattle.plan_cert.specs.JobText.{job_lines}
 use Rattle.plan_cert.specs.JobTest.{is_job}
-use Rattle.plan_cert.specs.JobReading.{format_of, JobLinesData, take_line, no_lines, begun_stage, job_of, is_complete, keyword_in, behind_keyword}
+use Rattle.plan_cert.specs.LineReading.{keyword_in, behind_keyword}
+use Rattle.plan_cert.specs.Formats.{format_of}
+use Rattle.plan_cert.specs.LineKinds.{is_complete}
+use Rattle.plan_cert.specs.JobLines.{JobLinesData, no_lines, begun_stage, job_of}
+use Rattle.plan_cert.specs.JobReading.{take_line}
 use Rattle.plan_cert.specs.PlanReading.{first_section, may_leave, take_plan_line, may_follow_job}
 use Rattle.plan_cert.specs.Items.{next_number, is_over, lines_in, plan_items, may_be_judged, items_behind, job_items, items_of_lines, items}
 use Rattle.plan_cert.proofs.JobDecided.{job_decided}

@@ -28,7 +28,9 @@ use Rattle.plan_cert.specs.ExactTexts.{IsTextOf, IsTableText}
 use Rattle.plan_cert.specs.CertItems.{rows_items, table_items}
 use Rattle.plan_cert.specs.ExactItems.{IsReadToEnd, ReadsCertTexts, ReadsTableTexts}
 use Rattle.plan_cert.specs.JobTest.{is_job}
-use Rattle.plan_cert.specs.JobReading.{JobLinesData, format_of, take_line, no_lines, job_of}
+use Rattle.plan_cert.specs.Formats.{format_of}
+use Rattle.plan_cert.specs.JobLines.{JobLinesData, no_lines, job_of}
+use Rattle.plan_cert.specs.JobReading.{take_line}
 use Rattle.plan_cert.specs.PlanReading.{is_end_line, is_row_line, first_section}
 use Rattle.plan_cert.specs.Items.{next_number, lines_in, plan_items, may_be_judged, items_behind, job_items, items_of_lines, items}
 use Rattle.plan_cert.specs.CertReading.{CertFileData, no_cert, with_item, is_last, cert_of, version_in}

@@ -28,7 +28,8 @@ use Rattle.plan_cert.specs.Lines.{claim_line, step_line, end_line, line_text}
 use Rattle.plan_cert.specs.CertText.{rows_lines, cert_text2, plan_lines, cert_text1}
 use Rattle.plan_cert.specs.CertItems.{row_items, rows_items}
 use Rattle.plan_cert.specs.WellFormed.{IsWorth, HasSteps, IsRow, AreRows, IsWellFormed}
-use Rattle.plan_cert.specs.JobReading.{JobLinesData, take_line}
+use Rattle.plan_cert.specs.JobLines.{JobLinesData}
+use Rattle.plan_cert.specs.JobReading.{take_line}
 use Rattle.plan_cert.specs.PlanReading.{are_enough, behind_claim, may_leave, may_be_row, may_follow_job}
 use Rattle.plan_cert.specs.Items.{items}
 use Rattle.plan_cert.specs.CertReading.{no_cert, cert_of, cert_file_of, version_in}

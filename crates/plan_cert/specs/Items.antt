@@ -12,9 +12,12 @@ use Rattle.plan_cert.specs.declared.item.Item.TheVariants as given
 use Rattle.plan_cert.specs.declared.item.CertFault.{CertFault}
 use Rattle.plan_cert.specs.declared.item.CertFault.TheVariants as faults
 use Rattle.plan_cert.specs.JobTest.{is_job}
-use Rattle.plan_cert.specs.JobReading.{JobLinesData, no_lines, format_of, is_complete, take_line, job_of}
+use Rattle.plan_cert.specs.Formats.{format_of}
+use Rattle.plan_cert.specs.LineKinds.{is_complete}
+use Rattle.plan_cert.specs.JobLines.{JobLinesData, no_lines, job_of}
+use Rattle.plan_cert.specs.JobReading.{take_line}
 use Rattle.plan_cert.specs.PlanReading.{may_leave, take_plan_line, may_follow_job, first_section, is_end_line}
-use Rattle.plan_cert.specs.JobReading.{keyword_in, behind_keyword}
+use Rattle.plan_cert.specs.LineReading.{keyword_in, behind_keyword}
 
 -- the lines of a text without their line feeds, and what stands behind the last line feed
 abbrev pub lines_in : List ℕ → List (List ℕ)

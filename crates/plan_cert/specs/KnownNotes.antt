@@ -8,7 +8,7 @@ use Rattle.plan_cert.specs.declared.section.PlanLine.TheVariants as kinds
 use Rattle.plan_cert.specs.declared.known_notes.KnownNote.{KnownNote}
 use Rattle.plan_cert.specs.declared.job_facts.JobFacts.{JobFacts}
 use Rattle.plan_cert.specs.Facts.{KeepsFacts}
-use Rattle.plan_cert.specs.JobReading.{keyword_in, behind_keyword}
+use Rattle.plan_cert.specs.LineReading.{keyword_in, behind_keyword}
 use Rattle.plan_cert.specs.PlanReading.{plan_line_of, take_plan_line}
 use Rattle.plan_cert.specs.Items.{lines_in}
 

@@ -1,5 +1,14 @@
 pub mod Cert
 pub mod Lines
+pub mod LineReading
+pub mod Formats
+pub mod LineKinds
+pub mod JobLines
+pub mod PartReading
+pub mod FixtureReading
+pub mod RuleReading
+pub mod StageReading
+pub mod ToolReading
 pub mod JobReading
 pub mod JobText
 pub mod WellFormed

@@ -18,7 +18,7 @@ use Rattle.plan_cert.specs.declared.item.Item.{Item}
 use Rattle.plan_cert.specs.declared.item.Item.TheVariants as given
 use Rattle.cert_words.specs.LineWords.{◌>>=◌}
 use Rattle.cert_words.specs.PlanWords.{step_in, claim_in, row_in, note_in}
-use Rattle.plan_cert.specs.JobReading.{only_if, keyword_in, behind_keyword}
+use Rattle.plan_cert.specs.LineReading.{only_if, keyword_in, behind_keyword}
 
 -- the first key stands before the second in the order of keys
 abbrev pub is_before : Key → Key → Bool

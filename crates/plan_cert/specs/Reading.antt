@@ -9,7 +9,8 @@ use Rattle.plan_cert.specs.declared.item.CertFault.{CertFault}
 use Rattle.plan_cert.specs.declared.section.Section.{Section}
 use Rattle.plan_cert.specs.declared.section.Section.TheVariants as sections
 use Rattle.plan_cert.specs.declared.stand.Stand.{Stand}
-use Rattle.plan_cert.specs.JobReading.{JobLinesData, take_line, job_of}
+use Rattle.plan_cert.specs.JobLines.{JobLinesData, job_of}
+use Rattle.plan_cert.specs.JobReading.{take_line}
 use Rattle.plan_cert.specs.PlanReading.{first_section}
 use Rattle.plan_cert.specs.Facts.{KeepsFacts, HasFew}
 use Rattle.plan_cert.specs.JobTest.{is_job}

@@ -1,6 +1,6 @@
 //! The formats that are read.
 ghost use Rattle.std.specs.Prelude.{◌≡◌};
-ghost use Rattle.plan_cert.specs.JobReading.{version_of, table_of, format_of};
+ghost use Rattle.plan_cert.specs.Formats.{version_of, table_of, format_of, has_loads};
 
 /// What is read: a certificate, in either version, or a table file.
 #[derive(Clone, Copy, Debug, PartialEq, Eq)]
@@ -10,11 +10,20 @@ pub enum Kind {
 }
 
 /// A format, which the first line of a text names. Of certificates version 2 is written.
-#[derive(Clone, Copy, Debug, PartialEq, Eq)]
+#[derive(Clone, Copy)]
 pub enum Format {
     Version1,
     Version2,
     Table,
+}
+
+impl Format {
+    /// Whether the format has gangs, a force and loads.
+    pub(crate) fn has_loads(self) -> bool
+        ensures { result ≡ has_loads self }
+    {
+        !matches!(self, Format::Version1)
+    }
 }
 
 /// The format that the first line of a text of this kind names.

@@ -4,18 +4,23 @@
 
 mod cert;
 mod cert_reading;
+mod fixture_reading;
 mod format;
 mod item;
 mod job_facts;
-mod job_line;
 mod job_lines;
 mod job_reading;
 mod known_notes;
+mod line_kind;
+mod part_reading;
 mod plan_reading;
 mod reader;
 mod rows;
+mod rule_reading;
 mod section;
+mod stage_reading;
 mod stand;
+mod tool_reading;
 mod words;
 mod writing;
 

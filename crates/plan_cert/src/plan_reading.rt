@@ -1,7 +1,7 @@
 //! Reading the lines behind the job: which line may stand where, and what it gives.
 ghost use Rattle.std.specs.Prelude.{◌≡◌, ◌+◌, ◌≤◌, ◌<◌, ℕ, IsTrue, IfSome};
 ghost use Rattle.job_setup.specs.Setup.{JobData};
-ghost use Rattle.plan_cert.specs.JobReading.{keyword_in, behind_keyword};
+ghost use Rattle.plan_cert.specs.LineReading.{keyword_in, behind_keyword};
 ghost use Rattle.cert_words.specs.LineWords.{Reads};
 ghost use Rattle.plan_cert.specs.Facts.{KeepsFacts};
 ghost use Rattle.plan_cert.specs.PlanItem.{placed};

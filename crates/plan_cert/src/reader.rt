@@ -3,7 +3,7 @@ ghost use Rattle.std.specs.Prelude.{◌≡◌, ◌+◌, ◌<◌, ℕ, List, [], 
 ghost use Rattle.job_setup.specs.Setup.{JobData};
 ghost use Rattle.job_setup.specs.ValidJob.{IsJob};
 ghost use Rattle.plan_cert.specs.Facts.{KeepsFacts, HasFew};
-ghost use Rattle.plan_cert.specs.JobReading.{job_lines_data, job_of, no_lines};
+ghost use Rattle.plan_cert.specs.JobLines.{job_lines_data, job_of, no_lines};
 ghost use Rattle.plan_cert.specs.Items.{items, lines_in, end_before, end_or_fault, plan_item, items_behind, job_items};
 ghost use Rattle.plan_cert.specs.PlanItem.{plan_answer, job_answer};
 ghost use Rattle.plan_cert.specs.Reading.{Reading, LeavesIn, Gives, GivesJob, IsJudged, Stops};
@@ -11,7 +11,7 @@ ghost use Rattle.plan_cert.specs.Reading.{Reading, LeavesIn, Gives, GivesJob, Is
 use crate::format::{Format, Kind, format_of};
 use crate::item::{CertFault, Item, PlanItem};
 use crate::job_facts::JobFacts;
-use crate::job_reading::{JobLines, may_be_judged};
+use crate::job_reading::JobLines;
 use crate::known_notes::{KnownNotes, known_line};
 use crate::plan_reading::{first_section, is_end_line, may_leave, take_plan_line};
 use crate::section::Section;
@@ -188,7 +188,7 @@ fn job_behind(lines: JobLines, line: &[u8], number: u32) -> Result<Job, CertFaul
         → GivesJob (job_lines_data lines) number (line.now ∷ rest) result
         (items_behind number (job_lines_data lines) line.now rest) }
 {
-    if !may_be_judged(&lines, line) {
+    if !lines.may_be_judged(line) {
         return Err(CertFault::BadLine { line: number });
     }
     match judge(lines) {

@@ -5,7 +5,7 @@ use brake_base::Key;
 /// Where a line behind the job stands: at the claim's place, behind so many steps, before the
 /// first row, behind a row or its notes, of which the next has at least this number, or behind the
 /// end or a refusal.
-#[derive(Clone, Copy, Debug, PartialEq, Eq)]
+#[derive(Clone, Copy)]
 pub(crate) enum Section {
     Claim,
     Steps(u8),
@@ -15,7 +15,7 @@ pub(crate) enum Section {
 }
 
 /// The kind of a line behind the job, but for the end.
-#[derive(Clone, Copy, Debug, PartialEq, Eq)]
+#[derive(Clone, Copy)]
 pub(crate) enum PlanLine {
     Claim,
     Step,

@@ -1,5 +1,5 @@
 use Rattle.std.proofs.Common.{◌≡◌, length}
-use Rattle.plan_cert.specs.JobReading.{job_lines_data}
+use Rattle.plan_cert.specs.JobLines.{job_lines_data}
 use Rattle.plan_cert.specs.Items.{lines_in, job_items}
 use Rattle.plan_cert.proofs.reader.behind_job_lines.Given as goal
 

@@ -1,5 +1,5 @@
 use Rattle.std.proofs.Common.{Err, refl, sym, ap, ◌∙◌}
-use Rattle.plan_cert.specs.JobReading.{job_lines_data, no_lines}
+use Rattle.plan_cert.specs.JobLines.{job_lines_data, no_lines}
 use Rattle.plan_cert.specs.Items.{lines_in, job_items}
 use Rattle.plan_cert.specs.PlanItem.{job_answer}
 use Rattle.plan_cert.proofs.JobItems.{behind_lines, job_unended}

@@ -1,5 +1,5 @@
 use Rattle.std.proofs.Common.{true, refl}
-use Rattle.plan_cert.specs.JobReading.{job_lines_data}
+use Rattle.plan_cert.specs.JobLines.{job_lines_data}
 use Rattle.plan_cert.specs.Items.{items_behind}
 use Rattle.plan_cert.proofs.PlanItems.{job_given}
 use Rattle.plan_cert.proofs.reader.judged_job.Goals as goal

@@ -1,11 +1,9 @@
-use Rattle.std.proofs.Common.{arith, ◌≡◌, ◌+◌, drop, Some, sym, ◌∙◌, subst}
+use Rattle.std.proofs.Common.{arith, ◌≡◌, Some, sym, subst}
 use Rattle.std.specs.Prelude.{slice_get}
-use Rattle.plan_cert.specs.Reading.{Reading, LeavesBy}
+use Rattle.plan_cert.specs.Reading.{Reading}
 use Rattle.plan_cert.specs.PlanItem.{job_answer}
 use Rattle.plan_cert.specs.Items.{items}
-use Rattle.plan_cert.proofs.ItemCounts.{answer_at, answers_behind}
-use Rattle.plan_cert.proofs.PlanItems.{leaves_next}
-use Rattle.plan_cert.proofs.Begun.{not_begun, begun_on}
+use Rattle.plan_cert.proofs.Begun.{first_answered}
 use Rattle.plan_cert.proofs.reader.CertReader.read_job.Goals as goal
 
 pub overflow_add-self : goal.overflow_add-self
@@ -16,24 +14,14 @@ overflow_add-self c =
 pub invariant_of-self : goal.invariant_of-self
 invariant_of-self c =
     let inside = c.self.inside in
-    let all = items inside.kind inside.text.now in
     let none : inside.answered ≡ 0 = subst (λ (r : Reading). r.answered ≡ 0) (sym c.self.view_is) c.requires in
-    let left : drop inside.answered all ≡ items inside.kind inside.stand.rest.now =
-    subst (λ b. LeavesBy b inside.kind inside.stand (drop inside.answered all)) (not_begun inside.answered inside.stand.is_begun c.self.invariant.2 none) c.self.invariant.0 in
-    let (more, first, on, few, rest) = c.first_answer.ensures in
-    let answer = job_answer c.first_answer.result in (
-      leaves_next inside.kind c.first_answer.new.stand (drop (inside.answered + 1) all) more on (answers_behind all more inside.answered answer (left ∙ first)) rest,
-      few,
-      begun_on inside.answered c.first_answer.new.stand.is_begun on,
-    )
+    let read = c.first_answer in
+    (first_answered inside.kind inside.stand read.new.stand (items inside.kind inside.text.now) inside.answered (job_answer read.result) none c.self.invariant.2 c.self.invariant.0 read.ensures).1
 
 pub returns-clause-given : goal.returns-clause-given
 returns-clause-given c =
     let inside = c.self.inside in
-    let all = items inside.kind inside.text.now in
     let none : inside.answered ≡ 0 = subst (λ (r : Reading). r.answered ≡ 0) (sym c.self.view_is) c.requires in
-    let left : drop inside.answered all ≡ items inside.kind inside.stand.rest.now =
-    subst (λ b. LeavesBy b inside.kind inside.stand (drop inside.answered all)) (not_begun inside.answered inside.stand.is_begun c.self.invariant.2 none) c.self.invariant.0 in
-    let (more, first, on, few, rest) = c.first_answer.ensures in
-    let answer = job_answer c.first_answer.result in
-    subst (λ (r : Reading). slice_get (items r.kind r.text) r.answered ≡ Some answer) c.self.view_is (answer_at all more inside.answered answer (left ∙ first))
+    let read = c.first_answer in
+    subst (λ (r : Reading). slice_get (items r.kind r.text) r.answered ≡ Some (job_answer read.result)) c.self.view_is
+    (first_answered inside.kind inside.stand read.new.stand (items inside.kind inside.text.now) inside.answered (job_answer read.result) none c.self.invariant.2 c.self.invariant.0 read.ensures).0
