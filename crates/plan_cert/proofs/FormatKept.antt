@@ -9,7 +9,7 @@ use Rattle.cert_words.specs.JobWords.{number_in, pair_in, rect_in, fixed_in, par
 use Rattle.plan_cert.specs.FirstVersion.{HasNoLoad}
 use Rattle.plan_cert.specs.LineReading.{only_if, keyword_in, behind_keyword}
 use Rattle.plan_cert.specs.Formats.{has_loads}
-use Rattle.plan_cert.specs.LineKinds.{is_gauge, is_cost, is_gang, is_pieces, is_of_punch, job_line_behind}
+use Rattle.plan_cert.specs.LineKinds.{is_gauge, is_cost, is_gang, is_pieces, job_line_behind}
 use Rattle.plan_cert.specs.JobLines.{JobLinesData, has_room}
 use Rattle.plan_cert.specs.PartReading.{face_behind, with_face, with_part, may_take_face, may_take_part, take_part, take_face}
 use Rattle.plan_cert.specs.FixtureReading.{with_bed, with_frame, with_lower, with_upper, may_take_bed, may_take_frame, may_take_lower, may_take_upper, take_bed, take_frame, take_upper, take_lower}

@@ -1,9 +1,9 @@
 -- The answers up to the job.
 use Rattle.std.proofs.Common.{◌≡◌, ℕ, ◌<◌, Bool, true, false, not, List, [], ◌∷◌, length, Option, Some, None, Result, Ok, Err, refl, sym, ap, subst, ◌∙◌, arith}
 use Rattle.std.specs.Prelude.{if◌then◌else◌, ◌&&◌, is_some}
-use Rattle.std.proofs.lemmas.Bool.{and_parts, false_from_ne_true, false≢true}
+use Rattle.std.proofs.lemmas.Bool.{false_from_ne_true, false≢true}
 use Rattle.job_setup.specs.Setup.{JobData}
-use Rattle.job_setup.specs.ValidJob.{IsJob, IsJobFrom}
+use Rattle.job_setup.specs.ValidJob.{IsJobFrom}
 use Rattle.plan_cert.specs.declared.format.Kind.{Kind}
 use Rattle.plan_cert.specs.declared.format.Format.{Format}
 use Rattle.plan_cert.specs.declared.item.Item.{Item}
@@ -18,7 +18,7 @@ use Rattle.plan_cert.specs.JobLines.{Takes, job_lines_data, JobLinesData, no_lin
 use Rattle.plan_cert.specs.JobReading.{take_line}
 use Rattle.plan_cert.specs.PlanReading.{first_section}
 use Rattle.plan_cert.specs.Items.{lines_in, next_number, may_be_judged, judged_items, plan_items, items_behind, job_items, items_of_lines, items}
-use Rattle.plan_cert.specs.Reading.{Gives, GivesJob, IsJudged, Stops}
+use Rattle.plan_cert.specs.Reading.{Gives, IsJudged, Stops}
 use Rattle.plan_cert.proofs.JobDecided.{job_decided}
 use Rattle.plan_cert.proofs.WholeLines.{some_line}
 

@@ -160,7 +160,7 @@ punch_step format p q su sg n h s is a b = ((name_plain n is, (signed_plain h a,
 pub punch_box_step : (format : Format) (last : LineKind) (p : PartData) (q : ℤ) (su : SetupData) (sg : StageData) (r : Rect) → is_of_punch last ≡ true → length sg.punch.body < MOST_BODY_BOXES → SmallRect r
     → Step (state format last p q su sg) (box_line r) (state format kinds.PunchBox p q su (record sg { punch = record sg.punch { body = sg.punch.body ++ r ∷ [] } }))
 unfolding take_line take_words take_punch_box with_punch_box
-punch_box_step format last p q su sg r of few s = (plain_rect r s, rw (of, lt-ltb (length sg.punch.body) MOST_BODY_BOXES few, rect_alone r s) refl)
+punch_box_step format last p q su sg r of few s = (plain_rect r s, rw (of, of, lt-ltb (length sg.punch.body) MOST_BODY_BOXES few, rect_alone r s) refl)
 
 pub die_step : (format : Format) (last : LineKind) (p : PartData) (q : ℤ) (su : SetupData) (sg : StageData) (n : List ℕ) (h v l : ℤ) → is_of_punch last ≡ true → is_name n ≡ true → IsSmall h → IsSmall v → IsSmall l
     → Step (state format last p q su sg) (die_line n h v l) (state format kinds.Die p q su (record sg { die = record { name = n; height = h; v = v; least_flange = l; body = []; sections = []; limit = pos 0 } }))

@@ -1,5 +1,5 @@
 -- Reading the lines of what is fixed on the machine: the bed, the side frames, and the boxes above the bed and of it.
-use Rattle.std.specs.Prelude.{ℕ, ℤ, Bool, ◌&&◌, nat_lt, List, [], ◌∷◌, ◌++◌, length, Option, Some, if◌then◌else◌}
+use Rattle.std.specs.Prelude.{ℕ, ℤ, Bool, ◌&&◌, nat_lt, List, [], ◌∷◌, ◌++◌, length, Option, Some}
 use Rattle.machine_file.specs.declared.bounds.TheConstants.{MOST_FRAMES, MOST_BOXES}
 use Rattle.machine_file.specs.declared.machine.Fixed.{Fixed}
 use Rattle.plan_cert.specs.declared.line_kind.LineKind.TheVariants as kinds

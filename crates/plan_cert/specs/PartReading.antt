@@ -1,5 +1,5 @@
 -- Reading the lines of the part: the sheet, and the faces, each on an earlier one.
-use Rattle.std.specs.Prelude.{ℕ, ℤ, Bool, nat_lt, List, [], ◌∷◌, ◌++◌, length, Option, Some, None, if◌then◌else◌}
+use Rattle.std.specs.Prelude.{ℕ, ℤ, Bool, nat_lt, List, [], ◌∷◌, ◌++◌, length, Option, Some, None}
 use Rattle.part_file.specs.declared.bounds.TheConstants.{MOST_FACES}
 use Rattle.part_file.specs.Part.{FaceData, PartData}
 use Rattle.plan_cert.specs.declared.line_kind.LineKind.{LineKind}

@@ -1,5 +1,5 @@
 -- Reading the lines of the machine's rules: what may stay uncovered, the backgauge, the costs, the gangs and the force.
-use Rattle.std.specs.Prelude.{ℕ, ℤ, Bool, false, ◌&&◌, List, Option, Some, None, if◌then◌else◌}
+use Rattle.std.specs.Prelude.{ℕ, ℤ, Bool, false, ◌&&◌, List, Option, Some, None}
 use Rattle.machine_file.specs.declared.machine.GaugeRule.{GaugeRule}
 use Rattle.machine_file.specs.declared.machine.Costs.{Costs}
 use Rattle.plan_cert.specs.declared.line_kind.LineKind.TheVariants as kinds

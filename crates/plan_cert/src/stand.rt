@@ -1,8 +1,11 @@
 //! Where a reader stands in its text.
-ghost use Rattle.std.specs.Prelude.{◌≡◌, ◌≢◌, ◌+◌, ◌<◌, ℕ, [], ◌∷◌, All, length, position, Some, IsNone, IfSome};
+ghost use Rattle.std.specs.Prelude.{◌≡◌, ◌≢◌, ◌+◌, ◌<◌, ℕ, [], ◌∷◌, All, length, position, Some, Err, IsNone, IfSome};
 ghost use Rattle.brake_text.specs.Lines.{is_line_feed};
+ghost use Rattle.plan_cert.specs.Facts.{HasFew};
 ghost use Rattle.plan_cert.specs.Items.{lines_in, next_number};
+ghost use Rattle.plan_cert.specs.Reading.{Gives};
 
+use crate::item::CertFault;
 use crate::job_facts::JobFacts;
 use crate::section::Section;
 
@@ -43,4 +46,14 @@ pub(crate) fn next_number(number: u32) -> u32
     ensures { result ≡ next_number number }
 {
     number.saturating_add(1)
+}
+
+/// Refuses the text, so that no answer is left behind the fault.
+pub(crate) fn refuse(stand: &mut Stand, fault: CertFault) -> CertFault
+    requires { HasFew stand.old.facts }
+    ensures { Gives (Err fault ∷ []) (Err result) stand.new }
+{
+    stand.is_begun = true;
+    stand.section = Section::Over;
+    fault
 }

@@ -1,7 +1,7 @@
 use Rattle.std.proofs.Common.{Err, refl}
 use Rattle.plan_cert.specs.PlanItem.{plan_answer}
 use Rattle.plan_cert.proofs.PlanItems.{line_given, line_unended}
-use Rattle.plan_cert.proofs.reader.read_answer.Goals as goal
+use Rattle.plan_cert.proofs.plan_answers.read_answer.Goals as goal
 
 pub returns-in-Some : goal.returns-in-Some
 returns-in-Some c = λ answers left some.

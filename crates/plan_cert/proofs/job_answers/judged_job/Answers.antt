@@ -2,7 +2,7 @@ use Rattle.std.proofs.Common.{true, refl}
 use Rattle.plan_cert.specs.JobLines.{job_lines_data}
 use Rattle.plan_cert.specs.Items.{items_behind}
 use Rattle.plan_cert.proofs.PlanItems.{job_given}
-use Rattle.plan_cert.proofs.reader.judged_job.Goals as goal
+use Rattle.plan_cert.proofs.job_answers.judged_job.Goals as goal
 
 pub returns-in-Ok : goal.returns-in-Ok
 returns-in-Ok c = λ behind cut.

@@ -1,7 +1,7 @@
 use Rattle.std.proofs.Common.{Ok, refl}
 use Rattle.plan_cert.specs.PlanItem.{placed}
 use Rattle.plan_cert.proofs.PlanItems.{line_given, item_taken}
-use Rattle.plan_cert.proofs.reader.answer_behind_job.Goals as goal
+use Rattle.plan_cert.proofs.plan_answers.answer_behind_job.Goals as goal
 
 pub returns-in-Some : goal.returns-in-Some
 returns-in-Some c = λ answers left some.

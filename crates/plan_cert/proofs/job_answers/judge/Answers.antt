@@ -3,7 +3,7 @@ use Rattle.std.proofs.lemmas.Int.{to_z-of_z}
 use Rattle.job_setup.specs.ValidJob.{IsJobFrom}
 use Rattle.plan_cert.specs.JobLines.{job_lines_data, job_of}
 use Rattle.plan_cert.proofs.JobItems.{judged, true_by}
-use Rattle.plan_cert.proofs.reader.judge.Goals as goal
+use Rattle.plan_cert.proofs.job_answers.judge.Goals as goal
 
 pub returns : goal.returns
 returns c =

@@ -3,7 +3,7 @@ use Rattle.plan_cert.specs.JobLines.{job_lines_data}
 use Rattle.plan_cert.specs.JobReading.{take_line}
 use Rattle.plan_cert.specs.Items.{lines_in, job_items}
 use Rattle.plan_cert.proofs.JobItems.{taken, takes_some}
-use Rattle.plan_cert.proofs.reader.behind_job_lines.Goals as goal
+use Rattle.plan_cert.proofs.job_answers.behind_job_lines.Goals as goal
 
 pub loop-line-preserved : goal.loop-line-preserved
 loop-line-preserved c =

@@ -1,7 +1,7 @@
 use Rattle.std.proofs.Common.{Err, refl, sym, ◌∙◌}
 use Rattle.plan_cert.specs.PlanItem.{job_answer}
 use Rattle.plan_cert.proofs.JobItems.{first_good, first_bad, first_unended}
-use Rattle.plan_cert.proofs.reader.first_answer.Goals as goal
+use Rattle.plan_cert.proofs.job_answers.first_answer.Goals as goal
 
 pub returns-in-Some-format_of : goal.returns-in-Some-format_of
 returns-in-Some-format_of c =

@@ -3,7 +3,7 @@ use Rattle.plan_cert.specs.JobLines.{job_lines_data, no_lines}
 use Rattle.plan_cert.specs.Items.{lines_in, job_items}
 use Rattle.plan_cert.specs.PlanItem.{job_answer}
 use Rattle.plan_cert.proofs.JobItems.{behind_lines, job_unended}
-use Rattle.plan_cert.proofs.reader.job_in.Goals as goal
+use Rattle.plan_cert.proofs.job_answers.job_in.Goals as goal
 
 pub returns-in-Some : goal.returns-in-Some
 returns-in-Some c =

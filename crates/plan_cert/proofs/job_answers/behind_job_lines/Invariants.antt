@@ -1,7 +1,7 @@
 use Rattle.std.proofs.Common.{◌≡◌, length}
 use Rattle.plan_cert.specs.JobLines.{job_lines_data}
 use Rattle.plan_cert.specs.Items.{lines_in, job_items}
-use Rattle.plan_cert.proofs.reader.behind_job_lines.Given as goal
+use Rattle.plan_cert.proofs.job_answers.behind_job_lines.Given as goal
 
 -- what was taken is gone from the rest
 abbrev pub invariant-loop-line : goal.invariant-loop-line

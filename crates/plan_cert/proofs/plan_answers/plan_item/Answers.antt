@@ -2,7 +2,7 @@ use Rattle.std.proofs.Common.{ap, ◌∙◌}
 use Rattle.plan_cert.specs.declared.section.Section.TheVariants as sections
 use Rattle.plan_cert.specs.PlanItem.{placed}
 use Rattle.plan_cert.proofs.PlanItems.{item_taken, item_refused}
-use Rattle.plan_cert.proofs.reader.plan_item.Goals as goal
+use Rattle.plan_cert.proofs.plan_answers.plan_item.Goals as goal
 
 pub returns-in-Some : goal.returns-in-Some
 returns-in-Some c = λ job kept.
