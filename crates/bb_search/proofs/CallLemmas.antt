@@ -10,7 +10,7 @@ use Rattle.brake_base.specs.declared.stroke.Worth.{Worth}
 use Rattle.brake_base.specs.declared.stroke.Worth.TheVariants.{Cost, Blocked}
 use Rattle.brake_base.specs.declared.reason.Reason.{Reason}
 use Rattle.brake_base.specs.Masks.{union}
-use Rattle.brake_base.specs.Actions.{number_of}
+use Rattle.brake_base.specs.Actions.{number_of_action}
 use Rattle.job_setup.specs.StrokeGroup.{group_of}
 use Rattle.job_setup.specs.Setup.{JobData, stage_count}
 use Rattle.job_setup.specs.ValidJob.{IsJob}
@@ -139,7 +139,7 @@ module _ (job : JobData) (is_job : IsJob job) (before now : Pool) (key : Key) (f
       (state.0, skipped job is_job before now key state.0 from best state.1 order at_row.late at_row.first)
 
   pub settling_noted : (action : Action) (reason : Reason) → now.actions ≡ 24 * stage_count job → IsActionAt job key action → order_of job key action ≡ from → IsReasonFor job key.mask action reason →
-      IsSettling job before (with_reason now (length before.rows) (number_of (stage_count job) action) reason) key (from + 1) best
+      IsSettling job before (with_reason now (length before.rows) (number_of_action (stage_count job) action) reason) key (from + 1) best
   settling_noted action reason all at place holds =
       let back = sym state.1.its in (
         _,

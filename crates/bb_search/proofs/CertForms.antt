@@ -12,7 +12,7 @@ use Rattle.brake_base.specs.declared.stroke.Action.{Action}
 use Rattle.brake_base.specs.declared.stroke.Step.{Step}
 use Rattle.brake_base.specs.declared.stroke.Worth.{Worth}
 use Rattle.brake_base.specs.declared.stroke.Worth.TheVariants.{Cost, Blocked}
-use Rattle.brake_base.specs.Actions.{number_of, back_number}
+use Rattle.brake_base.specs.Actions.{number_of_action, back_number}
 use Rattle.brake_base.specs.Keys.{KeyIsBefore}
 use Rattle.job_setup.specs.Setup.{JobData, bend_count, stage_count}
 use Rattle.job_setup.specs.StrokeGroup.{is_lead}
@@ -79,8 +79,8 @@ back_below : (back : Back) → back_number back < 2
 back_below Parent = omega arith
 back_below Child = omega arith
 
-number_fits : (job : JobData) (key : Key) (action : Action) → IsActionAt job key action → number_of (stage_count job) action < 2 * bend_count job * stage_count job
-unfolding number_of
+number_fits : (job : JobData) (key : Key) (action : Action) → IsActionAt job key action → number_of_action (stage_count job) action < 2 * bend_count job * stage_count job
+unfolding number_of_action
 number_fits job key action at =
     let side : (action.bend - 1) * 2 + back_number action.back < 2 * bend_count job = omega (arith, back_below action.back, at.first, at.last) in
     let below = mul-add-lt ((action.bend - 1) * 2 + back_number action.back) (stage_count job) action.stage (2 * bend_count job) side at.stage in

@@ -8,7 +8,7 @@ use Rattle.brake_base.specs.declared.stroke.Action.{Action}
 use Rattle.brake_base.specs.declared.stroke.Step.{Step}
 use Rattle.brake_base.specs.declared.stroke.Worth.{Worth}
 use Rattle.brake_base.specs.declared.reason.Reason.{Reason}
-use Rattle.brake_base.specs.Actions.{number_of}
+use Rattle.brake_base.specs.Actions.{number_of_action}
 use Rattle.job_setup.specs.Setup.{JobData, stage_count}
 use Rattle.job_setup.specs.ValidJob.{IsJob}
 use Rattle.handling_cost.specs.StepCost.{IsActionAt}
@@ -129,7 +129,7 @@ module _ (pool : Pool) (orders : List ℕ) (are : AreSortedRows pool.rows orders
         let head = head_at place.0 place.1 place.2 in
         let same = same_head k place.1 row head.0 at_row place.3 head.2 in
         let its_key : head.0.key ≡ key = sym head.2.2 ∙ (ap (λ (r : PoolRow). r.key) same ∙ of_key) in
-        let number = number_of (stage_count job) action in
+        let number = number_of_action (stage_count job) action in
         let note : Note = record { row = place.0; action = number; reason = reason } in
         let below = number_below job is_job key action at in
         let low = slice_get_within orders place.0 place.1 place.2 in
@@ -150,7 +150,7 @@ module _ (pool : Pool) (orders : List ℕ) (are : AreSortedRows pool.rows orders
       pub key : row.key ≡ head.key
       pub worth : row.worth ≡ Some head.worth
       pub is_action : IsActionAt job row.key action
-      pub number : number_of (stage_count job) action ≡ note.action
+      pub number : number_of_action (stage_count job) action ≡ note.action
       pub numbered : action ≡ action_at (stage_count job) note.action
       pub holds : IsNoted job row.key note.action note.reason
       pub reason : reason_for note.action row ≡ Some note.reason
@@ -195,7 +195,7 @@ module _ (pool : Pool) (orders : List ℕ) (are : AreSortedRows pool.rows orders
         let place : note.0.row ≡ i = ap (λ (p : ℕ × (Action × Reason)). p.0) note.2 in
         let same : found.0 ≡ head.0 = same_Some found.0 head.0 (sym at.at ∙ (ap (slice_get heads) place ∙ head.1)) in
         let act : found.2 ≡ action = at.numbered ∙ ap (λ (p : ℕ × (Action × Reason)). p.1.0) note.2 in
-        let number : number_of (stage_count job) action ≡ note.0.action = ap (number_of (stage_count job)) (sym act) ∙ at.number in (
+        let number : number_of_action (stage_count job) action ≡ note.0.action = ap (number_of_action (stage_count job)) (sym act) ∙ at.number in (
           found.3,
           row,
           at.at_row,

@@ -13,7 +13,7 @@ use Rattle.brake_base.specs.declared.stroke.Worth.{Worth}
 use Rattle.brake_base.specs.declared.stroke.Worth.TheVariants.{Cost, Blocked}
 use Rattle.brake_base.specs.declared.reason.Reason.{Reason}
 use Rattle.brake_base.specs.Worths.{IsAtMost}
-use Rattle.brake_base.specs.Actions.{number_of}
+use Rattle.brake_base.specs.Actions.{number_of_action}
 use Rattle.brake_base.proofs.Worths.{at_most_self}
 use Rattle.brake_base.proofs.Actions.{same_number}
 use Rattle.job_setup.specs.Setup.{JobData, bend_count, stage_count}
@@ -124,7 +124,7 @@ module _ (job : JobData) (is_job : IsJob job) (pool : Pool) (is_pool : IsPool po
   -- a reason that a row has for an action at its key holds against the action
   noted_holds : (row : PoolRow) → AreNoted job row → (action : Action) (reason : Reason) → IsActionAt job row.key action → noted_for job action row ≡ Some reason → IsReasonFor job row.key.mask action reason
   noted_holds row noted action reason at is =
-      let found = noted (number_of (stage_count job) action) reason is in
+      let found = noted (number_of_action (stage_count job) action) reason is in
       let same : found.0 ≡ action = same_number (stage_count job) found.0 action (is_action job is_job row.key found.0 found.1) (is_action job is_job row.key action at) found.2 in
       subst (λ (a : Action). IsReasonFor job row.key.mask a reason) same found.3
 

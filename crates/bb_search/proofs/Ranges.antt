@@ -33,7 +33,7 @@ use Rattle.handling_cost.specs.StepCost.{left, key_after}
 use Rattle.handling_cost.specs.Plan.{IsReasonFor, IsGaugeFor, IsLegal, IsRest}
 use Rattle.handling_cost.proofs.Actions.{few_bends, fewer_left}
 use Rattle.handling_cost.proofs.Counts.{at_most_all}
-use Rattle.plan_cert.specs.WellFormed.{IsStep, IsReason as IsRangedReason}
+use Rattle.plan_cert.specs.WellFormed.{IsStep, IsReasonInRange}
 
 -- ---- boxes
 ids_few : (shape : ShapeData) → IsShape shape → (mask : Mask) → All (λ id. id ≤ 24) (box_ids shape mask)
@@ -102,7 +102,7 @@ some_lower job is_job stage index P some =
     omega (arith, below)
 
 -- ---- reasons
-ranged : (job : JobData) → IsJob job → (mask group : Mask) (back : Back) (stage : ℕ) (reason : Reason) → IsReason job mask group back stage reason → IsRangedReason job reason
+ranged : (job : JobData) → IsJob job → (mask group : Mask) (back : Back) (stage : ℕ) (reason : Reason) → IsReason job mask group back stage reason → IsReasonInRange job reason
 ranged job is_job mask group back stage Cover holds = tt
 ranged job is_job mask group back stage (Rest half) holds = tt
 ranged job is_job mask group back stage (Frame box) holds = some_box job is_job mask group back stage box _ holds
@@ -114,7 +114,7 @@ ranged job is_job mask group back stage NoGauge holds = tt
 ranged job is_job mask group back stage Load holds = tt
 
 -- a reason that holds against an action is within the ranges of a certificate
-pub reason_ranged : (job : JobData) → IsJob job → (mask : Mask) (action : Action) (reason : Reason) → IsReasonFor job mask action reason → IsRangedReason job reason
+pub reason_ranged : (job : JobData) → IsJob job → (mask : Mask) (action : Action) (reason : Reason) → IsReasonFor job mask action reason → IsReasonInRange job reason
 unfolding IsReasonFor
 reason_ranged job is_job mask action reason holds = ranged job is_job mask (group_of job mask action.bend) action.back action.stage reason holds
 

@@ -12,7 +12,7 @@ use Rattle.brake_base.specs.declared.stroke.Gauge.{Gauge}
 use Rattle.brake_base.specs.declared.stroke.Worth.{Worth}
 use Rattle.brake_base.specs.declared.stroke.Worth.TheVariants.{Cost, Blocked}
 use Rattle.brake_base.specs.declared.reason.Reason.{Reason}
-use Rattle.brake_base.specs.Actions.{number_of}
+use Rattle.brake_base.specs.Actions.{number_of_action}
 use Rattle.brake_base.proofs.Actions.{same_number}
 use Rattle.job_setup.specs.Setup.{JobData, stage_count}
 use Rattle.job_setup.specs.ValidJob.{IsJob}
@@ -92,7 +92,7 @@ module _ (job : JobData) (before : Pool) (key : Key) where
           attained = tt;
           leads_on = tt;
         };
-        late = λ action at later. reason-new_row before.actions key (number_of (stage_count job) action);
+        late = λ action at later. reason-new_row before.actions key (number_of_action (stage_count job) action);
         others = λ i r at. elim (push_cases before.rows row i r at) [
           | inl there ↦ inl there
           | inr here ↦ inr (inl here.0)
@@ -198,23 +198,23 @@ module _ (job : JobData) (is_job : IsJob job) (before now : Pool) (key : Key) (r
       }
 
   module _ (action : Action) (at : IsActionAt job row.key action) (place : order_of job row.key action ≡ from) where
-    same_action : (other : Action) → IsActionAt job row.key other → number_of (stage_count job) other ≡ number_of (stage_count job) action → other ≡ action
+    same_action : (other : Action) → IsActionAt job row.key other → number_of_action (stage_count job) other ≡ number_of_action (stage_count job) action → other ≡ action
     same_action other at_other same = same_number (stage_count job) other action (is_action job is_job row.key other at_other) (is_action job is_job row.key action at) same
 
     -- an earlier action has another number
-    other_number : (other : Action) → IsActionAt job row.key other → (order_of job row.key other ≢ from) → number_of (stage_count job) other ≢ number_of (stage_count job) action
+    other_number : (other : Action) → IsActionAt job row.key other → (order_of job row.key other ≢ from) → number_of_action (stage_count job) other ≢ number_of_action (stage_count job) action
     other_number other at_other differ same = differ (ap (order_of job row.key) (same_action other at_other same) ∙ place)
 
     -- the action is refused, and the reason is noted
-    pub noted : (reason : Reason) → IsReasonFor job row.key.mask action reason → number_of (stage_count job) action < now.actions →
-        IsSettlingAt job before (with_reason now (length before.rows) (number_of (stage_count job) action) reason) key (record row { reasons = set row.reasons (number_of (stage_count job) action) (Some reason) }) (from + 1) best
+    pub noted : (reason : Reason) → IsReasonFor job row.key.mask action reason → number_of_action (stage_count job) action < now.actions →
+        IsSettlingAt job before (with_reason now (length before.rows) (number_of_action (stage_count job) action) reason) key (record row { reasons = set row.reasons (number_of_action (stage_count job) action) (Some reason) }) (from + 1) best
     noted reason holds known =
-        let number = number_of (stage_count job) action in
+        let number = number_of_action (stage_count job) action in
         let change : PoolRow → PoolRow = λ r. record r { reasons = set r.reasons number (Some reason) } in
         let changed = changed_at (length before.rows) change now.rows in
         let within : number < length row.reasons = rw state.places known in
         let other_reason : (other : Action) → IsActionAt job row.key other → (order_of job row.key other ≢ from) → noted_for job other (change row) ≡ noted_for job other row =
-        λ other at_other differ. reason-set_other row number (number_of (stage_count job) other) reason (other_number other at_other differ)
+        λ other at_other differ. reason-set_other row number (number_of_action (stage_count job) other) reason (other_number other at_other differ)
         in
         record {
           sound = sound_by change (λ r. refl) (λ other worth one is. absurd (no_worth other worth (ap (λ (r : PoolRow). r.worth) one ∙ state.unsettled) is));
@@ -231,12 +231,12 @@ module _ (job : JobData) (is_job : IsJob job) (before now : Pool) (key : Key) (r
                   (action, at, sym same.1, subst (λ (r : Reason). IsReasonFor job row.key.mask action r) one holds)
               | inr differ ↦ state.work.noted other other_reason (sym (reason-set_other row number other reason differ.1) ∙ is)
             ];
-            closed = λ other at_other early free. elim (eqb_tells (number_of (stage_count job) other) number) [
+            closed = λ other at_other early free. elim (eqb_tells (number_of_action (stage_count job) other) number) [
               | inl same ↦ absurd (none-some reason (sym free ∙ (ap (λ (n : ℕ). reason_for n (change row)) same.1 ∙ reason-set_same row number reason within)))
               | inr differ ↦ elim (cases_lt (order_of job row.key other) from) [
                 | inl earlier ↦ closed_kept job now.rows changed (extends_by change) row.key other best
-                    (state.work.closed other at_other earlier (sym (reason-set_other row number (number_of (stage_count job) other) reason differ.1) ∙ free))
-                | inr late ↦ absurd (differ.1 (ap (number_of (stage_count job)) (same_order job is_job row.key other action at_other at (omega arith))))
+                    (state.work.closed other at_other earlier (sym (reason-set_other row number (number_of_action (stage_count job) other) reason differ.1) ∙ free))
+                | inr late ↦ absurd (differ.1 (ap (number_of_action (stage_count job)) (same_order job is_job row.key other action at_other at (omega arith))))
               ]
             ];
             attained = state.work.attained;
@@ -378,7 +378,7 @@ module _ (job : JobData) (is_job : IsJob job) (before now : Pool) (key : Key) (r
       let done : IsSettled job changed (change row) best = record {
         noted = λ number reason is. state.work.noted number reason (sym (reason-worth row number best) ∙ is);
         closed = λ action at free. elim (cases_lt (order_of job row.key action) from) [
-          | inl earlier ↦ closed_kept job now.rows changed extends row.key action best (state.work.closed action at earlier (sym (reason-worth row (number_of (stage_count job) action) best) ∙ free))
+          | inl earlier ↦ closed_kept job now.rows changed extends row.key action best (state.work.closed action at earlier (sym (reason-worth row (number_of_action (stage_count job) action) best) ∙ free))
           | inr late ↦ (Cost (bound_of job (key_after job row.key action)), inl refl, rest action at late)
         ];
         attained = state.work.attained;
@@ -416,7 +416,7 @@ module _ (job : JobData) (is_job : IsJob job) (before now : Pool) (key : Key) (r
                 refl,
                 record {
                   is_action = pending.2.is_action;
-                  free = reason-worth row (number_of (stage_count job) pending.0) best ∙ pending.2.free;
+                  free = reason-worth row (number_of_action (stage_count job) pending.0) best ∙ pending.2.free;
                   next = pending.2.next;
                   sum = pending.2.sum;
                 },

@@ -11,7 +11,7 @@ use Rattle.handling_cost.specs.StepCost.{IsActionAt, attitude_at}
 use Rattle.handling_cost.specs.Plan.{IsReasonFor, IsGaugeFor}
 use Rattle.stroke_table.specs.declared.stroke.StageStroke.{StageStroke}
 use Rattle.stroke_table.specs.Strokes.{IsStrokeAt, IsFirstAt}
-use Rattle.bb_search.specs.declared.set_table.Tested.TheVariants.{Free}
+use Rattle.bb_search.specs.declared.search_table.Tested.TheVariants.{Free}
 use Rattle.bb_search.specs.Tested.{IsFirstGauge, IsTested}
 
 module _ (job : JobData) (key : Key) (action : Action) (at : IsActionAt job key action) (stroke : StageStroke) (is : IsStrokeAt job key.mask action stroke) where

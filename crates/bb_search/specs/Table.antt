@@ -4,7 +4,7 @@ use Rattle.brake_base.specs.declared.stroke.Key.{Key}
 use Rattle.brake_base.specs.declared.stroke.Action.{Action}
 use Rattle.brake_base.specs.declared.stroke.Worth.{Worth}
 use Rattle.brake_base.specs.declared.reason.Reason.{Reason}
-use Rattle.brake_base.specs.Actions.{number_of}
+use Rattle.brake_base.specs.Actions.{number_of_action}
 use Rattle.job_setup.specs.Setup.{JobData, stage_count}
 use Rattle.handling_cost.specs.StepCost.{IsActionAt}
 use Rattle.handling_cost.specs.Plan.{IsReasonFor}
@@ -20,7 +20,7 @@ reason_for number row = option_and_then (λ reason. reason) (slice_get row.reaso
 
 -- the reason that a row has for an action
 abbrev pub noted_for : JobData → Action → PoolRow → Option Reason
-noted_for job action row = reason_for (number_of (stage_count job) action) row
+noted_for job action row = reason_for (number_of_action (stage_count job) action) row
 
 -- a row with a worth has the key, and the reason for the action
 abbrev pub HasNote : JobData → List PoolRow → Key → Action → Reason → Type 0
@@ -30,7 +30,7 @@ HasNote job rows key action reason =
 -- the number is that of an action at the key, and the reason holds against it
 abbrev pub IsNoted : JobData → Key → ℕ → Reason → Type 0
 IsNoted job key number reason =
-    (action : Action) × IsActionAt job key action × (number_of (stage_count job) action ≡ number) × IsReasonFor job key.mask action reason
+    (action : Action) × IsActionAt job key action × (number_of_action (stage_count job) action ≡ number) × IsReasonFor job key.mask action reason
 
 -- each reason that the row has is against an action at its key, and holds
 abbrev pub AreNoted : JobData → PoolRow → Type 0

@@ -10,8 +10,8 @@ use Rattle.job_setup.specs.Reasons.{pose_at}
 use Rattle.gauge_rules.specs.Pairs.{IsFirstLegal}
 use Rattle.handling_cost.specs.StepCost.{attitude_at}
 use Rattle.handling_cost.specs.Plan.{IsReasonFor, IsLegal}
-use Rattle.bb_search.specs.declared.set_table.Tested.{Tested}
-use Rattle.bb_search.specs.declared.set_table.Tested.TheVariants.{Refused, Free}
+use Rattle.bb_search.specs.declared.search_table.Tested.{Tested}
+use Rattle.bb_search.specs.declared.search_table.Tested.TheVariants.{Refused, Free}
 
 -- the gauge is the first legal pair in the stroke of an action's group
 unfoldable pub IsFirstGauge : JobData → Mask → Action → Gauge → Type 0

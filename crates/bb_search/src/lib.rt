@@ -8,7 +8,7 @@ mod outcome;
 mod plan;
 mod reach;
 mod search;
-mod set_table;
+mod search_table;
 mod settle;
 mod worths;
 

@@ -14,7 +14,7 @@ ghost use Rattle.bb_search.specs.Outcomes.{HaveFirstGauges};
 ghost use Rattle.bb_search.specs.Table.{HasRow};
 
 use crate::orders::{action_in, push_sorted_orders};
-use crate::set_table::{SetTable, Tested};
+use crate::search_table::{SearchTable, Tested};
 use crate::settle::key_with;
 use crate::worths::MOST_COST;
 use arrayvec::ArrayVec;
@@ -103,7 +103,7 @@ fn onward_by(
 fn step_by(
     job: &Job,
     pool: &RowPool,
-    table: &mut SetTable,
+    table: &mut SearchTable,
     state: &BendState,
     key: &Key,
     worth: u64,
@@ -138,7 +138,7 @@ fn step_by(
 fn next_step(
     job: &Job,
     pool: &RowPool,
-    table: &mut SetTable,
+    table: &mut SearchTable,
     state: &BendState,
     key: &Key,
     worth: u64,
@@ -164,7 +164,7 @@ fn next_step(
 fn first_onward(
     job: &Job,
     pool: &RowPool,
-    table: &mut SetTable,
+    table: &mut SearchTable,
     state: &BendState,
     key: &Key,
     worth: u64,
@@ -197,7 +197,7 @@ fn first_onward(
 pub(crate) fn kept_plan(
     job: &Job,
     pool: &RowPool,
-    table: &mut SetTable,
+    table: &mut SearchTable,
     state: &mut BendState,
     trail: &mut Region<Place>,
     cost: u64,

@@ -15,7 +15,7 @@ use crate::certificate::{notes_of, row_heads, sorted_rows};
 use crate::outcome::Outcome;
 use crate::plan::kept_plan;
 use crate::reach::nodes;
-use crate::set_table::SetTable;
+use crate::search_table::SearchTable;
 use crate::settle::settle;
 use arrayvec::ArrayVec;
 use bend_state::BendState;
@@ -37,7 +37,7 @@ const TRAIL_ROOM: usize = 156;
 pub struct Search {
     pool: RowPool,
     trail: Region<Place>,
-    table: SetTable,
+    table: SearchTable,
     budget: u32,
     outcome: Option<Outcome>,
     steps: ArrayVec<Step, 12>,
@@ -59,7 +59,7 @@ impl Model for Search {
 fn start_worth(
     job: &Job,
     pool: &mut RowPool,
-    table: &mut SetTable,
+    table: &mut SearchTable,
     state: &mut BendState,
     trail: &mut Region<Place>,
 ) -> Option<Worth>
@@ -84,7 +84,7 @@ fn start_worth(
 fn steps_of(
     job: &Job,
     pool: &RowPool,
-    table: &mut SetTable,
+    table: &mut SearchTable,
     state: &mut BendState,
     trail: &mut Region<Place>,
     worth: Option<Worth>,
@@ -129,7 +129,7 @@ impl Search {
         let rows = budget.min(nodes(job));
         let pool = RowPool::open(alloc, rows, 24 * job.stages())?;
         let trail = Region::open(alloc, TRAIL_ROOM)?;
-        let table = SetTable::open(alloc, job)?;
+        let table = SearchTable::open(alloc, job)?;
         Ok(Search {
             pool,
             trail,

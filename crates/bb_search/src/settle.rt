@@ -6,13 +6,13 @@ ghost use Rattle.job_setup.specs.Setup.{shape_of, stage_count};
 ghost use Rattle.job_setup.specs.ValidJob.{IsJob};
 ghost use Rattle.row_pool.specs.Rows.{Pool, keys};
 ghost use Rattle.handling_cost.specs.StepCost.{IsKeyOf, IsActionAt, IsFull, left};
-ghost use Rattle.brake_base.specs.Actions.{number_of};
+ghost use Rattle.brake_base.specs.Actions.{number_of_action};
 ghost use Rattle.handling_cost.specs.Reach.{IsNode};
 ghost use Rattle.bb_search.specs.Candidates.{IsNext};
 ghost use Rattle.bb_search.specs.Settling.{IsSound, OpenAbove, IsFound, IsSettling, IsOpenRow, IsTriedTo};
 
 use crate::orders::{Candidate, MOST_ACTIONS, next_candidate, push_sorted_orders};
-use crate::set_table::{SetTable, Tested};
+use crate::search_table::{SearchTable, Tested};
 use crate::worths::{after_cost, lesser};
 use arrayvec::ArrayVec;
 use bend_state::BendState;
@@ -29,7 +29,7 @@ use undo_region::Region;
 fn worth_of(
     job: &Job,
     pool: &mut RowPool,
-    table: &mut SetTable,
+    table: &mut SearchTable,
     state: &mut BendState,
     trail: &mut Region<Place>,
     next: &Key,
@@ -69,7 +69,7 @@ fn worth_of(
 pub(crate) fn settle(
     job: &Job,
     pool: &mut RowPool,
-    table: &mut SetTable,
+    table: &mut SearchTable,
     state: &mut BendState,
     trail: &mut Region<Place>,
     key: &Key,
@@ -111,7 +111,7 @@ pub(crate) fn settle(
 fn tried(
     job: &Job,
     pool: &mut RowPool,
-    table: &mut SetTable,
+    table: &mut SearchTable,
     state: &mut BendState,
     trail: &mut Region<Place>,
     row: u32,
@@ -156,7 +156,7 @@ fn tried(
 /// The place of an action among those at all sets.
 fn action_place(job: &Job, key: &Key, action: Action) -> usize
     requires { IsActionAt job.now key.now action }
-    ensures { result ≡ 144 * key.now.mask.0 + number_of (stage_count job.now) action }
+    ensures { result ≡ 144 * key.now.mask.0 + number_of_action (stage_count job.now) action }
 {
     MOST_ACTIONS * usize::from(key.mask.0) + usize::from(action_number(action, job.stages()))
 }

@@ -2,7 +2,7 @@
 use Rattle.std.proofs.Common.{◌≡◌, ℕ, true, List, None, IsTrue, ap, sym, ◌∙◌, arith}
 use Rattle.std.specs.Prelude.{is_some}
 use Rattle.std.proofs.lemmas.Bool.{false≢true}
-use Rattle.command_runner.specs.declared.kind.Kind.TheVariants.{Number}
+use Rattle.command_runner.specs.declared.word_kind.WordKind.TheVariants.{Number}
 use Rattle.command_runner.specs.Kinds.{is_form}
 use Rattle.command_runner.proofs.Forms.{form_kind}
 use Rattle.brake_cli.specs.declared.command.Command.TheVariants.{PlanWithin, Trial}

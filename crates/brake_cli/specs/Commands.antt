@@ -1,9 +1,9 @@
 -- The commands: the forms of their words, and what they answer.
 use Rattle.std.specs.Prelude.{◌≡◌, ℕ, List, [], ◌∷◌, ◌++◌, codes, Option, Some, None, if◌then◌else◌}
 use Rattle.std.specs.List.{flat_map}
-use Rattle.command_runner.specs.declared.kind.Kind.{Kind}
-use Rattle.command_runner.specs.declared.kind.Kind.TheVariants.{Literal, Input, Certificate, Table, Output, NumberedOutput, Number}
-use Rattle.command_runner.specs.declared.kind.Keyword.TheVariants as word
+use Rattle.command_runner.specs.declared.word_kind.WordKind.{WordKind}
+use Rattle.command_runner.specs.declared.word_kind.WordKind.TheVariants.{Literal, Input, Certificate, Table, Output, NumberedOutput, Number}
+use Rattle.command_runner.specs.declared.word_kind.Keyword.TheVariants as word
 use Rattle.command_runner.specs.declared.status.Status.TheVariants as status
 use Rattle.command_runner.specs.Kinds.{number_in, is_form}
 use Rattle.command_runner.specs.Answers.{AnswerData, one_text}
@@ -17,7 +17,7 @@ use Rattle.brake_cli.specs.CheckAnswer.{IsCheckAnswer, IsCheckFilesAnswer}
 use Rattle.brake_cli.specs.TrialAnswer.{IsTrialAnswer}
 
 -- the forms: the kinds of the words of each command
-abbrev pub form_of : Command → List Kind
+abbrev pub form_of : Command → List WordKind
 form_of Blank = Literal word.Blank ∷ Input ∷ Input ∷ []
 form_of Plan = Literal word.Plan ∷ Input ∷ Input ∷ Input ∷ Output ∷ []
 form_of PlanWithin = Literal word.Plan ∷ Input ∷ Input ∷ Input ∷ Output ∷ Literal word.Budget ∷ Number 1 4294967295 ∷ []

@@ -4,7 +4,7 @@ use Rattle.job_setup.specs.Setup.{JobData}
 use Rattle.job_setup.specs.JobOf.{FileFault, job_of}
 use Rattle.command_runner.specs.Answers.{AnswerData}
 use Rattle.command_runner.specs.Fetching.{word_at}
-use Rattle.brake_cli.specs.declared.refusal.Stop.{Stop}
+use Rattle.brake_cli.specs.declared.refusal.ReadStop.{ReadStop}
 use Rattle.brake_cli.specs.Stops.{StopsAt}
 use Rattle.brake_cli.specs.FaultNumbers.{file_refused}
 
@@ -18,6 +18,6 @@ abbrev pub job_of_files : ℕ → List (List ℕ) → Result JobData FileFault
 job_of_files place contents = job_of (word_at contents place) (word_at contents (place + 1)) (word_at contents (place + 2))
 
 -- a job or a refusal is what reading gives, unless memory ran out
-abbrev pub ReadsJob : Result JobData Stop → Result JobData FileFault → Type 0
+abbrev pub ReadsJob : Result JobData ReadStop → Result JobData FileFault → Type 0
 ReadsJob (Ok job) read = read ≡ Ok job
 ReadsJob (Err stop) read = StopsAt stop read

@@ -1,7 +1,7 @@
 -- How a run of `brake` ends.
 use Rattle.std.specs.Prelude.{◌≡◌, ℕ, List, [], Option, Some, None, Result, Ok, Err, option_map}
 use Rattle.brake_io.specs.Meanings.{Names}
-use Rattle.command_runner.specs.declared.kind.Kind.{Kind}
+use Rattle.command_runner.specs.declared.word_kind.WordKind.{WordKind}
 use Rattle.command_runner.specs.declared.status.Status.{Status}
 use Rattle.command_runner.specs.Answers.{AnswerData, long_refused}
 use Rattle.command_runner.specs.Fetching.{files_of, fetched_over}
@@ -13,7 +13,7 @@ use Rattle.brake_cli.specs.BlankAnswer.{blank_answer}
 use Rattle.brake_cli.specs.Commands.{form_of, budget_in, meaning_of, usage, command_of}
 
 -- the kinds of the words of a command, if there is one
-abbrev pub form_for : Option Command → List Kind
+abbrev pub form_for : Option Command → List WordKind
 form_for (Some command) = form_of command
 form_for None = []
 

@@ -6,7 +6,7 @@ ghost use Rattle.command_runner.specs.Delivery.{IsCutShort};
 ghost use Rattle.brake_cli.specs.Stops.{Reads};
 ghost use Rattle.brake_cli.specs.BlankAnswer.{blank_sheet_of, blank_answer};
 
-use crate::refusal::{Stop, stopped};
+use crate::refusal::{ReadStop, stopped};
 use allowance::find;
 use command_runner::{Answer, Status};
 use part_file::read_part;
@@ -18,7 +18,7 @@ use unfolder::unfold;
 /// The blank sheet of a part's file and a tools file, or the first refusal: of the part, of the
 /// tools, of the deduction, of the blank.
 #[tactic(auto, using(setup_sheet::proofs::Bounds::blank_is_bounded), unfolding(job_setup::specs::JobOf::blank_in, job_setup::specs::JobOf::blank_of, crate::specs::BlankAnswer::blank_sheet_of))]
-fn blank_sheet_of(alloc: Global, part: &[u8], tools: &[u8]) -> Result<Vec<u8>, Stop>
+fn blank_sheet_of(alloc: Global, part: &[u8], tools: &[u8]) -> Result<Vec<u8>, ReadStop>
     ensures { Reads result (blank_sheet_of part.now tools.now) }
 {
     let part = read_part(alloc, part)?;
@@ -27,7 +27,7 @@ fn blank_sheet_of(alloc: Global, part: &[u8], tools: &[u8]) -> Result<Vec<u8>, S
     let blank = unfold(&part, q)?;
     match blank_sheet(alloc, &part, &blank) {
         Ok(sheet) => Ok(sheet),
-        Err(_) => Err(Stop::NoMemory),
+        Err(_) => Err(ReadStop::NoMemory),
     }
 }
 

@@ -6,7 +6,7 @@ ghost use Rattle.brake_cli.specs.Commands.{form_of, budget_in, seed_in, meaning_
 
 use crate::usage::usage;
 use crate::{blank, check, plan, trial};
-use command_runner::{Answer, Keyword, Kind, is_form, number_in};
+use command_runner::{Answer, Keyword, WordKind, is_form, number_in};
 use std::alloc::{AllocError, Global};
 
 /// A command, by the form of its words.
@@ -46,98 +46,102 @@ const COMMANDS: [Command; 12] = [
 ];
 
 /// The word that stands for `--budget`.
-const BUDGET: Kind = Kind::Literal(Keyword::Budget);
+const BUDGET: WordKind = WordKind::Literal(Keyword::Budget);
 
 /// A greatest number of settled keys.
-const COUNT: Kind = Kind::Number {
+const COUNT: WordKind = WordKind::Number {
     least: 1,
     most: u32::MAX,
 };
 
 /// The number of a generated job.
-const SEED: Kind = Kind::Number {
+const SEED: WordKind = WordKind::Number {
     least: 0,
     most: u32::MAX,
 };
 
 /// A set of bends as a number.
-const MASK: Kind = Kind::Number {
+const MASK: WordKind = WordKind::Number {
     least: 0,
     most: 4095,
 };
 
 impl Command {
     /// The form of its words: the kind of each.
-    pub fn form(self) -> &'static [Kind]
+    pub fn form(self) -> &'static [WordKind]
         ensures { result.now ≡ form_of self }
     {
         match self {
-            Command::Blank => &[Kind::Literal(Keyword::Blank), Kind::Input, Kind::Input],
+            Command::Blank => &[
+                WordKind::Literal(Keyword::Blank),
+                WordKind::Input,
+                WordKind::Input,
+            ],
             Command::Plan => &[
-                Kind::Literal(Keyword::Plan),
-                Kind::Input,
-                Kind::Input,
-                Kind::Input,
-                Kind::Output,
+                WordKind::Literal(Keyword::Plan),
+                WordKind::Input,
+                WordKind::Input,
+                WordKind::Input,
+                WordKind::Output,
             ],
             Command::PlanWithin => &[
-                Kind::Literal(Keyword::Plan),
-                Kind::Input,
-                Kind::Input,
-                Kind::Input,
-                Kind::Output,
+                WordKind::Literal(Keyword::Plan),
+                WordKind::Input,
+                WordKind::Input,
+                WordKind::Input,
+                WordKind::Output,
                 BUDGET,
                 COUNT,
             ],
-            Command::Check => &[Kind::Literal(Keyword::Check), Kind::Certificate],
+            Command::Check => &[WordKind::Literal(Keyword::Check), WordKind::Certificate],
             Command::CheckFiles => &[
-                Kind::Literal(Keyword::Check),
-                Kind::Certificate,
-                Kind::Input,
-                Kind::Input,
-                Kind::Input,
+                WordKind::Literal(Keyword::Check),
+                WordKind::Certificate,
+                WordKind::Input,
+                WordKind::Input,
+                WordKind::Input,
             ],
-            Command::Trial => &[Kind::Literal(Keyword::Trial), SEED],
+            Command::Trial => &[WordKind::Literal(Keyword::Trial), SEED],
             Command::Why => &[
-                Kind::Literal(Keyword::Why),
-                Kind::Input,
-                Kind::Input,
-                Kind::Input,
+                WordKind::Literal(Keyword::Why),
+                WordKind::Input,
+                WordKind::Input,
+                WordKind::Input,
             ],
             Command::Setups => &[
-                Kind::Literal(Keyword::Setups),
-                Kind::Input,
-                Kind::Input,
-                Kind::Input,
-                Kind::Input,
-                Kind::NumberedOutput,
+                WordKind::Literal(Keyword::Setups),
+                WordKind::Input,
+                WordKind::Input,
+                WordKind::Input,
+                WordKind::Input,
+                WordKind::NumberedOutput,
             ],
             Command::Settle => &[
-                Kind::Literal(Keyword::Settle),
-                Kind::Input,
-                Kind::Input,
-                Kind::Input,
-                Kind::Output,
+                WordKind::Literal(Keyword::Settle),
+                WordKind::Input,
+                WordKind::Input,
+                WordKind::Input,
+                WordKind::Output,
                 MASK,
                 MASK,
             ],
             Command::SettleOver => &[
-                Kind::Literal(Keyword::Settle),
-                Kind::Input,
-                Kind::Input,
-                Kind::Input,
-                Kind::Output,
+                WordKind::Literal(Keyword::Settle),
+                WordKind::Input,
+                WordKind::Input,
+                WordKind::Input,
+                WordKind::Output,
                 MASK,
                 MASK,
-                Kind::Table,
+                WordKind::Table,
             ],
             Command::Merge => &[
-                Kind::Literal(Keyword::Merge),
-                Kind::Table,
-                Kind::Table,
-                Kind::Output,
+                WordKind::Literal(Keyword::Merge),
+                WordKind::Table,
+                WordKind::Table,
+                WordKind::Output,
             ],
-            Command::Prove => &[Kind::Literal(Keyword::Prove), Kind::Table],
+            Command::Prove => &[WordKind::Literal(Keyword::Prove), WordKind::Table],
         }
     }
 }
@@ -171,7 +175,7 @@ impl command_runner::Command for Command {
 
     ghost meaning = { meaning_of };
 
-    fn kinds(&self) -> &'static [Kind] {
+    fn kinds(&self) -> &'static [WordKind] {
         self.form()
     }
 

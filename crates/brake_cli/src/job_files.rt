@@ -5,7 +5,7 @@ ghost use Rattle.job_setup.specs.JobOf.{job_of};
 ghost use Rattle.command_runner.specs.Fetching.{word_at};
 ghost use Rattle.brake_cli.specs.JobAnswer.{ReadsJob, job_of_files};
 
-use crate::refusal::{Refusal, Stop};
+use crate::refusal::{ReadStop, Refusal};
 use job_setup::{Job, make_job};
 use machine_file::read_machine;
 use part_file::read_part;
@@ -15,7 +15,7 @@ use tool_library::read_tools;
 /// The job of a part's file, a tools file and a machine file, or the first refusal: of the part, of
 /// the tools, of the machine, of the job.
 #[tactic(auto, unfolding(job_setup::specs::JobOf::job_of))]
-fn read_job(alloc: Global, part: &[u8], tools: &[u8], machine: &[u8]) -> Result<Job, Stop>
+fn read_job(alloc: Global, part: &[u8], tools: &[u8], machine: &[u8]) -> Result<Job, ReadStop>
     ensures { ReadsJob result (job_of part.now tools.now machine.now) }
 {
     let part = read_part(alloc, part)?;
@@ -23,7 +23,7 @@ fn read_job(alloc: Global, part: &[u8], tools: &[u8], machine: &[u8]) -> Result<
     let machine = read_machine(alloc, machine)?;
     match make_job(part, &tools, &machine) {
         Ok(job) => Ok(job),
-        Err(fault) => Err(Stop::Refused(Refusal::Job(fault))),
+        Err(fault) => Err(ReadStop::Refused(Refusal::Job(fault))),
     }
 }
 
@@ -36,7 +36,7 @@ pub fn content_at(contents: &[Vec<u8>], place: usize) -> &[u8]
 }
 
 /// The job of the three files from a place on, or the first refusal.
-pub fn job_at(alloc: Global, contents: &[Vec<u8>], place: usize) -> Result<Job, Stop>
+pub fn job_at(alloc: Global, contents: &[Vec<u8>], place: usize) -> Result<Job, ReadStop>
     requires { place + 3 ≤ length contents.now }
     ensures { ReadsJob result (job_of_files place (map vec_items contents.now)) }
 {

@@ -29,14 +29,14 @@ pub enum Refusal {
 
 /// Why the reading of files stops early.
 #[derive(Clone, Copy, Debug, PartialEq, Eq)]
-pub enum Stop {
+pub enum ReadStop {
     /// The files are refused.
     Refused(Refusal),
     /// Memory ran out.
     NoMemory,
 }
 
-impl From<PartFault> for Stop {
+impl From<PartFault> for ReadStop {
     ghost use Rattle.std.specs.Prelude.{◌≡◌};
     ghost use Rattle.brake_cli.specs.Stops.{of_part};
 
@@ -44,13 +44,13 @@ impl From<PartFault> for Stop {
 
     fn from(fault: PartFault) -> Self {
         match fault {
-            PartFault::NoMemory => Stop::NoMemory,
-            _ => Stop::Refused(Refusal::Part(fault)),
+            PartFault::NoMemory => ReadStop::NoMemory,
+            _ => ReadStop::Refused(Refusal::Part(fault)),
         }
     }
 }
 
-impl From<ToolFault> for Stop {
+impl From<ToolFault> for ReadStop {
     ghost use Rattle.std.specs.Prelude.{◌≡◌};
     ghost use Rattle.brake_cli.specs.Stops.{of_tools};
 
@@ -58,13 +58,13 @@ impl From<ToolFault> for Stop {
 
     fn from(fault: ToolFault) -> Self {
         match fault {
-            ToolFault::NoMemory => Stop::NoMemory,
-            _ => Stop::Refused(Refusal::Tools(fault)),
+            ToolFault::NoMemory => ReadStop::NoMemory,
+            _ => ReadStop::Refused(Refusal::Tools(fault)),
         }
     }
 }
 
-impl From<MachineFault> for Stop {
+impl From<MachineFault> for ReadStop {
     ghost use Rattle.std.specs.Prelude.{◌≡◌};
     ghost use Rattle.brake_cli.specs.Stops.{of_machine};
 
@@ -72,24 +72,24 @@ impl From<MachineFault> for Stop {
 
     fn from(fault: MachineFault) -> Self {
         match fault {
-            MachineFault::NoMemory => Stop::NoMemory,
-            _ => Stop::Refused(Refusal::Machine(fault)),
+            MachineFault::NoMemory => ReadStop::NoMemory,
+            _ => ReadStop::Refused(Refusal::Machine(fault)),
         }
     }
 }
 
-impl From<JobFault> for Stop {
+impl From<JobFault> for ReadStop {
     ghost use Rattle.std.specs.Prelude.{◌≡◌};
     ghost use Rattle.brake_cli.specs.Stops.{of_job};
 
     ghost from_gives = { λ fault stop. stop ≡ of_job fault };
 
     fn from(fault: JobFault) -> Self {
-        Stop::Refused(Refusal::Job(fault))
+        ReadStop::Refused(Refusal::Job(fault))
     }
 }
 
-impl From<AllowFault> for Stop {
+impl From<AllowFault> for ReadStop {
     ghost use Rattle.std.specs.Prelude.{◌≡◌};
     ghost use Rattle.job_setup.specs.declared.fault.JobFault.TheVariants.{Allow};
     ghost use Rattle.brake_cli.specs.Stops.{of_job};
@@ -97,11 +97,11 @@ impl From<AllowFault> for Stop {
     ghost from_gives = { λ fault stop. stop ≡ of_job (Allow fault) };
 
     fn from(fault: AllowFault) -> Self {
-        Stop::Refused(Refusal::Job(JobFault::Allow(fault)))
+        ReadStop::Refused(Refusal::Job(JobFault::Allow(fault)))
     }
 }
 
-impl From<UnfoldFault> for Stop {
+impl From<UnfoldFault> for ReadStop {
     ghost use Rattle.std.specs.Prelude.{◌≡◌};
     ghost use Rattle.job_setup.specs.declared.fault.JobFault.TheVariants.{Unfold};
     ghost use Rattle.brake_cli.specs.Stops.{of_job};
@@ -109,18 +109,18 @@ impl From<UnfoldFault> for Stop {
     ghost from_gives = { λ fault stop. stop ≡ of_job (Unfold fault) };
 
     fn from(fault: UnfoldFault) -> Self {
-        Stop::Refused(Refusal::Job(JobFault::Unfold(fault)))
+        ReadStop::Refused(Refusal::Job(JobFault::Unfold(fault)))
     }
 }
 
-impl<T: Drop> From<AllocFailed<T>> for Stop {
+impl<T: Drop> From<AllocFailed<T>> for ReadStop {
     ghost use Rattle.std.specs.Prelude.{◌≡◌};
-    ghost use Rattle.brake_cli.specs.declared.refusal.Stop.TheVariants.{NoMemory};
+    ghost use Rattle.brake_cli.specs.declared.refusal.ReadStop.TheVariants.{NoMemory};
 
     ghost from_gives = { λ _ stop. stop ≡ NoMemory };
 
     fn from(_: AllocFailed<T>) -> Self {
-        Stop::NoMemory
+        ReadStop::NoMemory
     }
 }
 
@@ -161,13 +161,13 @@ impl Refusal {
 }
 
 /// The answer to a stop of the reading, unless memory ran out.
-pub fn stopped(alloc: Global, stop: Stop) -> Result<Answer, AllocError>
+pub fn stopped(alloc: Global, stop: ReadStop) -> Result<Answer, AllocError>
     ensures answer { IfOk result (λ answer.
         IsRefusalAnd stop (λ fault. answer_data answer ≡ file_refused fault)) }
     ensures status { IfOk result (λ answer. answer.status ≡ Status.Refused) }
 {
     match stop {
-        Stop::Refused(refused) => refused.answer(alloc),
-        Stop::NoMemory => Err(AllocError),
+        ReadStop::Refused(refused) => refused.answer(alloc),
+        ReadStop::NoMemory => Err(AllocError),
     }
 }

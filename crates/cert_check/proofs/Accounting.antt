@@ -22,7 +22,7 @@ use Rattle.plan_cert.specs.CertReading.{no_cert, with_item, cert_of}
 use Rattle.cert_check.specs.declared.fault.CheckFault.{CheckFault}
 use Rattle.cert_check.specs.declared.fault.CheckFault.TheVariants.{BadReason, NotClosed}
 use Rattle.cert_check.specs.RowFaults.{IsNoted, IsUnnoted, IsTried, IsAccounted, AreAccounted, RowsAreAccounted}
-use Rattle.cert_check.specs.Rows.{IsMet, IsUnmet, AreMet, IsRowFault, noted_of}
+use Rattle.cert_check.specs.Rows.{IsActionMet, IsActionUnmet, AreMet, IsRowFault, noted_of}
 use Rattle.cert_check.specs.Notes.{last_row, HoldsNotes, HasRowAhead, NotesAnswer, RowsAnswer}
 use Rattle.cert_check.proofs.NoteLemmas.{grows, holds_next, holds_first}
 
@@ -65,7 +65,7 @@ module _ (job : JobData) (cert : CertData) (row : ℕ) (reasons : List (Option R
       is.holds.whole (record { row = row; action = action; reason = reason }) (read_before (record { row = row; action = action; reason = reason }) noted refl) (sym is_last) small none
 
   module _ (head : RowHead) (small : 2 * bend_count job * stage_count job ≤ 144) where
-    accounted_by : (action : ℕ) (noted : Option Reason) → action < 144 → noted_of reasons action ≡ noted → IsMet job cert.rows head action noted → IsAccounted job cert row head action
+    accounted_by : (action : ℕ) (noted : Option Reason) → action < 144 → noted_of reasons action ≡ noted → IsActionMet job cert.rows head action noted → IsAccounted job cert row head action
     accounted_by action (Some reason) low is_noted met = inl (reason, some_noted action reason is_noted, met)
     accounted_by action None low is_noted met = inr (none_noted_at action low is_noted, met)
 
@@ -73,7 +73,7 @@ module _ (job : JobData) (cert : CertData) (row : ℕ) (reasons : List (Option R
     row_accounted count low met action less tried = accounted_by action (noted_of reasons action) (omega (arith, less, low)) refl (met action less tried)
 
     first_by : (number : ℕ) (noted : Option Reason) (fault : CheckFault) → number < 144 → slice_get cert.rows row ≡ Some head → RowsAreAccounted job cert row → IsTried job head number → AreMet job cert.rows head reasons number
-        → noted_of reasons number ≡ noted → IsUnmet job cert.rows row head number noted fault → RowsAnswer job cert (Err fault)
+        → noted_of reasons number ≡ noted → IsActionUnmet job cert.rows row head number noted fault → RowsAnswer job cert (Err fault)
     first_by number (Some reason) (BadReason r n) low at rows tried before is_noted cause =
         subst (λ (k : ℕ). RowsAnswer job cert (Err (BadReason k n))) (sym cause.0)
         (subst (λ (k : ℕ). RowsAnswer job cert (Err (BadReason row k))) (sym cause.1)

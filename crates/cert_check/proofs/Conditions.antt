@@ -9,7 +9,7 @@ use Rattle.brake_base.specs.declared.stroke.Action.{Action}
 use Rattle.brake_base.specs.declared.stroke.Worth.{Worth}
 use Rattle.brake_base.specs.declared.reason.Reason.{Reason}
 use Rattle.brake_base.specs.declared.reason.Reason.TheVariants.{Cover}
-use Rattle.brake_base.specs.Actions.{IsAction, number_of}
+use Rattle.brake_base.specs.Actions.{IsAction, number_of_action}
 use Rattle.job_setup.specs.Setup.{JobData, bend_count, stage_count}
 use Rattle.job_setup.specs.ValidJob.{IsJob}
 use Rattle.handling_cost.specs.StepCost.{IsActionAt}
@@ -22,7 +22,7 @@ use Rattle.plan_cert.specs.Cert.{CertData}
 use Rattle.plan_cert.specs.Lines.{action_at}
 use Rattle.plan_cert.specs.WellFormed.{IsWellFormed, NoteIsBefore}
 use Rattle.plan_cert.specs.GoodCert.{HasRow, HasNote, worths_in}
-use Rattle.cert_check.specs.RowTable.{AreRowsOf, key_number}
+use Rattle.cert_check.specs.RowTable.{AreRowsOf, key_place}
 use Rattle.cert_check.specs.RowFaults.{IsNoted, IsTried, IsAccounted, RowsAreAccounted}
 use Rattle.cert_check.proofs.RowOrder.{no_row, row_at, row_of, same_row}
 use Rattle.cert_check.proofs.Numbers.{number_is, number_below, action_of_number}
@@ -45,7 +45,7 @@ module _ (job : JobData) (is_job : IsJob job) (cert : CertData) (form : IsWellFo
       let within = slice_get_within cert.rows i head at in
       let here = get_or_from_slice_get cert.rows i head no_row at in
       same_row job is_job cert.rows rows_of j i no_row found.0 within
-      (ap (λ (row : RowHead). key_number row.key) (found.1 no_row) ∙ (ap key_number (sym is) ∙ ap (λ (row : RowHead). key_number row.key) (sym here)))
+      (ap (λ (row : RowHead). key_place row.key) (found.1 no_row) ∙ (ap key_place (sym is) ∙ ap (λ (row : RowHead). key_place row.key) (sym here)))
 
   -- a note against the action of a number at a row is one against the action at the row's key
   pub noted : (i number : ℕ) (head : RowHead) (reason : Reason) → slice_get cert.rows i ≡ Some head → IsNoted cert i number reason
@@ -72,7 +72,7 @@ module _ (job : JobData) (is_job : IsJob job) (cert : CertData) (form : IsWellFo
       let its_row : (get_or cert.notes k no_note).row ≡ i = ap (λ (p : ℕ × (Action × Reason)). p.0) parts ∙ place in
       let its_number : (get_or cert.notes k no_note).action ≡ number =
       sym (number_is (stage_count job) (get_or cert.notes k no_note).action)
-      ∙ (ap (λ (p : ℕ × (Action × Reason)). number_of (stage_count job) p.1.0) parts ∙ number_is (stage_count job) number) in
+      ∙ (ap (λ (p : ℕ × (Action × Reason)). number_of_action (stage_count job) p.1.0) parts ∙ number_is (stage_count job) number) in
       let its_reason : (get_or cert.notes k no_note).reason ≡ reason = ap (λ (p : ℕ × (Action × Reason)). p.1.1) parts in
       let note : Note = record { row = i; action = number; reason = reason } in
       (k, within, get_or_default cert.notes k note no_note within ∙ (λ j. record { row = its_row j; action = its_number j; reason = its_reason j }))
@@ -86,7 +86,7 @@ module _ (job : JobData) (is_job : IsJob job) (cert : CertData) (form : IsWellFo
       let fits : IsAction (stage_count job) action = record { first = at.first; last = omega (arith, few, last); stage = at.stage } in
       let wide = number_below 12 (stage_count job) action at.first (omega (arith, few, last)) at.stage in
       let is = action_of_number (stage_count job) action fits (omega (arith, wide)) in
-      (number_of (stage_count job) action, is, (number_below (bend_count job) (stage_count job) action at.first at.last at.stage, subst (IsActionAt job head.key) is at))
+      (number_of_action (stage_count job) action, is, (number_below (bend_count job) (stage_count job) action at.first at.last at.stage, subst (IsActionAt job head.key) is at))
 
   -- where each action at each row is accounted for, the rows meet their condition
   pub condition_met : RowsAreAccounted job cert (length cert.rows) → MeetsCondition job (HasRow cert) (HasNote job cert)

@@ -9,8 +9,8 @@ use Rattle.plan_cert.specs.declared.item.Item.{Item}
 use Rattle.plan_cert.specs.declared.item.Item.TheVariants as given
 use Rattle.plan_cert.specs.declared.item.CertFault.{CertFault}
 use Rattle.plan_cert.specs.declared.item.CertFault.TheVariants.{Unended}
-use Rattle.plan_cert.specs.declared.format.Kind.{Kind}
-use Rattle.plan_cert.specs.declared.format.Kind.TheVariants.{Certificate}
+use Rattle.plan_cert.specs.declared.format.TextKind.{TextKind}
+use Rattle.plan_cert.specs.declared.format.TextKind.TheVariants.{Certificate}
 use Rattle.plan_cert.specs.Reading.{Reading}
 use Rattle.plan_cert.specs.Cert.{CertData}
 use Rattle.plan_cert.specs.Items.{items}
@@ -116,7 +116,7 @@ item_read heads before item left has more = by_last (is_last item) refl
 pub begins : (r : Reading) (answer : Result Item CertFault) → r.kind ≡ Certificate → r.answered ≡ 0 → slice_get (items r.kind r.text) r.answered ≡ Some answer
     → items Certificate r.text ≡ answer ∷ answers_left (behind r)
 begins r answer kind first given =
-    ap (λ (k : Kind). items k r.text) (sym kind) ∙ (ap (λ (n : ℕ). drop n (items r.kind r.text)) (sym first) ∙ left_on r answer given)
+    ap (λ (k : TextKind). items k r.text) (sym kind) ∙ (ap (λ (n : ℕ). drop n (items r.kind r.text)) (sym first) ∙ left_on r answer given)
 
 -- behind an item but the end an answer is left
 pub answer_behind : (r : Reading) (item : Item) → slice_get (items r.kind r.text) r.answered ≡ Some (Ok item) → is_last item ≡ false → 0 < length (answers_left (behind r))

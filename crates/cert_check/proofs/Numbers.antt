@@ -5,7 +5,7 @@ use Rattle.std.proofs.lemmas.Grind.{common_steps}
 use Rattle.brake_base.specs.declared.stroke.Back.{Back}
 use Rattle.brake_base.specs.declared.stroke.Back.TheVariants.{Parent, Child}
 use Rattle.brake_base.specs.declared.stroke.Action.{Action}
-use Rattle.brake_base.specs.Actions.{IsAction, back_number, number_of}
+use Rattle.brake_base.specs.Actions.{IsAction, back_number, number_of_action}
 use Rattle.brake_base.proofs.Actions.{split_number}
 use Rattle.plan_cert.specs.Lines.{action_at}
 use Rattle.plan_cert.proofs.Actions.{action_is}
@@ -14,7 +14,7 @@ side_is : (n : ℕ) → back_number (if n % 2 == 0 then Parent else Child) ≡ n
 side_is n = grind (arith, common_steps)
 
 -- the number of the action of a number
-pub number_is : (stages number : ℕ) → number_of stages (action_at stages number) ≡ number
+pub number_is : (stages number : ℕ) → number_of_action stages (action_at stages number) ≡ number
 number_is stages number = split_number stages number _ (side_is (number / stages))
 
 small_side : (back : Back) → back_number back ≤ 1
@@ -22,8 +22,8 @@ small_side Parent = omega arith
 small_side Child = omega arith
 
 -- an action's number is below that of all actions of so many bends
-pub number_below : (bends stages : ℕ) (a : Action) → 1 ≤ a.bend → a.bend ≤ bends → a.stage < stages → number_of stages a < 2 * bends * stages
-unfolding number_of
+pub number_below : (bends stages : ℕ) (a : Action) → 1 ≤ a.bend → a.bend ≤ bends → a.stage < stages → number_of_action stages a < 2 * bends * stages
+unfolding number_of_action
 number_below bends stages a first last stage =
     let side = small_side a.back in
     let m : ℕ = (a.bend - 1) * 2 + back_number a.back in
@@ -33,8 +33,8 @@ number_below bends stages a first last stage =
     omega (arith, most, split, stage)
 
 -- an action is that of its number
-pub action_of_number : (stages : ℕ) (a : Action) → IsAction stages a → number_of stages a < 24 * stages → a ≡ action_at stages (number_of stages a)
-action_of_number stages a fits below = action_is stages (number_of stages a) a below fits refl
+pub action_of_number : (stages : ℕ) (a : Action) → IsAction stages a → number_of_action stages a < 24 * stages → a ≡ action_at stages (number_of_action stages a)
+action_of_number stages a fits below = action_is stages (number_of_action stages a) a below fits refl
 
 -- an action of a number is one of so many bends
 pub bend_of_number : (bends stages number : ℕ) → number < 2 * bends * stages → (1 ≤ (action_at stages number).bend) × ((action_at stages number).bend ≤ bends) × ((action_at stages number).stage < stages)

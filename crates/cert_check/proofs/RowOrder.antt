@@ -15,20 +15,20 @@ use Rattle.handling_cost.proofs.Actions.{few_bends}
 use Rattle.plan_cert.specs.declared.cert.RowHead.{RowHead}
 use Rattle.plan_cert.specs.WellFormed.{IsRow}
 use Rattle.plan_cert.specs.GoodCert.{worths_in}
-use Rattle.cert_check.specs.RowTable.{key_number, key_count, AreRowsOf, HaveRow}
+use Rattle.cert_check.specs.RowTable.{key_place, key_count, AreRowsOf, HaveRow}
 
 -- a row where there is none
 pub no_row : RowHead
 no_row = record { key = record { mask = record { 0 = 0 }; attitude = 0; stage = 0 }; worth = Blocked }
 
-number_grows : (a b : Key) → a.attitude < 24 → a.stage < 6 → KeyIsBefore a b → key_number a < key_number b
+number_grows : (a b : Key) → a.attitude < 24 → a.stage < 6 → KeyIsBefore a b → key_place a < key_place b
 number_grows a b attitude stage (inl mask) = omega (arith, attitude, stage, mask)
 number_grows a b attitude stage (inr (mask, inl turn)) = omega (arith, stage, mask, turn)
 number_grows a b attitude stage (inr (mask, inr (turn, inl way))) = omega (arith, mask, turn, way)
 number_grows a b attitude stage (inr (mask, inr (turn, inr (way, never)))) = absurd never
 
 -- two keys of one number are one
-pub same_key : (a b : Key) → a.attitude < 24 → a.stage < 6 → b.attitude < 24 → b.stage < 6 → key_number a ≡ key_number b → a ≡ b
+pub same_key : (a b : Key) → a.attitude < 24 → a.stage < 6 → b.attitude < 24 → b.stage < 6 → key_place a ≡ key_place b → a ≡ b
 same_key a b turn way turn_b way_b same =
     let mask : a.mask.0 ≡ b.mask.0 = omega (arith, turn, way, turn_b, way_b, same) in
     let attitude : a.attitude ≡ b.attitude = omega (arith, way, way_b, same, mask) in
@@ -46,7 +46,7 @@ module _ (job : JobData) (is_job : IsJob job) (rows : List RowHead) (are : AreRo
   small_stage i d within = let some = (row_is i d within).stage in let few = few_stages job is_job in omega (arith, some, few)
 
   -- the number of the key of an earlier row is less
-  pub row_grows : (i j : ℕ) (d : RowHead) → i < j → j < length rows → key_number (get_or rows i d).key < key_number (get_or rows j d).key
+  pub row_grows : (i j : ℕ) (d : RowHead) → i < j → j < length rows → key_place (get_or rows i d).key < key_place (get_or rows j d).key
   row_grows i j d before within =
       let keys = map (λ (row : RowHead). row.key) rows in
       let inside : j < length keys = rw (length-map rows (λ (row : RowHead). row.key)) within in
@@ -57,7 +57,7 @@ module _ (job : JobData) (is_job : IsJob job) (rows : List RowHead) (are : AreRo
       (subst (λ (k : Key). KeyIsBefore k (get_or rows j d).key) first (subst (λ (k : Key). KeyIsBefore (get_or keys i d.key) k) second one))
 
   -- rows with one number are one row
-  pub same_row : (i j : ℕ) (d : RowHead) → i < length rows → j < length rows → key_number (get_or rows i d).key ≡ key_number (get_or rows j d).key → i ≡ j
+  pub same_row : (i j : ℕ) (d : RowHead) → i < length rows → j < length rows → key_place (get_or rows i d).key ≡ key_place (get_or rows j d).key → i ≡ j
   same_row i j d first second same = elim (cases_lt i j) [
     | inl before ↦ absurd (let less = row_grows i j d before second in omega (arith, less, same))
     | inr after ↦ elim (cases_lt j i) [
@@ -66,7 +66,7 @@ module _ (job : JobData) (is_job : IsJob job) (rows : List RowHead) (are : AreRo
     ]
   ]
 
-  pub number_within : (i : ℕ) (d : RowHead) → i < length rows → key_number (get_or rows i d).key < key_count job
+  pub number_within : (i : ℕ) (d : RowHead) → i < length rows → key_place (get_or rows i d).key < key_count job
   number_within i d within =
       let row = row_is i d within in
       let mask = row.mask in
@@ -75,7 +75,7 @@ module _ (job : JobData) (is_job : IsJob job) (rows : List RowHead) (are : AreRo
       omega (arith, mask, attitude, stage)
 
   -- a row's number is at most that of its key
-  pub row_number : (i : ℕ) (d : RowHead) → i < length rows → i ≤ key_number (get_or rows i d).key
+  pub row_number : (i : ℕ) (d : RowHead) → i < length rows → i ≤ key_place (get_or rows i d).key
   row_number zero d within = omega arith
   row_number (suc i) d within =
       let before = row_number i d (omega (arith, within)) in
@@ -124,8 +124,8 @@ module _ (job : JobData) (is_job : IsJob job) (rows : List RowHead) (are : AreRo
   one_row key a b first second =
       let x = row_of key a first in
       let y = row_of key b second in
-      let number : key_number (get_or rows x.0 no_row).key ≡ key_number (get_or rows y.0 no_row).key =
-      ap (λ (row : RowHead). key_number row.key) (x.2 no_row)
-      ∙ sym (ap (λ (row : RowHead). key_number row.key) (y.2 no_row)) in
+      let number : key_place (get_or rows x.0 no_row).key ≡ key_place (get_or rows y.0 no_row).key =
+      ap (λ (row : RowHead). key_place row.key) (x.2 no_row)
+      ∙ sym (ap (λ (row : RowHead). key_place row.key) (y.2 no_row)) in
       let place = same_row x.0 y.0 no_row x.1 y.1 number in
       ap (λ (row : RowHead). row.worth) (sym (x.2 no_row) ∙ (ap (λ (i : ℕ). get_or rows i no_row) place ∙ y.2 no_row))

@@ -16,8 +16,8 @@ pub record RowsOf : Type 0 where
   pub rows : List RowHead
 
 -- the number of a key: each set of folded bends has 144, by the attitude and then by the stage
-abbrev pub key_number : Key → ℕ
-key_number key = (key.mask.0 * 24 + key.attitude) * 6 + key.stage
+abbrev pub key_place : Key → ℕ
+key_place key = (key.mask.0 * 24 + key.attitude) * 6 + key.stage
 
 -- the number of the keys of a job with six stages
 abbrev pub key_count : JobData → ℕ
@@ -30,8 +30,8 @@ pub record AreRowsOf (job : JobData) (rows : List RowHead) : Type 0 where
 
 -- Of the first so many rows each stands, by its number and 1, at its key's number, and what isn't 0 is such a row.
 pub record IsIndexed (rows : List RowHead) (count : ℕ) (places : List ℕ) : Type 0 where
-  pub each : (i : ℕ) (d : RowHead) → i < count → slice_index_or places (key_number (slice_index_or rows i d).key) 0 ≡ i + 1
-  pub only : (place i : ℕ) (d : RowHead) → slice_index_or places place 0 ≡ i + 1 → (i < count) × (key_number (slice_index_or rows i d).key ≡ place)
+  pub each : (i : ℕ) (d : RowHead) → i < count → slice_index_or places (key_place (slice_index_or rows i d).key) 0 ≡ i + 1
+  pub only : (place i : ℕ) (d : RowHead) → slice_index_or places place 0 ≡ i + 1 → (i < count) × (key_place (slice_index_or rows i d).key ≡ place)
 
 -- the rows of a job, each to be found by its key
 pub record IsRowTable (job : JobData) (rows : List RowHead) (places : List ℕ) : Type 0 where

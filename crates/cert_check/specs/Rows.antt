@@ -24,25 +24,25 @@ abbrev pub ClosesAt : JobData → List RowHead → RowHead → Action → Type 0
 ClosesAt job rows head action = IsClosed job (HaveRow rows) head.key action head.worth
 
 -- the noted reason holds, or the action is closed where none is noted
-abbrev pub IsMet : JobData → List RowHead → RowHead → ℕ → Option Reason → Type 0
-IsMet job rows head number (Some reason) = HoldsAt job head number reason
-IsMet job rows head number None = ClosesAt job rows head (action_at (stage_count job) number)
+abbrev pub IsActionMet : JobData → List RowHead → RowHead → ℕ → Option Reason → Type 0
+IsActionMet job rows head number (Some reason) = HoldsAt job head number reason
+IsActionMet job rows head number None = ClosesAt job rows head (action_at (stage_count job) number)
 
 -- the cause for which it isn't so, with the numbers of the row and the action
-abbrev pub IsUnmet : JobData → List RowHead → ℕ → RowHead → ℕ → Option Reason → CheckFault → Type 0
-IsUnmet job rows row head number (Some reason) (BadReason r n) = (r ≡ row) × (n ≡ number) × (HoldsAt job head number reason → ⊥)
-IsUnmet job rows row head number None (NotClosed r n) =
+abbrev pub IsActionUnmet : JobData → List RowHead → ℕ → RowHead → ℕ → Option Reason → CheckFault → Type 0
+IsActionUnmet job rows row head number (Some reason) (BadReason r n) = (r ≡ row) × (n ≡ number) × (HoldsAt job head number reason → ⊥)
+IsActionUnmet job rows row head number None (NotClosed r n) =
     (r ≡ row) × (n ≡ number) × (ClosesAt job rows head (action_at (stage_count job) number) → ⊥)
-IsUnmet job rows row head number noted fault = ⊥
+IsActionUnmet job rows row head number noted fault = ⊥
 
 abbrev pub ActionAnswer : JobData → List RowHead → ℕ → RowHead → ℕ → Option Reason → Result (Unit {0}) CheckFault → Type 0
-ActionAnswer job rows row head number noted (Ok _) = IsMet job rows head number noted
-ActionAnswer job rows row head number noted (Err fault) = IsUnmet job rows row head number noted fault
+ActionAnswer job rows row head number noted (Ok _) = IsActionMet job rows head number noted
+ActionAnswer job rows row head number noted (Err fault) = IsActionUnmet job rows row head number noted fault
 
 -- the action of a number is accounted for where it can be tried, or it can and isn't, for this cause
 abbrev pub NumberAnswer : JobData → List RowHead → ℕ → RowHead → ℕ → Option Reason → Result (Unit {0}) CheckFault → Type 0
-NumberAnswer job rows row head number noted (Ok _) = IsTried job head number → IsMet job rows head number noted
-NumberAnswer job rows row head number noted (Err fault) = IsTried job head number × IsUnmet job rows row head number noted fault
+NumberAnswer job rows row head number noted (Ok _) = IsTried job head number → IsActionMet job rows head number noted
+NumberAnswer job rows row head number noted (Err fault) = IsTried job head number × IsActionUnmet job rows row head number noted fault
 
 -- what is noted of the action of a number
 abbrev pub noted_of : List (Option Reason) → ℕ → Option Reason
@@ -50,14 +50,14 @@ noted_of reasons number = slice_index_or reasons number None
 
 -- each action below a number is accounted for
 abbrev pub AreMet : JobData → List RowHead → RowHead → List (Option Reason) → ℕ → Type 0
-AreMet job rows head reasons count = (number : ℕ) → number < count → IsTried job head number → IsMet job rows head number (noted_of reasons number)
+AreMet job rows head reasons count = (number : ℕ) → number < count → IsTried job head number → IsActionMet job rows head number (noted_of reasons number)
 
 -- some action isn't, for this cause, and all before it are
 pub record IsRowFault (job : JobData) (rows : List RowHead) (row : ℕ) (head : RowHead) (reasons : List (Option Reason)) (fault : CheckFault) : Type 0 where
   pub number : ℕ
   pub tried : IsTried job head number
   pub before : AreMet job rows head reasons number
-  pub cause : IsUnmet job rows row head number (noted_of reasons number) fault
+  pub cause : IsActionUnmet job rows row head number (noted_of reasons number) fault
 
 -- each action of a row is accounted for, or the first that isn't
 abbrev pub HeadAnswer : JobData → List RowHead → ℕ → RowHead → List (Option Reason) → Result (Unit {0}) CheckFault → Type 0

@@ -16,20 +16,20 @@ use Rattle.cert_check.specs.declared.fault.StepFault.{StepFault}
 use Rattle.cert_check.specs.declared.fault.StepFault.TheVariants.{AlreadyFolded, NotLead, Hit, BadGauge}
 
 -- the first reason against the step's stroke is of another kind than that no gauge is legal
-abbrev pub IsHit : JobData → Key → Step → Reason → Type 0
-IsHit job key step reason = (reason ≢ NoGauge)
+abbrev pub IsFirstHit : JobData → Key → Step → Reason → Type 0
+IsFirstHit job key step reason = (reason ≢ NoGauge)
     × IsFirstReason job key.mask (group_of job key.mask step.action.bend) step.action.back step.action.stage reason
 
 -- no reason holds against it but that no gauge may be legal
-abbrev pub IsFree : JobData → Key → Step → Type 0
-IsFree job key step = (reason : Reason) → reason ≢ NoGauge → IsReasonFor job key.mask step.action reason → ⊥
+abbrev pub HasNoHit : JobData → Key → Step → Type 0
+HasNoHit job key step = (reason : Reason) → reason ≢ NoGauge → IsReasonFor job key.mask step.action reason → ⊥
 
 -- the first cause for which a step isn't legal at a key
 abbrev pub IsStepFault : JobData → Key → Step → StepFault → Type 0
 IsStepFault job key step AlreadyFolded = IsTrue (has key.mask step.action.bend)
 IsStepFault job key step NotLead = (has key.mask step.action.bend ≡ false) × (is_lead job key.mask step.action.bend ≡ false)
-IsStepFault job key step (Hit reason) = IsActionAt job key step.action × IsHit job key step reason
-IsStepFault job key step BadGauge = IsActionAt job key step.action × IsFree job key step × (IsGaugeFor job key.mask step.action step.gauge → ⊥)
+IsStepFault job key step (Hit reason) = IsActionAt job key step.action × IsFirstHit job key step reason
+IsStepFault job key step BadGauge = IsActionAt job key step.action × HasNoHit job key step × (IsGaugeFor job key.mask step.action step.gauge → ⊥)
 
 -- the step of the index isn't legal for this cause, and all before it are legal
 abbrev pub IsFirstBadStep : JobData → Key → List Step → ℕ → StepFault → Type 0

@@ -1,6 +1,6 @@
 //! The first reading of a certificate: all of it but its notes.
 ghost use Rattle.std.specs.Prelude.{◌≡◌, ◌<◌, ◌++◌, ◌∷◌, [], IfOk, OnOk, if◌then◌else◌, length, nat_lt, not};
-ghost use Rattle.plan_cert.specs.declared.format.Kind.TheVariants.{Certificate};
+ghost use Rattle.plan_cert.specs.declared.format.TextKind.TheVariants.{Certificate};
 ghost use Rattle.plan_cert.specs.Cert.{CertData};
 ghost use Rattle.plan_cert.specs.PlanItem.{item_of};
 ghost use Rattle.plan_cert.specs.CertReading.{AnswersLeft, answers_left, is_last, with_item};

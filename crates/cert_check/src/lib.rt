@@ -3,6 +3,7 @@
 //! nothing of how a plan is found.
 #![tactic(auto)]
 
+mod check_table;
 mod fault;
 mod fault_words;
 mod heads;
@@ -10,7 +11,6 @@ mod notes;
 mod row_table;
 mod rows;
 mod set_actions;
-mod set_table;
 mod steps;
 mod verdict;
 

@@ -8,12 +8,12 @@ ghost use Rattle.cert_check.specs.Texts.{IsTextOfCert};
 ghost use Rattle.cert_check.specs.Heads.{IsTextOfRows, behind};
 ghost use Rattle.cert_check.specs.Notes.{HoldsNotes, IsSameText, NoteAnswer, NotesAnswer, RowsAnswer, is_within_row, with_item_reason, with_reason};
 
+use crate::check_table::CheckTable;
 use crate::fault::CheckFault;
 use crate::heads::first_job;
 use crate::row_table::RowTable;
 use crate::rows::check_row;
 use crate::set_actions::SetActions;
-use crate::set_table::SetTable;
 use brake_base::{Mask, Reason};
 use job_setup::Job;
 use plan_cert::{CertReader, PlanItem};
@@ -23,7 +23,7 @@ pub(crate) fn check_notes(
     text: &[u8],
     job: &Job,
     rows: &RowTable,
-    sets: &mut SetTable,
+    sets: &mut CheckTable,
 ) -> Result<(), CheckFault>
     requires text { IsTextOfRows text.now job.now rows.now.rows }
     requires rows { rows.now.job ≡ job.now }

@@ -3,7 +3,7 @@ ghost use Rattle.std.specs.Prelude.{◌≡◌, ◌<◌, IfOk, Some, length, repl
 ghost use Rattle.job_setup.specs.ValidJob.{IsJob};
 ghost use Rattle.handling_cost.specs.StepCost.{IsKeyOf};
 ghost use Rattle.plan_cert.specs.WellFormed.{IsRow};
-ghost use Rattle.cert_check.specs.RowTable.{AreRowsOf, IsIndexed, IsRowTable, IsWorthAt, key_number, key_count};
+ghost use Rattle.cert_check.specs.RowTable.{AreRowsOf, IsIndexed, IsRowTable, IsWorthAt, key_place, key_count};
 
 use brake_base::{Key, Worth};
 use job_setup::Job;
@@ -63,7 +63,7 @@ impl RowTable {
         requires { IsKeyOf self.now.job key.now }
         ensures { IsWorthAt self.now.rows key.now result }
     {
-        let place = self.places[key_number(key) as usize];
+        let place = self.places[key_place(key) as usize];
         if place == 0 {
             None
         } else {
@@ -73,8 +73,8 @@ impl RowTable {
 }
 
 /// The number of a key.
-fn key_number(key: &Key) -> u32
-    ensures { result ≡ key_number key.now }
+fn key_place(key: &Key) -> u32
+    ensures { result ≡ key_place key.now }
 {
     let (mask, attitude, stage) = (key.mask.0, key.attitude.number(), key.stage);
     (u32::from(mask) * 24 + u32::from(attitude)) * 6 + u32::from(stage)
@@ -104,6 +104,6 @@ fn enter(job: &Job, rows: &[RowHead], places: &mut [u32])
     ensures indexed { IsIndexed rows.now (length rows.now) places.new }
 {
     for (row, head) in rows.iter().enumerate() {
-        places[key_number(&head.key) as usize] = row as u32 + 1;
+        places[key_place(&head.key) as usize] = row as u32 + 1;
     }
 }

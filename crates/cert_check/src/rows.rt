@@ -10,10 +10,10 @@ ghost use Rattle.plan_cert.specs.WellFormed.{IsRow, IsWorth};
 ghost use Rattle.cert_check.specs.SetActions.{IsNext, AreActionsOf};
 ghost use Rattle.cert_check.specs.Rows.{ProvesAfter, ClosesAt, ActionAnswer, NumberAnswer, HeadAnswer, RowAnswer, noted_of};
 
+use crate::check_table::CheckTable;
 use crate::fault::CheckFault;
 use crate::row_table::RowTable;
 use crate::set_actions::{NextKey, SetActions};
-use crate::set_table::SetTable;
 use brake_base::{Action, Key, Reason, Worth, action_of};
 use handling_cost::cost_to;
 use job_setup::Job;
@@ -32,7 +32,7 @@ struct NotedRow<'a> {
 pub(crate) fn check_row(
     job: &Job,
     rows: &RowTable,
-    sets: &mut SetTable,
+    sets: &mut CheckTable,
     actions: &mut SetActions,
     row: u32,
     reasons: &[Option<Reason>; 144],
@@ -57,7 +57,7 @@ pub(crate) fn check_row(
 fn check_actions(
     job: &Job,
     rows: &RowTable,
-    sets: &mut SetTable,
+    sets: &mut CheckTable,
     actions: &mut SetActions,
     row: &NotedRow,
 ) -> Result<(), CheckFault>
@@ -83,7 +83,7 @@ fn check_actions(
 fn check_number(
     job: &Job,
     rows: &RowTable,
-    sets: &mut SetTable,
+    sets: &mut CheckTable,
     actions: &mut SetActions,
     row: &NotedRow,
     number: u8,
@@ -138,7 +138,7 @@ pub(crate) fn action_at(job: &Job, number: u8) -> Action
 fn check_action(
     job: &Job,
     rows: &RowTable,
-    sets: &mut SetTable,
+    sets: &mut CheckTable,
     actions: &mut SetActions,
     row: &NotedRow,
     number: u8,
@@ -203,7 +203,7 @@ fn is_closed(job: &Job, rows: &RowTable, head: &RowHead, number: u8, next: &Next
 pub(crate) fn is_proved(
     job: &Job,
     rows: &RowTable,
-    sets: &mut SetTable,
+    sets: &mut CheckTable,
     key: &Key,
     cost: u64,
     worth: Worth,
@@ -238,7 +238,7 @@ fn is_proved_with(rows: &RowTable, key: &Key, bound: u64, cost: u64, worth: Wort
 }
 
 /// The bound of a key.
-pub(crate) fn bound_at(job: &Job, sets: &mut SetTable, key: &Key) -> u64
+pub(crate) fn bound_at(job: &Job, sets: &mut CheckTable, key: &Key) -> u64
     requires sets { sets.old ≡ job.now }
     requires key { IsKeyOf job.now key.now }
     ensures value { result ≡ bound_of job.now key.now }

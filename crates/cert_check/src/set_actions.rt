@@ -8,8 +8,8 @@ ghost use Rattle.plan_cert.specs.Lines.{action_at};
 ghost use Rattle.set_facts.specs.Facts.{IsFacts};
 ghost use Rattle.cert_check.specs.SetActions.{IsNext, IsNextOf, AreActionsOf};
 
+use crate::check_table::CheckTable;
 use crate::rows::{action_at, action_count, bound_at};
-use crate::set_table::SetTable;
 use brake_base::{Action, Key, Mask, Reason};
 use job_setup::{Job, group};
 use set_facts::SetFacts;
@@ -34,7 +34,7 @@ pub(crate) struct SetActions {
 /// Where an action leads whose bend is a lead.
 fn next_after(
     job: &Job,
-    sets: &mut SetTable,
+    sets: &mut CheckTable,
     facts: &SetFacts,
     mask: Mask,
     action: Action,
@@ -63,7 +63,7 @@ fn next_after(
 /// Where the action of a number leads.
 fn next_of(
     job: &Job,
-    sets: &mut SetTable,
+    sets: &mut CheckTable,
     facts: &SetFacts,
     mask: Mask,
     number: u8,
@@ -85,7 +85,7 @@ fn next_of(
 }
 
 /// Where the actions lead.
-fn all_next(job: &Job, sets: &mut SetTable, mask: Mask) -> [Option<NextKey>; 144]
+fn all_next(job: &Job, sets: &mut CheckTable, mask: Mask) -> [Option<NextKey>; 144]
     requires sets { sets.old ≡ job.now }
     requires mask { mask.0 < 2 ^ bend_count job.now }
     ensures next { (number : ℕ) → number < 2 * bend_count job.now * stage_count job.now
@@ -103,7 +103,7 @@ fn all_next(job: &Job, sets: &mut SetTable, mask: Mask) -> [Option<NextKey>; 144
 
 impl SetActions {
     /// What belongs to the actions of a set, against which no reason is known to hold.
-    pub fn of(job: &Job, sets: &mut SetTable, mask: Mask) -> SetActions
+    pub fn of(job: &Job, sets: &mut CheckTable, mask: Mask) -> SetActions
         requires sets { sets.old ≡ job.now }
         requires mask { mask.0 < 2 ^ bend_count job.now }
         ensures actions { AreActionsOf job.now result }
@@ -119,7 +119,7 @@ impl SetActions {
     }
 
     /// Makes them those of a set.
-    pub fn turn_to(&mut self, job: &Job, sets: &mut SetTable, mask: Mask)
+    pub fn turn_to(&mut self, job: &Job, sets: &mut CheckTable, mask: Mask)
         requires actions { AreActionsOf job.now self.old }
         requires sets { sets.old ≡ job.now }
         requires mask { mask.0 < 2 ^ bend_count job.now }
@@ -144,7 +144,7 @@ impl SetActions {
     pub fn holds(
         &mut self,
         job: &Job,
-        sets: &mut SetTable,
+        sets: &mut CheckTable,
         mask: Mask,
         number: u8,
         reason: Reason,

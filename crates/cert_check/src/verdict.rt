@@ -6,12 +6,12 @@ ghost use Rattle.cert_check.specs.Heads.{AreRowParts};
 ghost use Rattle.cert_check.specs.Checking.{Answers, AreParts, CertAnswer, IsTrueOf, RowsVerdict, verdict_of};
 ghost use Rattle.cert_check.specs.Rows.{ProvesAnswer};
 
+use crate::check_table::CheckTable;
 use crate::fault::CheckFault;
 use crate::heads::{Heads, read_heads};
 use crate::notes::check_notes;
 use crate::row_table::RowTable;
 use crate::rows::is_proved;
-use crate::set_table::SetTable;
 use crate::steps::check_steps;
 use brake_base::{Step, Worth};
 use handling_cost::start_key;
@@ -101,7 +101,7 @@ fn check_rows(
         → RowsVerdict job.now cert result }
 {
     let rows = RowTable::open(alloc, job, rows)?;
-    let mut sets = SetTable::open(alloc, job)?;
+    let mut sets = CheckTable::open(alloc, job)?;
     match check_notes(text, job, &rows, &mut sets) {
         Ok(()) => check_claim(job, &rows, &mut sets, claim),
         Err(fault) => Err(fault),
@@ -122,7 +122,7 @@ fn verdict_of(claim: Worth) -> Verdict
 fn check_claim(
     job: &Job,
     rows: &RowTable,
-    sets: &mut SetTable,
+    sets: &mut CheckTable,
     claim: Worth,
 ) -> Result<(), CheckFault>
     requires rows { rows.now.job ≡ job.now }

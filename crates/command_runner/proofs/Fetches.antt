@@ -8,10 +8,10 @@ use Rattle.std.proofs.lemmas.List.{length-map, get_or-map, map-append, map_more,
 use Rattle.std.proofs.lemmas.Slice.Zip.{all_zipped_more}
 use Rattle.brake_io.specs.Meanings.{Names, Content, ShelfState, IsDue, MayFailAt}
 use Rattle.command_runner.specs.declared.fetching.FileWord.{FileWord}
-use Rattle.command_runner.specs.declared.fetching.Stop.{Stop}
-use Rattle.command_runner.specs.declared.fetching.Stop.TheVariants.{TooLong, Fault, NoMemory}
+use Rattle.command_runner.specs.declared.fetching.FetchStop.{FetchStop}
+use Rattle.command_runner.specs.declared.fetching.FetchStop.TheVariants.{TooLong, Fault, NoMemory}
 use Rattle.command_runner.specs.Stops.{OnTooLong}
-use Rattle.command_runner.specs.Fetching.{NamedFile, names_of, word_at, file_of, IsContent, IsTooLong, IsFetched, all_fetched, one_too_long, content_over, fetched_over, IsMet, HasCause}
+use Rattle.command_runner.specs.Fetching.{NamedFile, names_of, word_at, file_of, IsContent, IsTooLong, IsFetched, all_fetched, one_too_long, content_over, fetched_over, IsDueBetween, HasCause}
 
 -- an item of a list by its place, as its view
 pub seen_at : {X : Type 0} (view : X → List ℕ) (xs : List X) (place : ℕ) (x : X) (seen : List ℕ) → place < length xs → x ≡ get_or xs place x → seen ≡ view x → seen ≡ slice_index_or (map view xs) place []
@@ -43,7 +43,7 @@ around f files i file within =
     ap (map f) (sym (take-append-drop i files)) ∙ map-append f (take i files) (drop i files) ∙ ap (λ (rest : List FileWord). map f (take i files) ++ map f rest) (drop-cons files i file within)
 
 -- the number of a file that is too long, where those before it have contents
-pub stops_too_long : (first before now : ShelfState) (words : List (List ℕ)) (files : List FileWord) (i : ℕ) (file : FileWord) (contents : List (List ℕ)) (stop : Stop) → i < length files
+pub stops_too_long : (first before now : ShelfState) (words : List (List ℕ)) (files : List FileWord) (i : ℕ) (file : FileWord) (contents : List (List ℕ)) (stop : FetchStop) → i < length files
     → before.content ≡ first.content → before.longs ≡ first.longs → AllZip (IsContent first) (map (file_of words) (take i files)) contents
     → OnTooLong stop (λ number. (number ≡ (get_or files i file).number) × IsTooLong before now (file_of words (get_or files i file)))
     → OnTooLong stop (λ number. IsFetched first now (map (file_of words) files) (Err number))
@@ -59,7 +59,7 @@ name_is words files i file within =
     get_or-map (λ (f : NamedFile). f.name) (map (file_of words) files) i (file_of words file) _ (rw length-map within) ∙ ap (λ (f : NamedFile). f.name) (get_or-map (file_of words) files i file (file_of words file) within)
 
 cause_among : (content : Option Content) (first before now : ℕ) (names : List (List ℕ)) (i : ℕ) (name : List ℕ) → i < length names → get_or names i name ≡ name → first ≤ before
-    → IfSome content (λ c. (c.held name ≡ None) ⊎ IsDue c.due before now) → IfSome content (λ c. Any (λ name. c.held name ≡ None) names ⊎ IsMet first now c.due)
+    → IfSome content (λ c. (c.held name ≡ None) ⊎ IsDue c.due before now) → IfSome content (λ c. Any (λ name. c.held name ≡ None) names ⊎ IsDueBetween first now c.due)
 cause_among None first before now names i name within here least cause = tt
 cause_among (Some content) first before now names i name within here least (inl missing) = inl (i, name, within, here, missing)
 cause_among (Some content) first before now names i name within here least (inr due) = inr (due.1.0, now, due.1.1, due.1.2, (omega (arith, least, due.0), omega arith))

@@ -9,7 +9,7 @@ use Rattle.brake_io.specs.Rose.{raised}
 use Rattle.brake_io.specs.Meanings.{Names, Content, ShelfState, NoCountFalls, IsDue, MayFail, WhereBothTold, WhereTold, ChangesOnly, HoldsNow, HoldsPart, with_bytes}
 use Rattle.command_runner.specs.declared.answer.StoredText.{StoredText}
 use Rattle.command_runner.specs.Answers.{StoredData, stored_data}
-use Rattle.command_runner.specs.Fetching.{IsMet, HasDueCall}
+use Rattle.command_runner.specs.Fetching.{IsDueBetween, HasDueCall}
 use Rattle.command_runner.specs.Delivery.{held_after, HoldsAll, AreStored, IsPartlyStored, AreStoredUpTo}
 
 held_after-append : (xs ys : List StoredData) (names : Names) → held_after (xs ++ ys) names ≡ held_after ys (held_after xs names)
@@ -86,7 +86,7 @@ stored_up_to stored i one name text a b c within here name_is text_is first only
     }
 
 due_among : (stored : List StoredData) (first before now : ℕ) (a b : Option Content) → WhereBothTold a b (HoldsAll stored) → first ≤ before
-    → IfSome b (λ content. IsDue content.due before now) → IfSome a (λ content. IsMet first now content.due)
+    → IfSome b (λ content. IsDue content.due before now) → IfSome a (λ content. IsDueBetween first now content.due)
 due_among stored first before now None b is least due = tt
 due_among stored first before now (Some a) None is least due = absurd is
 due_among stored first before now (Some a) (Some b) is least due =

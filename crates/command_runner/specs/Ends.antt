@@ -2,7 +2,7 @@
 use Rattle.std.specs.Prelude.{◌≡◌, ◌⊎◌, ℕ, List, length, Result, Ok, Err}
 use Rattle.brake_io.specs.Rose.{Rose}
 use Rattle.brake_io.specs.Meanings.{ShelfState}
-use Rattle.command_runner.specs.declared.kind.Kind.{Kind}
+use Rattle.command_runner.specs.declared.word_kind.WordKind.{WordKind}
 use Rattle.command_runner.specs.declared.status.Status.{Status}
 use Rattle.command_runner.specs.Answers.{AnswerData, long_refused}
 use Rattle.command_runner.specs.Fetching.{files_of, names_of, IsFetched, OnlyFetches, HasCause}
@@ -18,7 +18,7 @@ IsAnswerAfter meaning words (Ok contents) answer = meaning words contents answer
 IsAnswerAfter meaning words (Err number) answer = answer ≡ long_refused number
 
 -- an answer to words of this form over a shelf, from before the files are fetched to when they are
-pub record IsAnswer (form : List Kind) (meaning : Meaning) (words : List (List ℕ)) (before now : ShelfState) (answer : AnswerData) : Type 0 where
+pub record IsAnswer (form : List WordKind) (meaning : Meaning) (words : List (List ℕ)) (before now : ShelfState) (answer : AnswerData) : Type 0 where
   pub fetched : Result (List (List ℕ)) ℕ
   pub is_fetched : IsFetched before now (files_of form words) fetched
   pub is_answer : IsAnswerAfter meaning words fetched answer
@@ -26,7 +26,7 @@ pub record IsAnswer (form : List Kind) (meaning : Meaning) (words : List (List �
 
 -- How a run ends: between fetching and storing it had an answer, which it stored and put; or it was cut short before,
 -- and nothing is stored or put.
-pub data Ends (form : List Kind) (meaning : Meaning) (words : List (List ℕ)) (before now : Outside) (status : Status) : Type 0 where
+pub data Ends (form : List WordKind) (meaning : Meaning) (words : List (List ℕ)) (before now : Outside) (status : Status) : Type 0 where
   answers : (answer : AnswerData) (between : ShelfState) → OnlyFetches (length (files_of form words)) before.shelf between → IsAnswer form meaning words before.shelf between answer → Delivers answer (record { shelf = between; sink = before.sink }) now status → Ends form meaning words before now status
   stops : IsCutShort status → OnlyFetches (length (files_of form words)) before.shelf now.shelf → now.sink ≡ before.sink → Ends form meaning words before now status
 
@@ -35,6 +35,6 @@ abbrev pub CountsFault : Outside → Outside → Type 0
 CountsFault before now = Rose before.shelf.faults now.shelf.faults ⊎ Rose before.sink.faults now.sink.faults
 
 -- the sink counted a fault; or, where the content is told, a file that is fetched isn't held, or a call of the run was one that is to fail
-abbrev pub MayFault : List Kind → List (List ℕ) → Outside → Outside → Type 0
+abbrev pub MayFault : List WordKind → List (List ℕ) → Outside → Outside → Type 0
 MayFault form words before now =
     Rose before.sink.faults now.sink.faults ⊎ HasCause (names_of (files_of form words)) before.shelf now.shelf

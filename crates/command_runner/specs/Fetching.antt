@@ -3,12 +3,12 @@ use Rattle.std.specs.Prelude.{◌≡◌, ◌⊎◌, ℕ, ◌+◌, ◌<◌, ◌�
 use Rattle.std.specs.List.{AllZip, slice_index_or}
 use Rattle.brake_io.specs.Rose.{raised}
 use Rattle.brake_io.specs.Meanings.{Names, ShelfState, Holds, IsLonger}
-use Rattle.command_runner.specs.declared.kind.Kind.{Kind}
+use Rattle.command_runner.specs.declared.word_kind.WordKind.{WordKind}
 use Rattle.command_runner.specs.declared.fetching.FileWord.{FileWord}
 use Rattle.command_runner.specs.Kinds.{limit_of, is_file}
 
 -- the number of file words, once there is a word of this kind
-abbrev pub counted : ℕ → Kind → ℕ
+abbrev pub counted : ℕ → WordKind → ℕ
 counted number kind = if is_file kind then number + 1 else number
 
 -- the word of a file that is fetched, by its place among the words and its number among the file words
@@ -17,13 +17,13 @@ fetched_word place number None = []
 fetched_word place number (Some limit) = record { number = number; place = place; limit = limit } ∷ []
 
 -- the words of the files that are fetched, after so many words of which so many are file words
-abbrev pub file_words_after : ℕ → ℕ → List Kind → List FileWord
+abbrev pub file_words_after : ℕ → ℕ → List WordKind → List FileWord
 file_words_after place number [] = []
 file_words_after place number (kind ∷ kinds) =
     fetched_word place (counted number kind) (limit_of kind) ++ file_words_after (place + 1) (counted number kind) kinds
 
 -- the words of the files that a form fetches
-abbrev pub file_words : List Kind → List FileWord
+abbrev pub file_words : List WordKind → List FileWord
 file_words kinds = file_words_after 0 0 kinds
 
 -- a file to be fetched: the number of its file word, counted from 1, its name, and the greatest length that it may have, in bytes
@@ -41,7 +41,7 @@ abbrev pub file_of : List (List ℕ) → FileWord → NamedFile
 file_of words file = record { number = file.number; name = word_at words file.place; limit = file.limit }
 
 -- the files that words of a form name, in the order in which they are fetched
-abbrev pub files_of : List Kind → List (List ℕ) → List NamedFile
+abbrev pub files_of : List WordKind → List (List ℕ) → List NamedFile
 files_of kinds words = map (file_of words) (file_words kinds)
 
 abbrev pub names_of : List NamedFile → List (List ℕ)
@@ -88,14 +88,14 @@ fetched_over names (file ∷ files) = do
   Some (Ok (bytes ∷ contents))
 
 -- one of these numbers is above the calls before and not above the calls now
-abbrev pub IsMet : ℕ → ℕ → List ℕ → Type 0
-IsMet before now numbers = Any (λ number. (before < number) × (number ≤ now)) numbers
+abbrev pub IsDueBetween : ℕ → ℕ → List ℕ → Type 0
+IsDueBetween before now numbers = Any (λ number. (before < number) × (number ≤ now)) numbers
 
 -- where the content is told, a call of this run was one that is to fail
 abbrev pub HasDueCall : ShelfState → ShelfState → Type 0
-HasDueCall before now = IfSome before.content (λ content. IsMet before.calls now.calls content.due)
+HasDueCall before now = IfSome before.content (λ content. IsDueBetween before.calls now.calls content.due)
 
 -- where the content is told, one of these names isn't held, or a call of this run was one that is to fail
 abbrev pub HasCause : List (List ℕ) → ShelfState → ShelfState → Type 0
 HasCause names before now = IfSome before.content (λ content.
-    Any (λ name. content.held name ≡ None) names ⊎ IsMet before.calls now.calls content.due)
+    Any (λ name. content.held name ≡ None) names ⊎ IsDueBetween before.calls now.calls content.due)

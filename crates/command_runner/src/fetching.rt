@@ -6,7 +6,7 @@ ghost use Rattle.command_runner.specs.Fetching.{counted, fetched_word, file_word
 ghost use Rattle.command_runner.specs.Kinds.{limit_of};
 ghost use Rattle.command_runner.specs.Stops.{OnTooLong, OnFetched};
 
-use crate::kind::Kind;
+use crate::word_kind::WordKind;
 use brake_io::{FetchFault, Shelf};
 use std::alloc::{AllocError, AllocFailed, Global};
 
@@ -24,36 +24,36 @@ pub struct FileWord {
 /// Why the files aren't fetched: the file of this file word is too long, reading failed, or memory
 /// ran out.
 #[derive(Clone, Copy, Debug, PartialEq, Eq)]
-pub enum Stop {
+pub enum FetchStop {
     TooLong(u8),
     Fault,
     NoMemory,
 }
 
-impl From<AllocError> for Stop {
+impl From<AllocError> for FetchStop {
     ghost use Rattle.std.specs.Prelude.{◌≡◌};
-    ghost use Rattle.command_runner.specs.declared.fetching.Stop.TheVariants.{NoMemory};
+    ghost use Rattle.command_runner.specs.declared.fetching.FetchStop.TheVariants.{NoMemory};
 
     ghost from_gives = { λ _ stop. stop ≡ NoMemory };
 
     fn from(_: AllocError) -> Self {
-        Stop::NoMemory
+        FetchStop::NoMemory
     }
 }
 
-impl<T: Drop> From<AllocFailed<T>> for Stop {
+impl<T: Drop> From<AllocFailed<T>> for FetchStop {
     ghost use Rattle.std.specs.Prelude.{◌≡◌};
-    ghost use Rattle.command_runner.specs.declared.fetching.Stop.TheVariants.{NoMemory};
+    ghost use Rattle.command_runner.specs.declared.fetching.FetchStop.TheVariants.{NoMemory};
 
     ghost from_gives = { λ _ stop. stop ≡ NoMemory };
 
     fn from(_: AllocFailed<T>) -> Self {
-        Stop::NoMemory
+        FetchStop::NoMemory
     }
 }
 
 /// The number of file words, once there is a word of this kind.
-fn counted(number: u8, kind: Kind) -> u8
+fn counted(number: u8, kind: WordKind) -> u8
     requires { number < 255 }
     ensures { result ≡ counted number kind }
 {
@@ -65,7 +65,7 @@ fn push_fetched(
     files: &mut Vec<FileWord>,
     place: usize,
     number: u8,
-    kind: Kind,
+    kind: WordKind,
 ) -> Result<(), AllocError>
     ensures { OnOk result
         (files.new.items ≡ files.old.items ++ fetched_word place number (limit_of kind)) }
@@ -84,7 +84,7 @@ fn push_fetched(
 }
 
 /// The words of the files that a form fetches.
-pub fn file_words(alloc: Global, kinds: &[Kind]) -> Result<Vec<FileWord>, AllocError>
+pub fn file_words(alloc: Global, kinds: &[WordKind]) -> Result<Vec<FileWord>, AllocError>
     requires { length kinds.now ≤ 16 }
     ensures { IfOk result (λ files. files.items ≡ file_words kinds.now) }
 {
@@ -111,7 +111,7 @@ fn fetch<H: Shelf>(
     words: &[String],
     file: FileWord,
     shelf: &mut H,
-) -> Result<Vec<u8>, Stop>
+) -> Result<Vec<u8>, FetchStop>
     requires { file.place < length words.now }
     ensures content { (H.state shelf.new).content ≡ (H.state shelf.old).content }
     ensures calls { (H.state shelf.new).calls ≡ raised (H.state shelf.old).calls }
@@ -121,18 +121,18 @@ fn fetch<H: Shelf>(
     ensures longs { IfOk result (λ _. (H.state shelf.new).longs ≡ (H.state shelf.old).longs) }
     ensures too_long { IfErr result (λ stop. OnTooLong stop (λ number. (number ≡ file.number)
         × IsTooLong (H.state shelf.old) (H.state shelf.new) (file_of (map string_bytes words.now) file))) }
-    ensures faults { ¬ IsErrOf result Stop.Fault →
+    ensures faults { ¬ IsErrOf result FetchStop.Fault →
         (H.state shelf.new).faults ≡ (H.state shelf.old).faults }
-    ensures fault { IsErrOf result Stop.Fault →
+    ensures fault { IsErrOf result FetchStop.Fault →
         Rose (H.state shelf.old).faults (H.state shelf.new).faults }
-    ensures cause { IsErrOf result Stop.Fault →
+    ensures cause { IsErrOf result FetchStop.Fault →
         MayFailAt (word_at (map string_bytes words.now) file.place) (H.state shelf.old) (H.state shelf.new) }
 {
     match shelf.fetch(alloc, word_at(words, file.place), file.limit) {
         Ok(bytes) => Ok(bytes),
-        Err(FetchFault::Failed) => Err(Stop::Fault),
-        Err(FetchFault::TooLong) => Err(Stop::TooLong(file.number)),
-        Err(FetchFault::NoMemory) => Err(Stop::NoMemory),
+        Err(FetchFault::Failed) => Err(FetchStop::Fault),
+        Err(FetchFault::TooLong) => Err(FetchStop::TooLong(file.number)),
+        Err(FetchFault::NoMemory) => Err(FetchStop::NoMemory),
     }
 }
 
@@ -143,18 +143,18 @@ pub fn fetch_all<H: Shelf>(
     words: &[String],
     files: &[FileWord],
     shelf: &mut H,
-) -> Result<Vec<Vec<u8>>, Stop>
+) -> Result<Vec<Vec<u8>>, FetchStop>
     requires { All (λ file. file.place < length words.now) files.now }
     ensures only { OnlyFetches (length files.now) (H.state shelf.old) (H.state shelf.new) }
     ensures never_falls { NoCountFalls (H.state shelf.old) (H.state shelf.new) }
     ensures fetched { OnFetched result (IsFetched (H.state shelf.old) (H.state shelf.new)
         (map (file_of (map string_bytes words.now)) files.now)) }
     ensures count { IfOk result (λ contents. length contents.items ≡ length files.now) }
-    ensures faults { ¬ IsErrOf result Stop.Fault →
+    ensures faults { ¬ IsErrOf result FetchStop.Fault →
         (H.state shelf.new).faults ≡ (H.state shelf.old).faults }
-    ensures fault { IsErrOf result Stop.Fault →
+    ensures fault { IsErrOf result FetchStop.Fault →
         Rose (H.state shelf.old).faults (H.state shelf.new).faults }
-    ensures cause { IsErrOf result Stop.Fault →
+    ensures cause { IsErrOf result FetchStop.Fault →
         HasCause (names_of (map (file_of (map string_bytes words.now)) files.now))
         (H.state shelf.old) (H.state shelf.new) }
 {

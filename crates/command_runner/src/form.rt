@@ -2,10 +2,10 @@
 ghost use Rattle.std.specs.Prelude.{◌≡◌, map, string_bytes};
 ghost use Rattle.command_runner.specs.Kinds.{are_of_kinds, is_apart, are_apart, is_form};
 
-use crate::kind::Kind;
+use crate::word_kind::WordKind;
 
 /// Whether each word is of its kind.
-fn are_of_kinds(kinds: &[Kind], words: &[String]) -> bool
+fn are_of_kinds(kinds: &[WordKind], words: &[String]) -> bool
     ensures { result ≡ are_of_kinds kinds.now (map string_bytes words.now) }
 {
     match kinds {
@@ -19,7 +19,7 @@ fn are_of_kinds(kinds: &[Kind], words: &[String]) -> bool
 
 /// Whether nothing that is stored for the word of this kind has the name of a file that is fetched
 /// for these words.
-fn is_apart(kind: Kind, word: &str, kinds: &[Kind], words: &[String]) -> bool
+fn is_apart(kind: WordKind, word: &str, kinds: &[WordKind], words: &[String]) -> bool
     ensures { result ≡ is_apart kind word.now kinds.now (map string_bytes words.now) }
 {
     match kinds {
@@ -35,7 +35,7 @@ fn is_apart(kind: Kind, word: &str, kinds: &[Kind], words: &[String]) -> bool
 }
 
 /// The same of each of some words.
-fn are_apart(some_kinds: &[Kind], some: &[String], kinds: &[Kind], words: &[String]) -> bool
+fn are_apart(some_kinds: &[WordKind], some: &[String], kinds: &[WordKind], words: &[String]) -> bool
     ensures { result ≡ are_apart some_kinds.now (map string_bytes some.now)
         kinds.now (map string_bytes words.now) }
 {
@@ -52,7 +52,7 @@ fn are_apart(some_kinds: &[Kind], some: &[String], kinds: &[Kind], words: &[Stri
 }
 
 /// Whether the words have this form: each is of its kind, and no output is a file that is fetched.
-pub fn is_form(kinds: &[Kind], words: &[String]) -> bool
+pub fn is_form(kinds: &[WordKind], words: &[String]) -> bool
     ensures { result ≡ is_form kinds.now (map string_bytes words.now) }
 {
     are_of_kinds(kinds, words) && are_apart(kinds, words, kinds, words)

@@ -6,13 +6,13 @@ mod answer;
 mod delivery;
 mod fetching;
 mod form;
-mod kind;
 mod running;
 mod status;
+mod word_kind;
 
 pub use answer::{Answer, StoredText, refusal};
 pub use delivery::deliver;
 pub use form::is_form;
-pub use kind::{Keyword, Kind, number_in};
 pub use running::{Command, run};
 pub use status::Status;
+pub use word_kind::{Keyword, WordKind, number_in};

@@ -3,7 +3,7 @@ ghost use Rattle.std.specs.Prelude.{◌≡◌, ◌⊎◌, ◌≤◌, List, lengt
 ghost use Rattle.std.specs.Vec.{vec_items};
 ghost use Rattle.brake_io.specs.Rose.{Rose};
 ghost use Rattle.brake_io.specs.Meanings.{NoCountFalls};
-ghost use Rattle.command_runner.specs.declared.kind.Kind.{Kind};
+ghost use Rattle.command_runner.specs.declared.word_kind.WordKind.{WordKind};
 ghost use Rattle.command_runner.specs.Kinds.{is_form};
 ghost use Rattle.command_runner.specs.Answers.{answer_data, long_refused};
 ghost use Rattle.command_runner.specs.Fetching.{file_words, files_of, names_of, OnlyFetches, HasCause};
@@ -12,22 +12,22 @@ ghost use Rattle.command_runner.specs.Ends.{Meaning, IsAnswer, Ends, CountsFault
 
 use crate::answer::{Answer, refusal};
 use crate::delivery::deliver;
-use crate::fetching::{Stop, fetch_all, file_words};
-use crate::kind::Kind;
+use crate::fetching::{FetchStop, fetch_all, file_words};
 use crate::status::Status;
+use crate::word_kind::WordKind;
 use brake_io::{Shelf, Sink};
 use std::alloc::{AllocError, Global};
 
 /// A command, with the form of its words and what it answers.
 pub trait Command {
     /// The kinds of its words.
-    ghost form: { Self → List Kind };
+    ghost form: { Self → List WordKind };
 
     /// What it answers to its words and the contents of its files. It may have several answers.
     ghost meaning: { Self → Meaning };
 
     /// The kinds of its words, at most 16.
-    fn kinds(&self) -> &'static [Kind]
+    fn kinds(&self) -> &'static [WordKind]
         ensures kinds { result.now ≡ form self.now }
         ensures few { length result.now ≤ 16 };
 
@@ -90,12 +90,12 @@ fn answer_of<C: Command, H: Shelf>(
             Ok(answer) => Ok(answer),
             Err(_) => Err(Status::NoMemory),
         },
-        Err(Stop::TooLong(number)) => match long_refused(alloc, number) {
+        Err(FetchStop::TooLong(number)) => match long_refused(alloc, number) {
             Ok(answer) => Ok(answer),
             Err(_) => Err(Status::NoMemory),
         },
-        Err(Stop::Fault) => Err(Status::Fault),
-        Err(Stop::NoMemory) => Err(Status::NoMemory),
+        Err(FetchStop::Fault) => Err(Status::Fault),
+        Err(FetchStop::NoMemory) => Err(Status::NoMemory),
     }
 }
 

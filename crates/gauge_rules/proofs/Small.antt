@@ -3,7 +3,7 @@ use Rattle.std.proofs.Common.{◌≡◌, ◌∙◌, ◌↔◌, sym, subst, refl,
 use lib.Signed.{le_z}
 use Rattle.brake_base.specs.declared.space.Box3.{Box3}
 use Rattle.fold_boxes.specs.Pose.{PoseData}
-use Rattle.job_setup.specs.LegalGauge.{IsFree}
+use Rattle.job_setup.specs.LegalGauge.{IsFingerFree}
 
 pub same_pair : (a b c d : ℤ) → a ≡ c → b ≡ d → ◌≡◌ {A = ℤ × ℤ} (a, b) (c, d)
 same_pair a b c d first second = λ i. (first i, second i)
@@ -25,5 +25,5 @@ le_to a b h = search (rules, tests)
 pub same_test : (a b c d : ℤ) → a ≡ c → b ≡ d → IsTrue (le_z a b) ↔ (c ≤ℤ d)
 same_test a b c d first second = subst (λ (x : ℤ). IsTrue (le_z a b) ↔ (x ≤ℤ d)) first (subst (λ (y : ℤ). IsTrue (le_z a b) ↔ (a ≤ℤ y)) second (le_from a b, le_to a b))
 
-pub same_free : (pose : PoseData) (r : Bool) (box other : Box3) → box ≡ other → IsTrue r ↔ IsFree pose box → IsTrue r ↔ IsFree pose other
-same_free pose r box other same h = subst (λ (b : Box3). IsTrue r ↔ IsFree pose b) same h
+pub same_free : (pose : PoseData) (r : Bool) (box other : Box3) → box ≡ other → IsTrue r ↔ IsFingerFree pose box → IsTrue r ↔ IsFingerFree pose other
+same_free pose r box other same h = subst (λ (b : Box3). IsTrue r ↔ IsFingerFree pose b) same h

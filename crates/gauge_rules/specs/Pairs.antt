@@ -7,7 +7,7 @@ use Rattle.fold_boxes.specs.declared.posed_part.PoseBox.{PoseBox}
 use Rattle.fold_boxes.specs.Pose.{PoseData}
 use Rattle.job_setup.specs.Setup.{JobData}
 use Rattle.machine_file.specs.declared.machine.GaugeRule.{GaugeRule}
-use Rattle.job_setup.specs.LegalGauge.{IsLevel, IsFlatFace, IsPair, IsLegalPair, IsFree, far_edge, left_finger, right_finger, finger_box}
+use Rattle.job_setup.specs.LegalGauge.{IsLevel, IsFlatFace, IsPair, IsLegalPair, IsFingerFree, far_edge, left_finger, right_finger, finger_box}
 
 -- the face is there, and its place takes z to z or to -z
 pub record IsLevelFace (pose : PoseData) (face : ℕ) : Type 0 where
@@ -57,8 +57,8 @@ pub record AreInReach (rule : GaugeRule) (left right : PoseBox) : Type 0 where
 
 -- neither finger shares an interior point with the part
 pub record AreFree (job : JobData) (pose : PoseData) (left right : PoseBox) : Type 0 where
-  pub left_free : IsFree pose (finger_box job.setup.gauge job.part.thickness (far_edge left) (left_finger job.setup.gauge left))
-  pub right_free : IsFree pose (finger_box job.setup.gauge job.part.thickness (far_edge left) (right_finger job.setup.gauge right))
+  pub left_free : IsFingerFree pose (finger_box job.setup.gauge job.part.thickness (far_edge left) (left_finger job.setup.gauge left))
+  pub right_free : IsFingerFree pose (finger_box job.setup.gauge job.part.thickness (far_edge left) (right_finger job.setup.gauge right))
 
 -- the first legal pair of those with this left face
 abbrev pub IsFirstWith : JobData → PoseData → ℕ → Option Gauge → Type 0

@@ -4,7 +4,7 @@ ghost use Rattle.brake_base.specs.Boxes.{ShareInterior};
 ghost use Rattle.machine_file.specs.Machine.{IsGaugeRule};
 ghost use Rattle.fold_boxes.specs.Pose.{pose_data};
 ghost use Rattle.fold_boxes.specs.Posing.{IsNearPoseBox};
-ghost use Rattle.job_setup.specs.LegalGauge.{far_edge, left_finger, right_finger, finger_box, IsFree, IsPair};
+ghost use Rattle.job_setup.specs.LegalGauge.{far_edge, left_finger, right_finger, finger_box, IsFingerFree, IsPair};
 ghost use Rattle.gauge_rules.specs.Pairs.{HasEdge, HasRoom, AreInReach, AreFree};
 
 use brake_base::{Box3, V3, overlap};
@@ -103,7 +103,7 @@ fn are_free(job: &Job, pose: &Pose, left: &PoseBox, right: &PoseBox) -> bool
 fn is_left_free(job: &Job, pose: &Pose, left: &PoseBox) -> bool
     requires left { IsNearPoseBox left.now }
     ensures { IsTrue result
-        ↔ IsFree (pose_data pose.now)
+        ↔ IsFingerFree (pose_data pose.now)
         (finger_box job.now.setup.gauge job.now.part.thickness (far_edge left.now)
         (left_finger job.now.setup.gauge left.now)) }
 {
@@ -116,7 +116,7 @@ fn is_right_free(job: &Job, pose: &Pose, left: &PoseBox, right: &PoseBox) -> boo
     requires left { IsNearPoseBox left.now }
     requires right { IsNearPoseBox right.now }
     ensures { IsTrue result
-        ↔ IsFree (pose_data pose.now)
+        ↔ IsFingerFree (pose_data pose.now)
         (finger_box job.now.setup.gauge job.now.part.thickness (far_edge left.now)
         (right_finger job.now.setup.gauge right.now)) }
 {
@@ -168,7 +168,7 @@ fn finger_box(job: &Job, face: &PoseBox, range: (i64, i64)) -> Box3
 
 /// Whether the box shares no interior point with a box of the part.
 fn is_free(pose: &Pose, finger: &Box3) -> bool
-    ensures { IsTrue result ↔ IsFree (pose_data pose.now) finger.now }
+    ensures { IsTrue result ↔ IsFingerFree (pose_data pose.now) finger.now }
 {
     pose.boxes.iter().all(|part_box| is_apart(finger, part_box))
 }

@@ -7,7 +7,7 @@ use Rattle.tool_library.specs.Tools.{IsBodyBox}
 use Rattle.machine_file.specs.declared.machine.Fixed.{Fixed}
 use Rattle.machine_file.specs.declared.machine.GaugeRule.{GaugeRule}
 use Rattle.toml_fields.specs.Ranges.{IsRange}
-use Rattle.machine_file.specs.Machine.{farthest, IsFixed, IsLength, IsFinger, IsGaugeRule, IsPiece}
+use Rattle.machine_file.specs.Machine.{coordinate_limit, IsFixed, IsLength, IsFinger, IsGaugeRule, IsPiece}
 use Rattle.unfolder.specs.Extent.{IsNear}
 use Rattle.job_setup.specs.Setup.{StageData, JobData}
 use Rattle.job_setup.specs.ValidJob.{IsStage, IsJob}
@@ -21,11 +21,11 @@ total_from (piece ∷ pieces) a all =
     let later = total_from pieces (a +ℤ piece) (λ k d within. all (suc k) d (omega arith)) in
     (omega (arith, ints, later.0, one.bottom), omega (arith, ints, later.1, one.top))
 
-span_near : (low high from to : ℤ) → IsRange low high from to → neg_ℤ farthest ≤ℤ low → high ≤ℤ farthest → IsNear from × IsNear to
+span_near : (low high from to : ℤ) → IsRange low high from to → neg_ℤ coordinate_limit ≤ℤ low → high ≤ℤ coordinate_limit → IsNear from × IsNear to
 span_near low high from to span bottom top =
     ((omega (arith, ints, span.bottom, bottom), omega (arith, ints, span.order, span.top, top)), (omega (arith, ints, span.order, span.bottom, bottom), omega (arith, ints, span.top, top)))
 
-box_near : (low high : ℤ) (box : Fixed) → IsFixed low high box → neg_ℤ farthest ≤ℤ low → high ≤ℤ farthest → IsNearBox box
+box_near : (low high : ℤ) (box : Fixed) → IsFixed low high box → neg_ℤ coordinate_limit ≤ℤ low → high ≤ℤ coordinate_limit → IsNearBox box
 box_near low high box fit bottom top =
     let x = span_near _ _ _ _ fit.footprint.along (omega (arith, ints)) (omega (arith, ints)) in
     let y = span_near _ _ _ _ fit.footprint.across (omega (arith, ints)) (omega (arith, ints)) in
@@ -40,7 +40,7 @@ stage_near stage fit =
       x1 = (omega (arith, ints, fit.long, long.0, fit.at.bottom), omega (arith, ints, fit.long, long.1, fit.at.top, fit.few_pieces));
     }
 
-profile_near : (low high : ℤ) (profile : Rect) → IsBodyBox low high profile → neg_ℤ farthest ≤ℤ low → high ≤ℤ farthest → IsNearProfile profile
+profile_near : (low high : ℤ) (profile : Rect) → IsBodyBox low high profile → neg_ℤ coordinate_limit ≤ℤ low → high ≤ℤ coordinate_limit → IsNearProfile profile
 profile_near low high profile fit bottom top =
     let y = span_near _ _ _ _ fit.across (omega (arith, ints)) (omega (arith, ints)) in
     let z = span_near _ _ _ _ fit.upwards bottom top in

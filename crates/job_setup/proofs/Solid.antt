@@ -6,7 +6,7 @@ use Rattle.std.proofs.lemmas.List.Elements.{All-append, All-map}
 use Rattle.std.specs.List.{flat_map}
 use Rattle.brake_base.specs.declared.plane.Rect.{Rect}
 use Rattle.machine_file.specs.declared.machine.Fixed.{Fixed}
-use Rattle.machine_file.specs.Machine.{farthest, IsFixed}
+use Rattle.machine_file.specs.Machine.{coordinate_limit, IsFixed}
 use Rattle.tool_library.specs.Tools.{IsBodyBox}
 use Rattle.unfolder.specs.Extent.{IsNear}
 use Rattle.job_setup.specs.Setup.{StageData, JobData}
@@ -38,7 +38,7 @@ solid_near box solid = record {
   z1 = (omega (arith, ints, solid.bottom, solid.high), omega (arith, ints, solid.top));
 }
 
-raised_solid : (low high by : ℤ) (box : Fixed) → IsFixed low high box → neg_ℤ farthest ≤ℤ low → high ≤ℤ farthest → neg_ℤ (pos 1000000) ≤ℤ by → by ≤ℤ pos 1000000 → IsSolid (raised_box by box)
+raised_solid : (low high by : ℤ) (box : Fixed) → IsFixed low high box → neg_ℤ coordinate_limit ≤ℤ low → high ≤ℤ coordinate_limit → neg_ℤ (pos 1000000) ≤ℤ by → by ≤ℤ pos 1000000 → IsSolid (raised_box by box)
 raised_solid low high by box fit bottom top down up = record {
   x0 = (omega (arith, ints, fit.footprint.along.bottom), omega (arith, ints, fit.footprint.along.order, fit.footprint.along.top));
   x1 = (omega (arith, ints, fit.footprint.along.bottom, fit.footprint.along.order), omega (arith, ints, fit.footprint.along.top));
@@ -82,12 +82,12 @@ pub upper_solid : (j : JobData) → IsJob j → 0 < length j.setup.stages → Al
 upper_solid j fit some =
     let punch = (first_is j fit some).punch in
     All-append IsSolid (map (raised_box (stage_of j 0).punch.height) j.setup.upper) (flat_map (λ stage. map (along_stage stage) stage.punch.body) j.setup.stages)
-    (All-map IsSolid (raised_box (stage_of j 0).punch.height) j.setup.upper (λ k d within. raised_solid (pos 0) farthest (stage_of j 0).punch.height (get_or j.setup.upper k d) (fit.setup.fixtures.upper k d within) (omega (arith, ints)) (omega (arith, ints)) (omega (arith, ints, punch.sizes.height.bottom)) punch.sizes.height.top))
+    (All-map IsSolid (raised_box (stage_of j 0).punch.height) j.setup.upper (λ k d within. raised_solid (pos 0) coordinate_limit (stage_of j 0).punch.height (get_or j.setup.upper k d) (fit.setup.fixtures.upper k d within) (omega (arith, ints)) (omega (arith, ints)) (omega (arith, ints, punch.sizes.height.bottom)) punch.sizes.height.top))
     (punches_solid j fit)
 
 pub lower_solid : (j : JobData) → IsJob j → 0 < length j.setup.stages → All IsSolid (lower_boxes j)
 lower_solid j fit some =
     let die = (first_is j fit some).die in
     All-append IsSolid (map (raised_box (neg_ℤ (stage_of j 0).die.height)) j.setup.lower) (flat_map (λ stage. map (along_stage stage) stage.die.body) j.setup.stages)
-    (All-map IsSolid (raised_box (neg_ℤ (stage_of j 0).die.height)) j.setup.lower (λ k d within. raised_solid (neg_ℤ farthest) (pos 0) (neg_ℤ (stage_of j 0).die.height) (get_or j.setup.lower k d) (fit.setup.fixtures.lower k d within) (omega (arith, ints)) (omega (arith, ints)) (omega (arith, ints, die.sizes.height.top)) (omega (arith, ints, die.sizes.height.bottom))))
+    (All-map IsSolid (raised_box (neg_ℤ (stage_of j 0).die.height)) j.setup.lower (λ k d within. raised_solid (neg_ℤ coordinate_limit) (pos 0) (neg_ℤ (stage_of j 0).die.height) (get_or j.setup.lower k d) (fit.setup.fixtures.lower k d within) (omega (arith, ints)) (omega (arith, ints)) (omega (arith, ints, die.sizes.height.top)) (omega (arith, ints, die.sizes.height.bottom))))
     (dies_solid j fit)

@@ -45,8 +45,8 @@ finger_box rule thickness edge range = record {
 }
 
 -- it shares no interior point with a box of the part
-abbrev pub IsFree : PoseData → Box3 → Type 0
-IsFree pose finger = All (λ box. ShareInterior finger box.body → ⊥) pose.boxes
+abbrev pub IsFingerFree : PoseData → Box3 → Type 0
+IsFingerFree pose finger = All (λ box. ShareInterior finger box.body → ⊥) pose.boxes
 
 -- The fingers can stand against the far edges of the two faces.
 pub record IsPair (rule : GaugeRule) (thickness : ℤ) (pose : PoseData) (left right : PoseBox) : Type 0 where
@@ -56,8 +56,8 @@ pub record IsPair (rule : GaugeRule) (thickness : ℤ) (pose : PoseData) (left r
   pub left_end : (left_finger rule left).1 ≤ℤ left.body.hi.x
   pub right_end : right.body.lo.x ≤ℤ (right_finger rule right).0
   pub gap : rule.gap ≤ℤ ((right_finger rule right).0 -ℤ (left_finger rule left).1)
-  pub left_free : IsFree pose (finger_box rule thickness (far_edge left) (left_finger rule left))
-  pub right_free : IsFree pose (finger_box rule thickness (far_edge left) (right_finger rule right))
+  pub left_free : IsFingerFree pose (finger_box rule thickness (far_edge left) (left_finger rule left))
+  pub right_free : IsFingerFree pose (finger_box rule thickness (far_edge left) (right_finger rule right))
 
 -- The pair of faces is legal in the pose.
 abbrev pub IsLegalPair : JobData → PoseData → Gauge → Type 0

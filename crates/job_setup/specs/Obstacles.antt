@@ -69,7 +69,7 @@ abbrev pub obstacles_of : JobData → ℕ → List Obstacle
 obstacles_of job stage = upper_group job ++ lower_group job stage
 
 -- a sheet's thickness, and half of a die's opening
-pub record IsSweep (thickness half : ℤ) : Type 0 where
+pub record AreBendSizes (thickness half : ℤ) : Type 0 where
   pub thin : pos 0 ≤ℤ thickness
   pub thick : thickness ≤ℤ pos 50000
   pub narrow : pos 0 ≤ℤ half

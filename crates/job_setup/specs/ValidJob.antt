@@ -7,7 +7,7 @@ use Rattle.tool_library.specs.declared.bounds.TheConstants.{GREATEST_LOAD}
 use Rattle.tool_library.specs.Tools.{IsPunch, IsDie, IsLimit}
 use Rattle.toml_fields.specs.Ranges.{IsWithin}
 use Rattle.machine_file.specs.declared.bounds.TheConstants.{MOST_FRAMES, MOST_BOXES, MOST_STAGES, MOST_PIECES, GREATEST_UNCOVERED, GREATEST_FORCE}
-use Rattle.machine_file.specs.Machine.{farthest, IsBedRange, IsFixed, IsGaugeRule, IsCosts, IsPiece}
+use Rattle.machine_file.specs.Machine.{coordinate_limit, IsBedRange, IsFixed, IsGaugeRule, IsCosts, IsPiece}
 use Rattle.job_setup.specs.Setup.{StageData, SetupData, JobData}
 use Rattle.job_setup.specs.Stages.{total}
 use Rattle.job_setup.specs.Places.{places_fit}
@@ -24,7 +24,7 @@ pub record IsStage (s : StageData) : Type 0 where
   pub no_die_sections : s.die.sections ≡ []
   pub no_punch_limit : s.punch.limit ≡ pos 0
   pub no_die_limit : s.die.limit ≡ pos 0
-  pub at : IsWithin (neg_ℤ farthest) farthest s.x0
+  pub at : IsWithin (neg_ℤ coordinate_limit) coordinate_limit s.x0
   pub long : s.x1 ≡ s.x0 +ℤ total s.pieces
   pub some_piece : 0 < length s.pieces
   pub few_pieces : length s.pieces ≤ MOST_PIECES
@@ -36,9 +36,9 @@ pub record IsStage (s : StageData) : Type 0 where
 pub record HasFixtures (s : SetupData) : Type 0 where
   pub frames : All IsBedRange s.frames
   pub few_frames : length s.frames ≤ MOST_FRAMES
-  pub upper : All (IsFixed (pos 0) farthest) s.upper
+  pub upper : All (IsFixed (pos 0) coordinate_limit) s.upper
   pub few_upper : length s.upper ≤ MOST_BOXES
-  pub lower : All (IsFixed (neg_ℤ farthest) (pos 0)) s.lower
+  pub lower : All (IsFixed (neg_ℤ coordinate_limit) (pos 0)) s.lower
   pub few_lower : length s.lower ≤ MOST_BOXES
 
 -- its bed, its backgauge and its numbers

@@ -6,7 +6,7 @@ ghost use Rattle.unfolder.specs.Extent.{IsNear};
 ghost use Rattle.job_setup.specs.Setup.{stage_data};
 ghost use Rattle.job_setup.specs.ValidJob.{IsJob};
 ghost use Rattle.job_setup.specs.Near.{IsNearBox};
-ghost use Rattle.job_setup.specs.Obstacles.{raised, raised_box, along_stage, upper_boxes, lower_boxes, is_sunk, swept_rect, upper_obstacle, lower_obstacle, upper_group, lower_group, obstacles_of, IsSweep, GivesFirst};
+ghost use Rattle.job_setup.specs.Obstacles.{raised, raised_box, along_stage, upper_boxes, lower_boxes, is_sunk, swept_rect, upper_obstacle, lower_obstacle, upper_group, lower_group, obstacles_of, AreBendSizes, GivesFirst};
 
 use crate::job::Job;
 use crate::setup::Stage;
@@ -123,7 +123,7 @@ fn upper_obstacles(boxes: &[Fixed]) -> ArrayVec<Obstacle, 64>
 fn lower_obstacles(boxes: &[Fixed], thickness: i64, half_opening: i64) -> ArrayVec<Obstacle, 64>
     requires few { length boxes.now ≤ 64 }
     requires near { All IsNearBox boxes.now }
-    requires sweep { IsSweep thickness half_opening }
+    requires sweep { AreBendSizes thickness half_opening }
     ensures value { result.items
         ≡ map (lower_obstacle thickness half_opening) (enumerate_from 0 boxes.now) }
 {
@@ -158,7 +158,7 @@ fn upper_obstacle(index: u8, fixed: &Fixed) -> Obstacle
 
 fn lower_obstacle(index: u8, fixed: &Fixed, thickness: i64, half_opening: i64) -> Obstacle
     requires near { IsNearBox fixed.now }
-    requires sweep { IsSweep thickness half_opening }
+    requires sweep { AreBendSizes thickness half_opening }
     ensures { result ≡ lower_obstacle thickness half_opening (index, fixed.now) }
 {
     Obstacle {
@@ -176,7 +176,7 @@ fn lower_obstacle(index: u8, fixed: &Fixed, thickness: i64, half_opening: i64) -
 fn swept_rect(rect: &Rect, thickness: i64, half_opening: i64) -> Rect
     requires low { IsNear rect.now.z0 }
     requires high { IsNear rect.now.z1 }
-    requires sweep { IsSweep thickness half_opening }
+    requires sweep { AreBendSizes thickness half_opening }
     ensures { result ≡ swept_rect thickness half_opening rect.now }
 {
     Rect {

@@ -6,7 +6,7 @@ ghost use Rattle.tool_library.specs.Tools.{IsPunch, IsDie, IsLimit, punch_data, 
 ghost use Rattle.fold_boxes.specs.Shapes.{IsShape};
 ghost use Rattle.toml_fields.specs.Ranges.{IsWithin};
 ghost use Rattle.machine_file.specs.declared.bounds.TheConstants.{MOST_STAGES};
-ghost use Rattle.machine_file.specs.Machine.{farthest, IsBedRange, IsFixed, IsPiece};
+ghost use Rattle.machine_file.specs.Machine.{coordinate_limit, IsBedRange, IsFixed, IsPiece};
 ghost use Rattle.job_setup.specs.Setup.{stage_data, setup_data};
 ghost use Rattle.job_setup.specs.Stages.{total};
 ghost use Rattle.job_setup.specs.Places.{places_fit};
@@ -18,7 +18,7 @@ use crate::setup::{Setup, Stage};
 use crate::stages::total;
 use allowance::GREATEST_HALF_DEDUCTION;
 use machine_file::bounds::{
-    FARTHEST, GREATEST_FORCE, GREATEST_PIECE, GREATEST_UNCOVERED, LEAST_PIECE,
+    COORDINATE_LIMIT, GREATEST_FORCE, GREATEST_PIECE, GREATEST_UNCOVERED, LEAST_PIECE,
 };
 use machine_file::{Fixed, are_within, is_bed_range};
 use part_file::Part;
@@ -53,15 +53,15 @@ fn are_pieces(pieces: &[i64]) -> bool
 
 /// Whether the stage begins where it may.
 fn begins_near(stage: &Stage) -> bool
-    ensures { IsTrue result ↔ IsWithin (neg_ℤ farthest) farthest stage.now.x0 }
+    ensures { IsTrue result ↔ IsWithin (neg_ℤ coordinate_limit) coordinate_limit stage.now.x0 }
 {
-    is_within(stage.x0, -FARTHEST, FARTHEST)
+    is_within(stage.x0, -COORDINATE_LIMIT, COORDINATE_LIMIT)
 }
 
 /// Whether the stage ends where its pieces end.
 fn is_as_long_as_its_pieces(stage: &Stage) -> bool
     requires pieces { All IsPiece stage.now.pieces.items }
-    requires begins { IsWithin (neg_ℤ farthest) farthest stage.now.x0 }
+    requires begins { IsWithin (neg_ℤ coordinate_limit) coordinate_limit stage.now.x0 }
     ensures { IsTrue result ↔ (stage.now.x1 ≡ stage.now.x0 +ℤ total stage.now.pieces.items) }
 {
     stage.x1 == stage.x0 + total(stage.pieces.as_slice())
@@ -108,8 +108,8 @@ fn are_fixtures(setup: &Setup) -> bool
     ensures { IsTrue result ↔ HasFixtures (setup_data setup.now) }
 {
     are_ranges(setup.frames.as_slice())
-        && are_between(setup.upper.as_slice(), 0, FARTHEST)
-        && are_between(setup.lower.as_slice(), -FARTHEST, 0)
+        && are_between(setup.upper.as_slice(), 0, COORDINATE_LIMIT)
+        && are_between(setup.lower.as_slice(), -COORDINATE_LIMIT, 0)
 }
 
 /// Whether what may be uncovered and the force are in range.

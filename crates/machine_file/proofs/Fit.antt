@@ -14,7 +14,7 @@ use Rattle.machine_file.specs.declared.machine.Fixed.{Fixed}
 use Rattle.machine_file.specs.declared.machine.GaugeRule.{GaugeRule}
 use Rattle.machine_file.specs.declared.machine.Costs.{Costs}
 use Rattle.machine_file.specs.declared.bounds.TheConstants.{GREATEST_LENGTH, LEAST_FINGER, GREATEST_COST}
-use Rattle.machine_file.specs.Machine.{farthest, IsBedRange, IsFixed, IsGaugeRule, IsCosts}
+use Rattle.machine_file.specs.Machine.{coordinate_limit, IsBedRange, IsFixed, IsGaugeRule, IsCosts}
 use Rattle.machine_file.specs.MachineFile.{bed_range_of, fixed_of, is_fixed, frame_of, fixed_between, length_at, gauge_of, cost_at, costs_of}
 use Rattle.machine_file.proofs.Decided.{fixed_decided}
 
@@ -51,8 +51,8 @@ pub range_is : (ends : List ℤ) (range : ℤ × ℤ) → bed_range_of ends ≡ 
 range_is [] range given = absurd (cc)
 range_is (x0 ∷ []) range given = absurd (cc)
 range_is (x0 ∷ x1 ∷ []) range given =
-    let fact = kept (is_range (neg_ℤ farthest) farthest x0 x1) (x0, x1) range given in
-    subst (λ (r : ℤ × ℤ). IsBedRange r) fact.1 ((range_decided (neg_ℤ farthest) farthest x0 x1).0 fact.0)
+    let fact = kept (is_range (neg_ℤ coordinate_limit) coordinate_limit x0 x1) (x0, x1) range given in
+    subst (λ (r : ℤ × ℤ). IsBedRange r) fact.1 ((range_decided (neg_ℤ coordinate_limit) coordinate_limit x0 x1).0 fact.0)
 range_is (x0 ∷ x1 ∷ x2 ∷ more) range given = absurd (cc)
 
 pub frame_is : (i : ℕ) (item : Data) (range : ℤ × ℤ) → frame_of i item ≡ Ok range → IsBedRange range

@@ -10,7 +10,7 @@ use Rattle.toml_fields.specs.Results.{each_from, refuse_if}
 use Rattle.toml_fields.proofs.Bind.{bind_ok, ok_same, ok_or_ok, refused_not, checked_is_name, checked_is_within}
 use Rattle.machine_file.specs.declared.fault.MachineFault.TheVariants.{BadField, UnknownKey, TooMany, BadBox}
 use Rattle.machine_file.specs.declared.bounds.TheConstants.{MOST_FRAMES, MOST_BOXES, MOST_STAGES, MOST_PIECES, LEAST_PIECE, GREATEST_PIECE, GREATEST_UNCOVERED, GREATEST_FORCE}
-use Rattle.machine_file.specs.Machine.{StageTextData, FixturesData, MachineData, farthest, IsBedRange, IsFixed, IsPiece, IsStageText, IsMachine}
+use Rattle.machine_file.specs.Machine.{StageTextData, FixturesData, MachineData, coordinate_limit, IsBedRange, IsFixed, IsPiece, IsStageText, IsMachine}
 use Rattle.machine_file.specs.MachineFile.{bed_range_of, frame_of, fixed_between, gauge_of, costs_of, piece_of, pieces_at, piece_in, stage_text_of, stage_text_in, ends_in, rows_in, uncovered_in, table_in, stages_in, gang_in, force_in, fixtures_of, too_many, machine_of_members}
 use Rattle.machine_file.proofs.Fit.{each_all, each_length, then_some, range_is, frame_is, box_is, gauge_is, costs_are}
 
@@ -39,7 +39,7 @@ unfolding stage_text_of
 stage_table_is table ms stage given =
     let punch = bind_ok (ok_or (name_at (codes "punch") ms) (BadField table 23)) _ stage given in
     let die = bind_ok (ok_or (name_at (codes "die") ms) (BadField table 24)) _ stage punch.2 in
-    let at = bind_ok (ok_or (integer_at (neg_ℤ farthest) farthest (codes "at") ms) (BadField table 25)) _ stage die.2 in
+    let at = bind_ok (ok_or (integer_at (neg_ℤ coordinate_limit) coordinate_limit (codes "at") ms) (BadField table 25)) _ stage die.2 in
     let items = bind_ok (ok_or (pieces_at (codes "pieces") ms) (BadField table 26)) _ stage at.2 in
     let known = bind_ok (refuse_if (has_unknown_key (codes "punch" ∷ codes "die" ∷ codes "at" ∷ codes "pieces" ∷ []) ms) (UnknownKey table)) _ stage items.2 in
     let few = bind_ok (refuse_if (nat_lt MOST_PIECES (length items.0)) (TooMany table)) _ stage known.2 in
@@ -51,7 +51,7 @@ stage_table_is table ms stage given =
     let fits : IsStageText read = record {
       punch = checked_is_name (text_at (codes "punch") ms) punch.0 (ok_or_ok (name_at (codes "punch") ms) (BadField table 23) punch.0 punch.1);
       die = checked_is_name (text_at (codes "die") ms) die.0 (ok_or_ok (name_at (codes "die") ms) (BadField table 24) die.0 die.1);
-      at = checked_is_within (neg_ℤ farthest) farthest (whole_at (codes "at") ms) at.0 (ok_or_ok (integer_at (neg_ℤ farthest) farthest (codes "at") ms) (BadField table 25) at.0 at.1);
+      at = checked_is_within (neg_ℤ coordinate_limit) coordinate_limit (whole_at (codes "at") ms) at.0 (ok_or_ok (integer_at (neg_ℤ coordinate_limit) coordinate_limit (codes "at") ms) (BadField table 25) at.0 at.1);
       some_piece = omega arith;
       few_pieces = omega arith;
       pieces = each_all (piece_in table) IsPiece (piece_is table) 0 items.0 pieces.0 pieces.1;
@@ -105,9 +105,9 @@ record AreFixtures (frames upper lower : List Data) (fixtures : FixturesData) : 
   bed_fits : IsBedRange fixtures.bed
   frames_fit : All IsBedRange fixtures.frames
   frame_count : length fixtures.frames ≡ length frames
-  upper_fit : All (IsFixed (pos 0) farthest) fixtures.upper
+  upper_fit : All (IsFixed (pos 0) coordinate_limit) fixtures.upper
   upper_count : length fixtures.upper ≡ length upper
-  lower_fit : All (IsFixed (neg_ℤ farthest) (pos 0)) fixtures.lower
+  lower_fit : All (IsFixed (neg_ℤ coordinate_limit) (pos 0)) fixtures.lower
   lower_count : length fixtures.lower ≡ length lower
 
 fixtures_fit : (ends : List ℤ) (frames upper lower : List Data) (fixtures : FixturesData) → fixtures_of ends frames upper lower ≡ Ok fixtures → AreFixtures frames upper lower fixtures
@@ -115,17 +115,17 @@ unfolding fixtures_of
 fixtures_fit ends frames upper lower fixtures given =
     let bed = bind_ok (ok_or (bed_range_of ends) (BadBox 0)) _ fixtures given in
     let frame_ranges = bind_ok (each_from frame_of 0 frames) _ fixtures bed.2 in
-    let upper_boxes = bind_ok (each_from (fixed_between (pos 0) farthest) 0 upper) _ fixtures frame_ranges.2 in
-    let lower_boxes = bind_ok (each_from (fixed_between (neg_ℤ farthest) (pos 0)) 0 lower) _ fixtures upper_boxes.2 in
+    let upper_boxes = bind_ok (each_from (fixed_between (pos 0) coordinate_limit) 0 upper) _ fixtures frame_ranges.2 in
+    let lower_boxes = bind_ok (each_from (fixed_between (neg_ℤ coordinate_limit) (pos 0)) 0 lower) _ fixtures upper_boxes.2 in
     let read : FixturesData = record { bed = bed.0; frames = frame_ranges.0; upper = upper_boxes.0; lower = lower_boxes.0 } in
     let fits : AreFixtures frames upper lower read = record {
       bed_fits = range_is ends bed.0 (ok_or_ok (bed_range_of ends) (BadBox 0) bed.0 bed.1);
       frames_fit = each_all frame_of IsBedRange frame_is 0 frames frame_ranges.0 frame_ranges.1;
       frame_count = each_length frame_of 0 frames frame_ranges.0 frame_ranges.1;
-      upper_fit = each_all (fixed_between (pos 0) farthest) (IsFixed (pos 0) farthest) (box_is (pos 0) farthest) 0 upper upper_boxes.0 upper_boxes.1;
-      upper_count = each_length (fixed_between (pos 0) farthest) 0 upper upper_boxes.0 upper_boxes.1;
-      lower_fit = each_all (fixed_between (neg_ℤ farthest) (pos 0)) (IsFixed (neg_ℤ farthest) (pos 0)) (box_is (neg_ℤ farthest) (pos 0)) 0 lower lower_boxes.0 lower_boxes.1;
-      lower_count = each_length (fixed_between (neg_ℤ farthest) (pos 0)) 0 lower lower_boxes.0 lower_boxes.1;
+      upper_fit = each_all (fixed_between (pos 0) coordinate_limit) (IsFixed (pos 0) coordinate_limit) (box_is (pos 0) coordinate_limit) 0 upper upper_boxes.0 upper_boxes.1;
+      upper_count = each_length (fixed_between (pos 0) coordinate_limit) 0 upper upper_boxes.0 upper_boxes.1;
+      lower_fit = each_all (fixed_between (neg_ℤ coordinate_limit) (pos 0)) (IsFixed (neg_ℤ coordinate_limit) (pos 0)) (box_is (neg_ℤ coordinate_limit) (pos 0)) 0 lower lower_boxes.0 lower_boxes.1;
+      lower_count = each_length (fixed_between (neg_ℤ coordinate_limit) (pos 0)) 0 lower lower_boxes.0 lower_boxes.1;
     } in
     subst (λ (f : FixturesData). AreFixtures frames upper lower f) {x = read} (ok_same read fixtures lower_boxes.2) fits
 

@@ -2,7 +2,7 @@
 use Rattle.std.specs.Prelude.{ℕ, ◌<◌, ◌≤◌, ℤ, pos, neg_ℤ, List, length, map, Bool, All, IsTrue}
 use Rattle.toml_fields.specs.Fields.{is_name}
 use Rattle.toml_fields.specs.Ranges.{IsWithin, IsRange}
-use Rattle.machine_file.specs.declared.bounds.TheConstants.{FARTHEST, MOST_FRAMES, MOST_BOXES, MOST_STAGES, MOST_PIECES, LEAST_PIECE, GREATEST_PIECE, GREATEST_UNCOVERED, GREATEST_LENGTH, LEAST_FINGER, GREATEST_COST, GREATEST_FORCE}
+use Rattle.machine_file.specs.declared.bounds.TheConstants.{COORDINATE_LIMIT, MOST_FRAMES, MOST_BOXES, MOST_STAGES, MOST_PIECES, LEAST_PIECE, GREATEST_PIECE, GREATEST_UNCOVERED, GREATEST_LENGTH, LEAST_FINGER, GREATEST_COST, GREATEST_FORCE}
 use Rattle.machine_file.specs.declared.machine.Fixed.{Fixed}
 use Rattle.machine_file.specs.declared.machine.GaugeRule.{GaugeRule}
 use Rattle.machine_file.specs.declared.machine.Costs.{Costs}
@@ -59,17 +59,17 @@ machine_data m = record {
 }
 
 -- the greatest distance of a coordinate from 0
-abbrev pub farthest : ℤ
-farthest = FARTHEST
+abbrev pub coordinate_limit : ℤ
+coordinate_limit = COORDINATE_LIMIT
 
 -- a range along the bed
 abbrev pub IsBedRange : ℤ × ℤ → Type 0
-IsBedRange range = IsRange (neg_ℤ farthest) farthest range.0 range.1
+IsBedRange range = IsRange (neg_ℤ coordinate_limit) coordinate_limit range.0 range.1
 
 -- a fixed box's ranges along and across the bed
 pub record HasFootprint (box : Fixed) : Type 0 where
-  pub along : IsRange (neg_ℤ farthest) farthest box.x0 box.x1
-  pub across : IsRange (neg_ℤ farthest) farthest box.rect.y0 box.rect.y1
+  pub along : IsRange (neg_ℤ coordinate_limit) coordinate_limit box.x0 box.x1
+  pub across : IsRange (neg_ℤ coordinate_limit) coordinate_limit box.rect.y0 box.rect.y1
 
 -- a fixed box with an interior, between two heights
 pub record IsFixed (low high : ℤ) (box : Fixed) : Type 0 where
@@ -112,7 +112,7 @@ IsPiece n = IsWithin LEAST_PIECE GREATEST_PIECE n
 pub record IsStageText (stage : StageTextData) : Type 0 where
   pub punch : IsTrue (is_name stage.punch)
   pub die : IsTrue (is_name stage.die)
-  pub at : IsWithin (neg_ℤ farthest) farthest stage.at
+  pub at : IsWithin (neg_ℤ coordinate_limit) coordinate_limit stage.at
   pub some_piece : 0 < length stage.pieces
   pub few_pieces : length stage.pieces ≤ MOST_PIECES
   pub pieces : All IsPiece stage.pieces
@@ -122,9 +122,9 @@ pub record IsMachine (m : MachineData) : Type 0 where
   pub bed : IsBedRange m.bed
   pub frames : All IsBedRange m.frames
   pub few_frames : length m.frames ≤ MOST_FRAMES
-  pub upper : All (IsFixed (pos 0) farthest) m.upper
+  pub upper : All (IsFixed (pos 0) coordinate_limit) m.upper
   pub few_upper : length m.upper ≤ MOST_BOXES
-  pub lower : All (IsFixed (neg_ℤ farthest) (pos 0)) m.lower
+  pub lower : All (IsFixed (neg_ℤ coordinate_limit) (pos 0)) m.lower
   pub few_lower : length m.lower ≤ MOST_BOXES
   pub uncovered : IsWithin (pos 0) GREATEST_UNCOVERED m.uncovered
   pub gauge : IsGaugeRule m.gauge

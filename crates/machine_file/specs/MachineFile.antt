@@ -14,11 +14,11 @@ use Rattle.machine_file.specs.declared.machine.Fixed.{Fixed}
 use Rattle.machine_file.specs.declared.machine.GaugeRule.{GaugeRule}
 use Rattle.machine_file.specs.declared.machine.Costs.{Costs}
 use Rattle.machine_file.specs.declared.bounds.TheConstants.{MOST_FRAMES, MOST_BOXES, MOST_STAGES, MOST_PIECES, LEAST_PIECE, GREATEST_PIECE, GREATEST_UNCOVERED, GREATEST_LENGTH, LEAST_FINGER, GREATEST_COST, GREATEST_FORCE}
-use Rattle.machine_file.specs.Machine.{StageTextData, FixturesData, MachineData, farthest}
+use Rattle.machine_file.specs.Machine.{StageTextData, FixturesData, MachineData, coordinate_limit}
 
 -- the range of two integers along the bed
 abbrev pub bed_range_of : List ℤ → Option (ℤ × ℤ)
-bed_range_of (x0 ∷ x1 ∷ []) = if is_range (neg_ℤ farthest) farthest x0 x1 then Some (x0, x1) else None
+bed_range_of (x0 ∷ x1 ∷ []) = if is_range (neg_ℤ coordinate_limit) coordinate_limit x0 x1 then Some (x0, x1) else None
 bed_range_of _ = None
 
 -- the box of six integers x0, x1, y0, y1, z0, z1
@@ -31,7 +31,7 @@ fixed_of item = option_and_then fixed_by (integers_of 6 item)
 
 -- the box's ranges along and across the bed are in order and range
 abbrev pub has_footprint : Fixed → Bool
-has_footprint box = is_range (neg_ℤ farthest) farthest box.x0 box.x1 && is_range (neg_ℤ farthest) farthest box.rect.y0 box.rect.y1
+has_footprint box = is_range (neg_ℤ coordinate_limit) coordinate_limit box.x0 box.x1 && is_range (neg_ℤ coordinate_limit) coordinate_limit box.rect.y0 box.rect.y1
 
 -- the box has an interior, and lies between two heights
 abbrev pub is_fixed : ℤ → ℤ → Fixed → Bool
@@ -96,7 +96,7 @@ unfoldable pub stage_text_of : ℕ → Members → Result StageTextData MachineF
 stage_text_of table members = do
   punch ← ok_or (name_at (codes "punch") members) (BadField table 23)
   die ← ok_or (name_at (codes "die") members) (BadField table 24)
-  at ← ok_or (integer_at (neg_ℤ farthest) farthest (codes "at") members) (BadField table 25)
+  at ← ok_or (integer_at (neg_ℤ coordinate_limit) coordinate_limit (codes "at") members) (BadField table 25)
   items ← ok_or (pieces_at (codes "pieces") members) (BadField table 26)
   known ← refuse_if (has_unknown_key (codes "punch" ∷ codes "die" ∷ codes "at" ∷ codes "pieces" ∷ []) members) (UnknownKey table)
   few ← refuse_if (nat_lt MOST_PIECES (length items)) (TooMany table)
@@ -144,8 +144,8 @@ unfoldable pub fixtures_of : List ℤ → List Data → List Data → List Data 
 fixtures_of ends frames upper lower = do
   bed ← ok_or (bed_range_of ends) (BadBox 0)
   frame_ranges ← each_from frame_of 0 frames
-  upper_boxes ← each_from (fixed_between (pos 0) farthest) 0 upper
-  lower_boxes ← each_from (fixed_between (neg_ℤ farthest) (pos 0)) 0 lower
+  upper_boxes ← each_from (fixed_between (pos 0) coordinate_limit) 0 upper
+  lower_boxes ← each_from (fixed_between (neg_ℤ coordinate_limit) (pos 0)) 0 lower
   Ok (record { bed = bed; frames = frame_ranges; upper = upper_boxes; lower = lower_boxes })
 
 -- the machine of the top table

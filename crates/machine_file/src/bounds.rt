@@ -2,7 +2,7 @@
 //! and the definitions cite them. Lengths are in micrometres.
 
 /// The greatest distance of a coordinate from 0: 20 m.
-pub const FARTHEST: i64 = 20_000_000;
+pub const COORDINATE_LIMIT: i64 = 20_000_000;
 
 /// The greatest number of side frames.
 pub const MOST_FRAMES: usize = 4;

@@ -5,7 +5,7 @@ ghost use Rattle.toml_fields.specs.Results.{Gives, each_from};
 ghost use Rattle.machine_file.specs.Machine.{fixtures_data, IsBedRange};
 ghost use Rattle.machine_file.specs.MachineFile.{bed_range_of, fixed_of, frame_of, fixed_between, fixtures_of};
 
-use crate::bounds::{FARTHEST, MOST_BOXES, MOST_FRAMES};
+use crate::bounds::{COORDINATE_LIMIT, MOST_BOXES, MOST_FRAMES};
 use crate::fault::MachineFault;
 use crate::machine::{Fixed, Heights, is_fixed};
 use arrayvec::ArrayVec;
@@ -32,7 +32,7 @@ fn bad_box() -> MachineFault
 pub fn is_bed_range(range: &(i64, i64)) -> bool
     ensures { IsTrue result ↔ IsBedRange range.now }
 {
-    is_range(range.0, range.1, -FARTHEST, FARTHEST)
+    is_range(range.0, range.1, -COORDINATE_LIMIT, COORDINATE_LIMIT)
 }
 
 /// The range of two integers along the bed.
@@ -41,7 +41,7 @@ fn bed_range_of(ends: [i64; 2]) -> Option<(i64, i64)>
     ensures { result ≡ bed_range_of ends }
 {
     let [x0, x1] = ends;
-    if is_range(x0, x1, -FARTHEST, FARTHEST) {
+    if is_range(x0, x1, -COORDINATE_LIMIT, COORDINATE_LIMIT) {
         Some((x0, x1))
     } else {
         None
@@ -136,10 +136,10 @@ pub fn fixtures_of(
 {
     let above = Heights {
         lowest: 0,
-        highest: FARTHEST,
+        highest: COORDINATE_LIMIT,
     };
     let below = Heights {
-        lowest: -FARTHEST,
+        lowest: -COORDINATE_LIMIT,
         highest: 0,
     };
     let bed = bed_range_of(ends).ok_or(bad_box())?;

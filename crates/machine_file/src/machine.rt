@@ -5,8 +5,8 @@ ghost use Rattle.machine_file.specs.Machine.{IsFixed, IsLength, IsFinger, IsGaug
 ghost use Rattle.machine_file.specs.MachineFile.{has_footprint, is_fixed};
 
 use crate::bounds::{
-    FARTHEST, GREATEST_COST, GREATEST_LENGTH, LEAST_FINGER, MOST_BOXES, MOST_FRAMES, MOST_PIECES,
-    MOST_STAGES,
+    COORDINATE_LIMIT, GREATEST_COST, GREATEST_LENGTH, LEAST_FINGER, MOST_BOXES, MOST_FRAMES,
+    MOST_PIECES, MOST_STAGES,
 };
 use arrayvec::ArrayVec;
 use brake_base::{Name, Rect};
@@ -85,8 +85,13 @@ pub struct Heights {
 fn has_footprint(fixed: &Fixed) -> bool
     ensures { result ≡ has_footprint fixed.now }
 {
-    is_range(fixed.x0, fixed.x1, -FARTHEST, FARTHEST)
-        && is_range(fixed.rect.y0, fixed.rect.y1, -FARTHEST, FARTHEST)
+    is_range(fixed.x0, fixed.x1, -COORDINATE_LIMIT, COORDINATE_LIMIT)
+        && is_range(
+            fixed.rect.y0,
+            fixed.rect.y1,
+            -COORDINATE_LIMIT,
+            COORDINATE_LIMIT,
+        )
 }
 
 /// Whether the box has an interior, and lies between two heights.

@@ -7,7 +7,7 @@ ghost use Rattle.toml_fields.specs.Results.{Gives, each_from};
 ghost use Rattle.machine_file.specs.Machine.{stage_text_data};
 ghost use Rattle.machine_file.specs.MachineFile.{piece_of, pieces_at, piece_in, stage_text_of, stage_text_in};
 
-use crate::bounds::{FARTHEST, GREATEST_PIECE, LEAST_PIECE, MOST_PIECES, MOST_STAGES};
+use crate::bounds::{COORDINATE_LIMIT, GREATEST_PIECE, LEAST_PIECE, MOST_PIECES, MOST_STAGES};
 use crate::boxes::bad_field;
 use crate::fault::MachineFault;
 use crate::machine::StageText;
@@ -80,7 +80,9 @@ fn stage_text_of(number: u8, table: &Table) -> Result<StageText, MachineFault>
 {
     let punch = name_at(table, "punch").ok_or(bad_field(number, 23))?;
     let die = name_at(table, "die").ok_or(bad_field(number, 24))?;
-    let at = integer_at(table, "at", -FARTHEST, FARTHEST).ok_or(bad_field(number, 25))?;
+    let at = integer_at(table, "at", -COORDINATE_LIMIT, COORDINATE_LIMIT).ok_or(bad_field(
+        number, 25,
+    ))?;
     let items = pieces_at(table, "pieces").ok_or(bad_field(number, 26))?;
     if has_unknown_key(table, &["punch", "die", "at", "pieces"]) {
         return Err(MachineFault::UnknownKey { table: number });

@@ -7,7 +7,7 @@ use Rattle.brake_base.specs.declared.plane.Rect.{Rect}
 use Rattle.tool_library.specs.Tools.{IsPunch, IsDie, IsBodyBox, IsSection}
 use Rattle.machine_file.specs.declared.machine.Fixed.{Fixed}
 use Rattle.toml_fields.specs.Ranges.{IsWithin}
-use Rattle.machine_file.specs.Machine.{farthest, IsBedRange, IsFixed, IsGaugeRule}
+use Rattle.machine_file.specs.Machine.{coordinate_limit, IsBedRange, IsFixed, IsGaugeRule}
 use Rattle.job_setup.specs.Setup.{StageData}
 use Rattle.job_setup.specs.Places.{places_fit}
 use Rattle.job_setup.specs.ValidJob.{IsStage, IsSetup}
@@ -100,10 +100,10 @@ beam = box_over (rect (neg_ℤ (pos 60000)) (pos 60000) (pos 0) (pos 300000))
 abbrev bed_box : Fixed
 bed_box = box_over (rect (neg_ℤ (pos 30000)) (pos 30000) (neg_ℤ (pos 300000)) (pos 0))
 
-is_beam : IsFixed (pos 0) farthest beam
+is_beam : IsFixed (pos 0) coordinate_limit beam
 is_beam = record { footprint = record { along = record { order = omega (arith, ints); bottom = omega (arith, ints); top = omega (arith, ints) }; across = record { order = omega (arith, ints); bottom = omega (arith, ints); top = omega (arith, ints) } }; upwards = record { order = omega (arith, ints); bottom = omega (arith, ints); top = omega (arith, ints) } }
 
-is_bed_box : IsFixed (neg_ℤ farthest) (pos 0) bed_box
+is_bed_box : IsFixed (neg_ℤ coordinate_limit) (pos 0) bed_box
 is_bed_box = record { footprint = record { along = record { order = omega (arith, ints); bottom = omega (arith, ints); top = omega (arith, ints) }; across = record { order = omega (arith, ints); bottom = omega (arith, ints); top = omega (arith, ints) } }; upwards = record { order = omega (arith, ints); bottom = omega (arith, ints); top = omega (arith, ints) } }
 
 is_gauge_rule : IsGaugeRule gauge_rule
@@ -124,9 +124,9 @@ is_setup = record {
   fixtures = record {
     frames = All-nil IsBedRange;
     few_frames = omega arith;
-    upper = alone (IsFixed (pos 0) farthest) beam is_beam;
+    upper = alone (IsFixed (pos 0) coordinate_limit) beam is_beam;
     few_upper = omega arith;
-    lower = alone (IsFixed (neg_ℤ farthest) (pos 0)) bed_box is_bed_box;
+    lower = alone (IsFixed (neg_ℤ coordinate_limit) (pos 0)) bed_box is_bed_box;
     few_lower = omega arith;
   };
   rules = record {

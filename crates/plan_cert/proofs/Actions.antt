@@ -4,7 +4,7 @@ use Rattle.std.proofs.Math.Nat.{mod-lt, div-lt_iff_lt-mul}
 use Rattle.std.proofs.lemmas.Grind.{common_steps}
 use Rattle.brake_base.specs.declared.stroke.Back.TheVariants.{Parent, Child}
 use Rattle.brake_base.specs.declared.stroke.Action.{Action}
-use Rattle.brake_base.specs.Actions.{IsAction, back_number, number_of}
+use Rattle.brake_base.specs.Actions.{IsAction, back_number, number_of_action}
 use Rattle.brake_base.proofs.Actions.{same_number, split_number}
 use Rattle.plan_cert.specs.Lines.{action_at}
 
@@ -18,7 +18,7 @@ in_range stages number below =
     record { first = omega arith; last = omega arith; stage = mod-lt number some }
 
 -- an action of a number is that of the definition
-pub action_is : (stages number : ℕ) (a : Action) → number < 24 * stages → IsAction stages a → number_of stages a ≡ number → a ≡ action_at stages number
+pub action_is : (stages number : ℕ) (a : Action) → number < 24 * stages → IsAction stages a → number_of_action stages a ≡ number → a ≡ action_at stages number
 action_is stages number a below fits is =
     same_number stages a (action_at stages number) fits (in_range stages number below) (is ∙ sym (split_number stages number _ (side_is (number / stages))))
 

@@ -1,12 +1,12 @@
 -- What a reader knows by how many answers it gave, and what the next answer leaves.
 use Rattle.std.proofs.Common.{◌≡◌, ℕ, ◌+◌, ◌<◌, Bool, true, false, List, drop, Some, Result, sym, ap, subst, ◌∙◌, lt-ltb, arith}
 use Rattle.std.specs.Prelude.{nat_lt, slice_get}
-use Rattle.plan_cert.specs.declared.format.Kind.{Kind}
+use Rattle.plan_cert.specs.declared.format.TextKind.{TextKind}
 use Rattle.plan_cert.specs.declared.item.Item.{Item}
 use Rattle.plan_cert.specs.declared.item.CertFault.{CertFault}
 use Rattle.plan_cert.specs.declared.stand.Stand.{Stand}
 use Rattle.plan_cert.specs.Facts.{HasFew}
-use Rattle.plan_cert.specs.Reading.{IsBegun, Leaves, LeavesBy, LeavesIn, Gives}
+use Rattle.plan_cert.specs.Reading.{IsBegun, Leaves, LeavesBy, LeavesIn, GivesNext}
 use Rattle.plan_cert.specs.Items.{items}
 use Rattle.plan_cert.proofs.ItemCounts.{answer_at, answers_behind}
 use Rattle.plan_cert.proofs.PlanItems.{leaves_next}
@@ -21,11 +21,11 @@ begun_on : (answered : ℕ) (begun : Bool) → begun ≡ true → IsBegun (answe
 begun_on answered begun is = is ∙ sym (lt-ltb 0 (answered + 1) (omega arith))
 
 -- behind the first answer those behind the job are left
-pub leaves_in : (kind : Kind) (stand : Stand) (left : List (Result Item CertFault)) (answered : ℕ) → 0 < answered → IsBegun answered stand.is_begun → Leaves kind stand left → LeavesIn stand.section stand left
+pub leaves_in : (kind : TextKind) (stand : Stand) (left : List (Result Item CertFault)) (answered : ℕ) → 0 < answered → IsBegun answered stand.is_begun → Leaves kind stand left → LeavesIn stand.section stand left
 leaves_in kind stand left answered some begun leaves = subst (λ b. LeavesBy b kind stand left) (is_begun answered stand.is_begun begun some) leaves
 
 -- what is given is the next of all answers, and the others are left
-pub answered_on : (kind : Kind) (stand : Stand) (all : List (Result Item CertFault)) (answered : ℕ) (given : Result Item CertFault) → Gives (drop answered all) given stand
+pub answered_on : (kind : TextKind) (stand : Stand) (all : List (Result Item CertFault)) (answered : ℕ) (given : Result Item CertFault) → GivesNext (drop answered all) given stand
     → (slice_get all answered ≡ Some given) × (Leaves kind stand (drop (answered + 1) all) × HasFew stand.facts × IsBegun (answered + 1) stand.is_begun)
 answered_on kind stand all answered given gives =
     let (more, first, on, few, rest) = gives in (
@@ -34,8 +34,8 @@ answered_on kind stand all answered given gives =
     )
 
 -- the same of the first answer, before which those of the whole text are left
-pub first_answered : (kind : Kind) (stand next : Stand) (all : List (Result Item CertFault)) (answered : ℕ) (given : Result Item CertFault) → answered ≡ 0 → IsBegun answered stand.is_begun → Leaves kind stand (drop answered all)
-    → Gives (items kind stand.rest.now) given next → (slice_get all answered ≡ Some given) × (Leaves kind next (drop (answered + 1) all) × HasFew next.facts × IsBegun (answered + 1) next.is_begun)
+pub first_answered : (kind : TextKind) (stand next : Stand) (all : List (Result Item CertFault)) (answered : ℕ) (given : Result Item CertFault) → answered ≡ 0 → IsBegun answered stand.is_begun → Leaves kind stand (drop answered all)
+    → GivesNext (items kind stand.rest.now) given next → (slice_get all answered ≡ Some given) × (Leaves kind next (drop (answered + 1) all) × HasFew next.facts × IsBegun (answered + 1) next.is_begun)
 first_answered kind stand next all answered given none begun leaves gives =
     let left : drop answered all ≡ items kind stand.rest.now = subst (λ b. LeavesBy b kind stand (drop answered all)) (not_begun answered stand.is_begun begun none) leaves in
-    answered_on kind next all answered given (subst (λ answers. Gives answers given next) (sym left) gives)
+    answered_on kind next all answered given (subst (λ answers. GivesNext answers given next) (sym left) gives)

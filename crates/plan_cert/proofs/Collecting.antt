@@ -3,8 +3,8 @@ use Rattle.std.proofs.Common.{◌≡◌, ℕ, zero, suc, ◌+◌, ◌<◌, Bool,
 use Rattle.std.specs.Prelude.{◌⊎◌, if◌then◌else◌, slice_get}
 use Rattle.std.proofs.lemmas.Bool.{false≢true}
 use Rattle.job_setup.specs.Setup.{JobData}
-use Rattle.plan_cert.specs.declared.format.Kind.{Kind}
-use Rattle.plan_cert.specs.declared.format.Kind.TheVariants.{Certificate}
+use Rattle.plan_cert.specs.declared.format.TextKind.{TextKind}
+use Rattle.plan_cert.specs.declared.format.TextKind.TheVariants.{Certificate}
 use Rattle.plan_cert.specs.declared.item.Item.{Item}
 use Rattle.plan_cert.specs.declared.item.Item.TheVariants as given
 use Rattle.plan_cert.specs.declared.item.CertFault.{CertFault}
@@ -22,7 +22,7 @@ none_at [] (suc i) a none e = absurd (cc)
 none_at (x ∷ answers) i a none e = absurd (cc)
 
 -- the answers of a text
-pub ends_items : (kind : Kind) (text : List ℕ) → Ends (items kind text)
+pub ends_items : (kind : TextKind) (text : List ℕ) → Ends (items kind text)
 unfolding items
 ends_items kind text = ends_lines kind (lines_in text) (some_line text)
 
@@ -39,14 +39,14 @@ on_by (Ok x ∷ next ∷ more) zero item (inr rest) e on = omega arith
 on_by (Ok x ∷ more) (suc i) item (inl last) e on = absurd (none_at more i (Ok item) last.1 e)
 on_by (Ok x ∷ more) (suc i) item (inr rest) e on = let less = on_by more i item rest.1 e on in omega (arith, less)
 
-pub goes_on : (kind : Kind) (text : List ℕ) (i : ℕ) (item : Item) → slice_get (items kind text) i ≡ Some (Ok item) → is_last item ≡ false → i + 1 < length (items kind text)
+pub goes_on : (kind : TextKind) (text : List ℕ) (i : ℕ) (item : Item) → slice_get (items kind text) i ≡ Some (Ok item) → is_last item ≡ false → i + 1 < length (items kind text)
 goes_on kind text i item e on = let less = on_by (items kind text) i item (ends_items kind text) e on in omega (arith, less)
 
 some_by : (answers : List (Result Item CertFault)) → Ends answers → 0 < length answers
 some_by [] ends = absurd ends
 some_by (answer ∷ more) ends = omega arith
 
-pub some_answer : (kind : Kind) (text : List ℕ) → 0 < length (items kind text)
+pub some_answer : (kind : TextKind) (text : List ℕ) → 0 < length (items kind text)
 some_answer kind text = some_by (items kind text) (ends_items kind text)
 
 -- the answer at a number stands before those behind it

@@ -6,10 +6,10 @@ use Rattle.brake_base.specs.declared.stroke.Key.{Key}
 use Rattle.brake_base.specs.declared.stroke.Worth.{Worth}
 use Rattle.brake_base.specs.declared.stroke.Worth.TheVariants.{Cost, Blocked}
 use Rattle.brake_base.specs.declared.reason.Reason.{Reason}
-use Rattle.brake_base.specs.Actions.{number_of}
+use Rattle.brake_base.specs.Actions.{number_of_action}
 use Rattle.job_setup.specs.Setup.{JobData, bend_count, stage_count}
 use Rattle.job_setup.specs.StrokeGroup.{is_lead}
-use Rattle.plan_cert.specs.declared.format.Kind.{Kind}
+use Rattle.plan_cert.specs.declared.format.TextKind.{TextKind}
 use Rattle.plan_cert.specs.declared.format.Format.{Format}
 use Rattle.plan_cert.specs.declared.format.Format.TheVariants.{Version1, Version2, Table}
 use Rattle.plan_cert.specs.declared.item.Item.{Item}
@@ -86,7 +86,7 @@ on_row format job section text =
 on_noted : (job : JobData) (key : Key) (least : ℕ) (action : Action) (reason : Reason) → GoesOn (noted job key least action reason)
 unfolding noted
 on_noted job key least action reason =
-    let number = number_of (stage_count job) action in
+    let number = number_of_action (stage_count job) action in
     only_on (nat_le least number && is_lead job key.mask action.bend) (Some (given.Note number reason, sections.Notes key (number + 1))) (refl, refl)
 
 on_note : (job : JobData) (section : Section) (text : List ℕ) → GoesOn (take_note job section text)
@@ -165,7 +165,7 @@ ends_job n lines line (next ∷ more) = by_taken (take_line lines line) (λ afte
     by_taken (Some after) rest = rest after
     by_taken None rest = ends_behind n lines line (next ∷ more)
 
-pub ends_lines : (kind : Kind) (lines : List (List ℕ)) → 0 < length lines → Ends (items_of_lines kind lines)
+pub ends_lines : (kind : TextKind) (lines : List (List ℕ)) → 0 < length lines → Ends (items_of_lines kind lines)
 ends_lines kind [] some = absurd (omega arith)
 ends_lines kind (line ∷ []) some = refl
 ends_lines kind (line ∷ next ∷ more) some = by_format (format_of kind line)

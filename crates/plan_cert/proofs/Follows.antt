@@ -9,7 +9,7 @@ use Rattle.brake_base.specs.declared.stroke.Back.{Back}
 use Rattle.brake_base.specs.declared.stroke.Back.TheVariants.{Parent, Child}
 use Rattle.brake_base.specs.declared.stroke.Key.{Key}
 use Rattle.brake_base.specs.declared.reason.Reason.{Reason}
-use Rattle.brake_base.specs.Actions.{back_number, number_of}
+use Rattle.brake_base.specs.Actions.{back_number, number_of_action}
 use Rattle.brake_base.specs.Keys.{KeyIsBefore}
 use Rattle.job_setup.specs.Setup.{JobData, bend_count, stage_count}
 use Rattle.job_setup.specs.StrokeGroup.{is_lead}
@@ -23,7 +23,7 @@ use Rattle.plan_cert.specs.declared.section.Section.TheVariants as sections
 use Rattle.plan_cert.specs.declared.section.PlanLine.{PlanLine}
 use Rattle.plan_cert.specs.declared.section.PlanLine.TheVariants as kinds
 use Rattle.plan_cert.specs.Lines.{action_at}
-use Rattle.plan_cert.specs.WellFormed.{IsWorth, IsActionOf, IsStep, IsRow, IsReason}
+use Rattle.plan_cert.specs.WellFormed.{IsWorth, IsActionOf, IsStep, IsRow, IsReasonInRange}
 use Rattle.plan_cert.specs.LineReading.{only_if}
 use Rattle.plan_cert.specs.PlanReading.{is_before, behind_claim, are_enough, may_be_row, take_claim, step_behind, take_step, row_behind, take_row, noted, note_behind, take_note, plan_line_of, take_plan_words, take_plan_line}
 use Rattle.plan_cert.proofs.Actions.{action_is, few_actions}
@@ -39,7 +39,7 @@ MayBeRow format job _ key = ⊥
 -- a reason against an action of the job at a key
 abbrev pub FitsAt : JobData → Key → ℕ → Reason → Type 0
 FitsAt job key action reason =
-    (action < 2 * bend_count job * stage_count job) × IsReason job reason × IsTrue (is_lead job key.mask (action_at (stage_count job) action).bend)
+    (action < 2 * bend_count job * stage_count job) × IsReasonInRange job reason × IsTrue (is_lead job key.mask (action_at (stage_count job) action).bend)
 
 -- the item may stand here, and the next one stands there
 abbrev pub Follows : Format → JobData → Section → Item → Section → Type 0
@@ -50,8 +50,8 @@ Follows format job section (given.Note action reason) next =
     (key : Key) × (least : ℕ) × (section ≡ sections.Notes key least) × (least ≤ action) × FitsAt job key action reason × (next ≡ sections.Notes key (action + 1))
 Follows format job section _ next = ⊥
 
-abbrev pub Gives : Format → JobData → Section → Item × Section → Type 0
-Gives format job section given = Follows format job section given.0 given.1
+abbrev pub LineGives : Format → JobData → Section → Item × Section → Type 0
+LineGives format job section given = Follows format job section given.0 given.1
 
 pub each_only : {A : Type 0} (P : A → Type 0) (b : Bool) (x : Option A) → (b ≡ true → Each P x) → Each P (only_if b x)
 each_only P true x is = is refl
@@ -77,20 +77,20 @@ before_from a b is = elim (or_true (nat_lt a.mask.0 b.mask.0) _ is) [
       | inr same ↦ inr (last same)
     ]
 
-gives_claim : (format : Format) (job : JobData) (section : Section) (text : List ℕ) → Each (Gives format job section) (take_claim section text)
+gives_claim : (format : Format) (job : JobData) (section : Section) (text : List ℕ) → Each (LineGives format job section) (take_claim section text)
 unfolding take_claim
 gives_claim format job sections.Claim text =
-    each_then IsWorth (Gives format job sections.Claim) (claim_in text) (λ claim. Some (given.Claim claim, behind_claim claim)) (claim_fits text) (λ claim is. (refl, is, refl))
+    each_then IsWorth (LineGives format job sections.Claim) (claim_in text) (λ claim. Some (given.Claim claim, behind_claim claim)) (claim_fits text) (λ claim is. (refl, is, refl))
 gives_claim format job (sections.Steps steps) text = tt
 gives_claim format job sections.Rows text = tt
 gives_claim format job (sections.Notes key number) text = tt
 gives_claim format job sections.Over text = tt
 
-gives_step : (format : Format) (job : JobData) (section : Section) (text : List ℕ) → Each (Gives format job section) (take_step job section text)
+gives_step : (format : Format) (job : JobData) (section : Section) (text : List ℕ) → Each (LineGives format job section) (take_step job section text)
 unfolding take_step step_behind
 gives_step format job (sections.Steps steps) text =
-    each_only (Gives format job (sections.Steps steps)) (nat_lt steps (bend_count job)) (step_in (bend_count job) (stage_count job) text >>= λ step. Some (given.Step step, sections.Steps (steps + 1)))
-    (λ less. each_then (IsStep job) (Gives format job (sections.Steps steps)) (step_in (bend_count job) (stage_count job) text) (λ step. Some (given.Step step, sections.Steps (steps + 1))) (step_fits job text)
+    each_only (LineGives format job (sections.Steps steps)) (nat_lt steps (bend_count job)) (step_in (bend_count job) (stage_count job) text >>= λ step. Some (given.Step step, sections.Steps (steps + 1)))
+    (λ less. each_then (IsStep job) (LineGives format job (sections.Steps steps)) (step_in (bend_count job) (stage_count job) text) (λ step. Some (given.Step step, sections.Steps (steps + 1))) (step_fits job text)
     (λ step is. (steps, refl, ltb-true steps (bend_count job) less, is, refl)))
 gives_step format job sections.Claim text = tt
 gives_step format job sections.Rows text = tt
@@ -104,12 +104,12 @@ may_from format job sections.Rows key is = tt
 may_from format job (sections.Notes last number) key is = before_from last key is
 may_from format job sections.Over key is = absurd (cc)
 
-gives_row : (format : Format) (job : JobData) (section : Section) (text : List ℕ) → Each (Gives format job section) (take_row format job section text)
+gives_row : (format : Format) (job : JobData) (section : Section) (text : List ℕ) → Each (LineGives format job section) (take_row format job section text)
 unfolding take_row row_behind
 gives_row format job section text =
-    each_then (RowFits job) (Gives format job section) (row_in (bend_count job) (stage_count job) text)
+    each_then (RowFits job) (LineGives format job section) (row_in (bend_count job) (stage_count job) text)
     (λ row. only_if (may_be_row format (bend_count job) section row.0) (Some (given.Row (record { key = row.0; worth = row.1 }), sections.Notes row.0 0))) (row_fits job text)
-    (λ row fits. each_only (Gives format job section) (may_be_row format (bend_count job) section row.0) (Some (given.Row (record { key = row.0; worth = row.1 }), sections.Notes row.0 0))
+    (λ row fits. each_only (LineGives format job section) (may_be_row format (bend_count job) section row.0) (Some (given.Row (record { key = row.0; worth = row.1 }), sections.Notes row.0 0))
     (λ may. (fits, may_from format job section row.0 may, refl)))
 
 few_back : (back : Back) → back_number back ≤ 1
@@ -117,8 +117,8 @@ few_back Parent = omega arith
 few_back Child = omega arith
 
 -- the number of an action of a job
-pub number_fits : (job : JobData) (action : Action) → IsActionOf job action → number_of (stage_count job) action < 2 * bend_count job * stage_count job
-unfolding number_of
+pub number_fits : (job : JobData) (action : Action) → IsActionOf job action → number_of_action (stage_count job) action < 2 * bend_count job * stage_count job
+unfolding number_of_action
 number_fits job action is =
     let stages = stage_count job in
     let place = (action.bend - 1) * 2 + back_number action.back in
@@ -127,40 +127,40 @@ number_fits job action is =
     let more : (place + 1) * stages ≡ place * stages + stages = grind (arith, common_steps) in
     omega (arith, all, more, is.stage)
 
-same_bend : (job : JobData) (action : Action) → bend_count job ≤ 12 → IsActionOf job action → action.bend ≡ (action_at (stage_count job) (number_of (stage_count job) action)).bend
+same_bend : (job : JobData) (action : Action) → bend_count job ≤ 12 → IsActionOf job action → action.bend ≡ (action_at (stage_count job) (number_of_action (stage_count job) action)).bend
 same_bend job action few is =
-    ap (λ (a : Action). a.bend) (action_is (stage_count job) (number_of (stage_count job) action) action (few_actions (number_of (stage_count job) action) (bend_count job) (stage_count job) few (number_fits job action is))
+    ap (λ (a : Action). a.bend) (action_is (stage_count job) (number_of_action (stage_count job) action) action (few_actions (number_of_action (stage_count job) action) (bend_count job) (stage_count job) few (number_fits job action is))
     (record { first = is.first; last = omega (arith, is.last, few); stage = is.stage }) refl)
 
-gives_noted : (format : Format) (job : JobData) (key : Key) (least : ℕ) (action : Action) (reason : Reason) → bend_count job ≤ 12 → NoteWordsFit job (action, reason) → Each (Gives format job (sections.Notes key least)) (noted job key least action reason)
+gives_noted : (format : Format) (job : JobData) (key : Key) (least : ℕ) (action : Action) (reason : Reason) → bend_count job ≤ 12 → NoteWordsFit job (action, reason) → Each (LineGives format job (sections.Notes key least)) (noted job key least action reason)
 unfolding noted
 gives_noted format job key least action reason few fits =
-    let number = number_of (stage_count job) action in
-    each_only (Gives format job (sections.Notes key least)) (nat_le least number && is_lead job key.mask action.bend) (Some (given.Note number reason, sections.Notes key (number + 1)))
+    let number = number_of_action (stage_count job) action in
+    each_only (LineGives format job (sections.Notes key least)) (nat_le least number && is_lead job key.mask action.bend) (Some (given.Note number reason, sections.Notes key (number + 1)))
     (λ both. let parts = and_parts (nat_le least number) (is_lead job key.mask action.bend) both in
     (key, least, refl, ordered least number parts.0, (number_fits job action fits.0, fits.1, subst (λ b. is_lead job key.mask b ≡ true) (same_bend job action few fits.0) parts.1), refl))
   where
     ordered : (a b : ℕ) → nat_le a b ≡ true → a ≤ b
     ordered a b is = grind (arith, common_steps)
 
-gives_note : (format : Format) (job : JobData) (section : Section) (text : List ℕ) → bend_count job ≤ 12 → Each (Gives format job section) (take_note job section text)
+gives_note : (format : Format) (job : JobData) (section : Section) (text : List ℕ) → bend_count job ≤ 12 → Each (LineGives format job section) (take_note job section text)
 unfolding take_note note_behind
 gives_note format job (sections.Notes key least) text few =
-    each_then (NoteWordsFit job) (Gives format job (sections.Notes key least)) (note_in (bend_count job) (stage_count job) text) (λ note. noted job key least note.0 note.1) (note_fits job text)
+    each_then (NoteWordsFit job) (LineGives format job (sections.Notes key least)) (note_in (bend_count job) (stage_count job) text) (λ note. noted job key least note.0 note.1) (note_fits job text)
     (λ note fits. gives_noted format job key least note.0 note.1 few fits)
 gives_note format job sections.Claim text few = tt
 gives_note format job (sections.Steps steps) text few = tt
 gives_note format job sections.Rows text few = tt
 gives_note format job sections.Over text few = tt
 
-gives_words : (format : Format) (job : JobData) (section : Section) (kind : PlanLine) (text : List ℕ) → bend_count job ≤ 12 → Each (Gives format job section) (take_plan_words format job section kind text)
+gives_words : (format : Format) (job : JobData) (section : Section) (kind : PlanLine) (text : List ℕ) → bend_count job ≤ 12 → Each (LineGives format job section) (take_plan_words format job section kind text)
 unfolding take_plan_words
 gives_words format job section kinds.Claim text few = gives_claim format job section text
 gives_words format job section kinds.Step text few = gives_step format job section text
 gives_words format job section kinds.Row text few = gives_row format job section text
 gives_words format job section kinds.Note text few = gives_note format job section text few
 
-pub gives_line : (format : Format) (job : JobData) (section : Section) (keyword text : List ℕ) → bend_count job ≤ 12 → Each (Gives format job section) (take_plan_line format job section keyword text)
+pub gives_line : (format : Format) (job : JobData) (section : Section) (keyword text : List ℕ) → bend_count job ≤ 12 → Each (LineGives format job section) (take_plan_line format job section keyword text)
 unfolding take_plan_line
 gives_line format job section keyword text few =
-    each_then Any (Gives format job section) (plan_line_of keyword) (λ kind. take_plan_words format job section kind text) (each_any (plan_line_of keyword)) (λ kind _. gives_words format job section kind text few)
+    each_then Any (LineGives format job section) (plan_line_of keyword) (λ kind. take_plan_words format job section kind text) (each_any (plan_line_of keyword)) (λ kind _. gives_words format job section kind text few)

@@ -5,7 +5,7 @@ use Rattle.std.proofs.lemmas.List.Splits.{length-slice_split}
 use Rattle.std.proofs.lemmas.List.Sums.{count_by-le-length}
 use Rattle.brake_text.specs.Lines.{is_line_feed}
 use Rattle.job_setup.specs.Setup.{JobData}
-use Rattle.plan_cert.specs.declared.format.Kind.{Kind}
+use Rattle.plan_cert.specs.declared.format.TextKind.{TextKind}
 use Rattle.plan_cert.specs.declared.format.Format.{Format}
 use Rattle.plan_cert.specs.declared.item.Item.{Item}
 use Rattle.plan_cert.specs.declared.item.Item.TheVariants as given
@@ -64,7 +64,7 @@ few_of_job n lines (line ∷ next ∷ more) = by_line (take_line lines line) (λ
     by_line (Some after) few = omega (arith, few after)
     by_line None few = omega (arith, few_others n lines line (next ∷ more))
 
-few_of_lines : (kind : Kind) (lines : List (List ℕ)) → length (items_of_lines kind lines) ≤ length lines + 1
+few_of_lines : (kind : TextKind) (lines : List (List ℕ)) → length (items_of_lines kind lines) ≤ length lines + 1
 few_of_lines kind [] = omega arith
 few_of_lines kind (line ∷ []) = omega arith
 few_of_lines kind (line ∷ next ∷ more) = by_format (format_of kind line)
@@ -78,7 +78,7 @@ few_of_lines kind (line ∷ next ∷ more) = by_format (format_of kind line)
     by_format None = omega arith
 
 -- a text has at most two more answers than bytes
-pub few_items : (kind : Kind) (text : List ℕ) → length (items kind text) ≤ length text + 2
+pub few_items : (kind : TextKind) (text : List ℕ) → length (items kind text) ≤ length text + 2
 unfolding items
 few_items kind text = omega (arith, few_of_lines kind (lines_in text), length-slice_split is_line_feed text, count_by-le-length is_line_feed text)
 

@@ -28,7 +28,7 @@ use Rattle.machine_file.specs.declared.bounds.TheConstants.{MOST_FRAMES, MOST_BO
 use Rattle.machine_file.specs.declared.machine.Fixed.{Fixed}
 use Rattle.machine_file.specs.declared.machine.GaugeRule.{GaugeRule}
 use Rattle.machine_file.specs.declared.machine.Costs.{Costs}
-use Rattle.machine_file.specs.Machine.{farthest, IsBedRange, IsFixed, IsPiece, IsGaugeRule, IsCosts}
+use Rattle.machine_file.specs.Machine.{coordinate_limit, IsBedRange, IsFixed, IsPiece, IsGaugeRule, IsCosts}
 use Rattle.machine_file.specs.MachineFile.{is_fixed}
 use Rattle.machine_file.proofs.Decided.{fixed_decided}
 use Rattle.job_setup.specs.Setup.{StageData, SetupData, JobData}
@@ -160,8 +160,8 @@ die_test d =
 abbrev bare_test : (s : StageData) → Test (((s.punch.sections ≡ []) × (s.die.sections ≡ [])) × ((s.punch.limit ≡ pos 0) × (s.die.limit ≡ pos 0)))
 bare_test s = both (both (empty s.punch.sections) (empty s.die.sections)) (both (same_int s.punch.limit (pos 0)) (same_int s.die.limit (pos 0)))
 
-abbrev place_test : (s : StageData) → Test (IsWithin (neg_ℤ farthest) farthest s.x0 × (s.x1 ≡ s.x0 +ℤ total s.pieces))
-place_test s = both (within (neg_ℤ farthest) farthest s.x0) (same_int s.x1 (s.x0 +ℤ total s.pieces))
+abbrev place_test : (s : StageData) → Test (IsWithin (neg_ℤ coordinate_limit) coordinate_limit s.x0 × (s.x1 ≡ s.x0 +ℤ total s.pieces))
+place_test s = both (within (neg_ℤ coordinate_limit) coordinate_limit s.x0) (same_int s.x1 (s.x0 +ℤ total s.pieces))
 
 abbrev pieces_test : (s : StageData) → Test ((0 < length s.pieces) × ((length s.pieces ≤ MOST_PIECES) × All IsPiece s.pieces))
 pieces_test s = both (below 0 (length s.pieces)) (both (at_most (length s.pieces) MOST_PIECES) (each IsPiece (within LEAST_PIECE GREATEST_PIECE) s.pieces))
@@ -208,7 +208,7 @@ costs_test c =
     (both (both (at_most c.stroke GREATEST_COST) (at_most c.quarter GREATEST_COST)) (both (both (at_most c.half GREATEST_COST) (at_most c.flip GREATEST_COST)) (both (at_most c.roll GREATEST_COST) (at_most c.stage GREATEST_COST))))
 
 abbrev bed_range_test : (range : ℤ × ℤ) → Test (IsBedRange range)
-bed_range_test range = ranged (neg_ℤ farthest) farthest range.0 range.1
+bed_range_test range = ranged (neg_ℤ coordinate_limit) coordinate_limit range.0 range.1
 
 abbrev boxes_between : (low high : ℤ) (boxes : List Fixed) → Test (All (IsFixed low high) boxes)
 boxes_between low high boxes = each (IsFixed low high) (λ box. (is_fixed low high box, fixed_decided low high box)) boxes
@@ -218,7 +218,7 @@ fixtures_test s =
     like (λ r. record { frames = r.0.0; few_frames = r.0.1; upper = r.1.0.0; few_upper = r.1.0.1; lower = r.1.1.0; few_lower = r.1.1.1 })
     (λ r. ((r.frames, r.few_frames), ((r.upper, r.few_upper), (r.lower, r.few_lower))))
     (both (both (each IsBedRange bed_range_test s.frames) (at_most (length s.frames) MOST_FRAMES))
-    (both (both (boxes_between (pos 0) farthest s.upper) (at_most (length s.upper) MOST_BOXES)) (both (boxes_between (neg_ℤ farthest) (pos 0) s.lower) (at_most (length s.lower) MOST_BOXES))))
+    (both (both (boxes_between (pos 0) coordinate_limit s.upper) (at_most (length s.upper) MOST_BOXES)) (both (boxes_between (neg_ℤ coordinate_limit) (pos 0) s.lower) (at_most (length s.lower) MOST_BOXES))))
 
 abbrev rules_test : (s : SetupData) → Test (HasRules s)
 rules_test s =

@@ -4,7 +4,7 @@ use Rattle.std.specs.Prelude.{if◌then◌else◌, ◌&&◌, is_some}
 use Rattle.std.proofs.lemmas.Bool.{false_from_ne_true, false≢true}
 use Rattle.job_setup.specs.Setup.{JobData}
 use Rattle.job_setup.specs.ValidJob.{IsJobFrom}
-use Rattle.plan_cert.specs.declared.format.Kind.{Kind}
+use Rattle.plan_cert.specs.declared.format.TextKind.{TextKind}
 use Rattle.plan_cert.specs.declared.format.Format.{Format}
 use Rattle.plan_cert.specs.declared.item.Item.{Item}
 use Rattle.plan_cert.specs.declared.item.Item.TheVariants as given
@@ -18,7 +18,7 @@ use Rattle.plan_cert.specs.JobLines.{Takes, job_lines_data, JobLinesData, no_lin
 use Rattle.plan_cert.specs.JobReading.{take_line}
 use Rattle.plan_cert.specs.PlanReading.{first_section}
 use Rattle.plan_cert.specs.Items.{lines_in, next_number, may_be_judged, judged_items, plan_items, items_behind, job_items, items_of_lines, items}
-use Rattle.plan_cert.specs.Reading.{Gives, IsJudged, Stops}
+use Rattle.plan_cert.specs.Reading.{GivesNext, IsJudged, Stops}
 use Rattle.plan_cert.proofs.JobDecided.{job_decided}
 use Rattle.plan_cert.proofs.WholeLines.{some_line}
 
@@ -49,13 +49,13 @@ stop_any : (lines : JobLinesData) (line : List ℕ) (rest : List (List ℕ)) →
 stop_any lines line [] some stop = absurd (omega arith)
 stop_any lines line (next ∷ more) some stop = stop
 
-pub answers_like : (answers others : List (Result Item CertFault)) (given : Result Item CertFault) (stand : Stand) → others ≡ answers → Gives answers given stand → Gives others given stand
+pub answers_like : (answers others : List (Result Item CertFault)) (given : Result Item CertFault) (stand : Stand) → others ≡ answers → GivesNext answers given stand → GivesNext others given stand
 answers_like answers others given stand same gives = (gives.0, same ∙ gives.1, gives.2, gives.3, gives.4)
 
 -- behind the job lines stands a whole line
 pub behind_lines : (n m : ℕ) (lines after : JobLinesData) (line text rest behind : List ℕ) (given : Result Item CertFault) (stand : Stand)
     → job_items n lines (lines_in text) ≡ job_items m after (lines_in rest) → Stops after (lines_in rest) → lines_in rest ≡ line ∷ lines_in behind
-    → ((others : List (List ℕ)) → lines_in rest ≡ line ∷ others → Gives (items_behind m after line others) given stand) → Gives (job_items n lines (lines_in text)) given stand
+    → ((others : List (List ℕ)) → lines_in rest ≡ line ∷ others → GivesNext (items_behind m after line others) given stand) → GivesNext (job_items n lines (lines_in text)) given stand
 behind_lines n m lines after line text rest behind given stand same stop cut gives =
     let none : take_line after line ≡ None = stop_any after line (lines_in behind) (some_line behind) (subst (λ ls. Stops after ls) cut stop) in
     answers_like (items_behind m after line (lines_in behind)) (job_items n lines (lines_in text)) given stand
@@ -63,31 +63,31 @@ behind_lines n m lines after line text rest behind given stand same stop cut giv
 
 -- the text ends within the job lines
 pub job_unended : (n m : ℕ) (lines after : JobLinesData) (text rest : List ℕ) (given : Result Item CertFault) (stand : Stand)
-    → job_items n lines (lines_in text) ≡ job_items m after (lines_in rest) → lines_in rest ≡ rest ∷ [] → Gives (Err faults.Unended ∷ []) given stand → Gives (job_items n lines (lines_in text)) given stand
+    → job_items n lines (lines_in text) ≡ job_items m after (lines_in rest) → lines_in rest ≡ rest ∷ [] → GivesNext (Err faults.Unended ∷ []) given stand → GivesNext (job_items n lines (lines_in text)) given stand
 unfolding job_items
 job_unended n m lines after text rest given stand same cut gives =
     answers_like (Err faults.Unended ∷ []) (job_items n lines (lines_in text)) given stand (same ∙ ap (λ (ls : List (List ℕ)). job_items m after ls) cut) gives
 
 -- the first line
-pub first_unended : (kind : Kind) (text : List ℕ) (given : Result Item CertFault) (stand : Stand) → lines_in text ≡ text ∷ [] → Gives (Err faults.Unended ∷ []) given stand → Gives (items kind text) given stand
+pub first_unended : (kind : TextKind) (text : List ℕ) (given : Result Item CertFault) (stand : Stand) → lines_in text ≡ text ∷ [] → GivesNext (Err faults.Unended ∷ []) given stand → GivesNext (items kind text) given stand
 unfolding items
 first_unended kind text given stand cut gives = answers_like (Err faults.Unended ∷ []) (items kind text) given stand (ap (λ (ls : List (List ℕ)). items_of_lines kind ls) cut) gives
 
-bad_any : (kind : Kind) (line : List ℕ) (rest : List (List ℕ)) → 0 < length rest → format_of kind line ≡ None → items_of_lines kind (line ∷ rest) ≡ Err (faults.BadLine 1) ∷ []
+bad_any : (kind : TextKind) (line : List ℕ) (rest : List (List ℕ)) → 0 < length rest → format_of kind line ≡ None → items_of_lines kind (line ∷ rest) ≡ Err (faults.BadLine 1) ∷ []
 bad_any kind line [] some e = absurd (omega arith)
 bad_any kind line (next ∷ more) some e = ap (λ (o : Option Format). elim o [ Some format ↦ job_items 2 (no_lines format) (next ∷ more) | None ↦ Err (faults.BadLine 1) ∷ [] ]) e
 
-pub first_bad : (kind : Kind) (line text rest : List ℕ) (given : Result Item CertFault) (stand : Stand) → lines_in text ≡ line ∷ lines_in rest → format_of kind line ≡ None → Gives (Err (faults.BadLine 1) ∷ []) given stand → Gives (items kind text) given stand
+pub first_bad : (kind : TextKind) (line text rest : List ℕ) (given : Result Item CertFault) (stand : Stand) → lines_in text ≡ line ∷ lines_in rest → format_of kind line ≡ None → GivesNext (Err (faults.BadLine 1) ∷ []) given stand → GivesNext (items kind text) given stand
 unfolding items
 first_bad kind line text rest given stand cut e gives =
     answers_like (Err (faults.BadLine 1) ∷ []) (items kind text) given stand (ap (λ (ls : List (List ℕ)). items_of_lines kind ls) cut ∙ bad_any kind line (lines_in rest) (some_line rest) e) gives
 
-pub good_any : (kind : Kind) (format : Format) (line : List ℕ) (rest : List (List ℕ)) → 0 < length rest → format_of kind line ≡ Some format → items_of_lines kind (line ∷ rest) ≡ job_items 2 (no_lines format) rest
+pub good_any : (kind : TextKind) (format : Format) (line : List ℕ) (rest : List (List ℕ)) → 0 < length rest → format_of kind line ≡ Some format → items_of_lines kind (line ∷ rest) ≡ job_items 2 (no_lines format) rest
 good_any kind format line [] some e = absurd (omega arith)
 good_any kind format line (next ∷ more) some e = ap (λ (o : Option Format). elim o [ Some format ↦ job_items 2 (no_lines format) (next ∷ more) | None ↦ Err (faults.BadLine 1) ∷ [] ]) e
 
-pub first_good : (kind : Kind) (format : Format) (line text rest : List ℕ) (given : Result Item CertFault) (stand : Stand) → lines_in text ≡ line ∷ lines_in rest → format_of kind line ≡ Some format
-    → Gives (job_items 2 (no_lines format) (lines_in rest)) given stand → Gives (items kind text) given stand
+pub first_good : (kind : TextKind) (format : Format) (line text rest : List ℕ) (given : Result Item CertFault) (stand : Stand) → lines_in text ≡ line ∷ lines_in rest → format_of kind line ≡ Some format
+    → GivesNext (job_items 2 (no_lines format) (lines_in rest)) given stand → GivesNext (items kind text) given stand
 unfolding items
 first_good kind format line text rest given stand cut e gives =
     answers_like (job_items 2 (no_lines format) (lines_in rest)) (items kind text) given stand (ap (λ (ls : List (List ℕ)). items_of_lines kind ls) cut ∙ good_any kind format line (lines_in rest) (some_line rest) e) gives

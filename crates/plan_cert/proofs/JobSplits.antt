@@ -8,8 +8,8 @@ use Rattle.job_setup.specs.ValidJob.{IsJob}
 use Rattle.plan_cert.specs.CertText.{lines_of_format}
 use Rattle.plan_cert.specs.declared.format.Format.{Format}
 use Rattle.plan_cert.specs.declared.format.Format.TheVariants.{Version1, Version2, Table}
-use Rattle.plan_cert.specs.declared.format.Kind.{Kind}
-use Rattle.plan_cert.specs.declared.format.Kind.TheVariants.{Certificate, Table as TableKind}
+use Rattle.plan_cert.specs.declared.format.TextKind.{TextKind}
+use Rattle.plan_cert.specs.declared.format.TextKind.TheVariants.{Certificate, Table as TableKind}
 use Rattle.plan_cert.specs.declared.line_kind.LineKind.{LineKind}
 use Rattle.plan_cert.specs.declared.item.Item.{Item}
 use Rattle.plan_cert.specs.declared.item.Item.TheVariants as given
@@ -126,14 +126,14 @@ job_splits n s job (line ∷ next ∷ more) answers tells fresh e =
     by_taken None keeps adds splits e = behind_splits n s job line (next ∷ more) answers tells e
 
 -- the first line names the format
-format_is : (kind : Kind) (line : List ℕ) → Each (λ (f : Format). line ≡ line_bytes (format_line f)) (format_of kind line)
+format_is : (kind : TextKind) (line : List ℕ) → Each (λ (f : Format). line ≡ line_bytes (format_line f)) (format_of kind line)
 format_is Certificate line =
     let P : Format → Type 0 = λ f. line ≡ line_bytes (format_line f) in
     by_word P line (codes "brake-cert 1") Version1 _ (λ e. e) (by_word P line (codes "brake-cert 2") Version2 None (λ e. e) tt)
 format_is TableKind line = by_word (λ (f : Format). line ≡ line_bytes (format_line f)) line (codes "brake-table 1") Table None (λ e. e) tt
 
 -- the lines are those of a format that texts of this kind have: its name, the job that it tells of, and others
-pub record Begins (kind : Kind) (job : JobData) (lines : List (List ℕ)) (answers : List (Result Item CertFault)) : Type 0 where
+pub record Begins (kind : TextKind) (job : JobData) (lines : List (List ℕ)) (answers : List (Result Item CertFault)) : Type 0 where
   pub format : Format
   pub named : format_of kind (line_bytes (format_line format)) ≡ Some format
   pub valid : IsJob job
@@ -151,7 +151,7 @@ no_lines_shown Table = refl
 nothing_told : (format : Format) → TellsAsFormat (no_lines format)
 nothing_told format none = record { no_gang_line = refl; no_gangs = refl; no_force = refl; no_loads = λ k d within. absurd (omega (arith, within)); no_load = refl; no_limit = refl }
 
-first_begins : (kind : Kind) (line next : List ℕ) (more : List (List ℕ)) (job : JobData) (answers : List (Result Item CertFault)) → items_of_lines kind (line ∷ next ∷ more) ≡ Ok (given.Job job) ∷ answers → Begins kind job (line ∷ next ∷ more) answers
+first_begins : (kind : TextKind) (line next : List ℕ) (more : List (List ℕ)) (job : JobData) (answers : List (Result Item CertFault)) → items_of_lines kind (line ∷ next ∷ more) ≡ Ok (given.Job job) ∷ answers → Begins kind job (line ∷ next ∷ more) answers
 first_begins kind line next more job answers e = by_format (format_of kind line) refl (format_is kind line) e
   where
     by_format : (format : Option Format) → format_of kind line ≡ format → Each (λ (f : Format). line ≡ line_bytes (format_line f)) format
@@ -171,7 +171,7 @@ first_begins kind line next more job answers e = by_format (format_of kind line)
         }
     by_format None named is e = absurd (cc)
 
-pub lines_begin : (kind : Kind) (lines : List (List ℕ)) (job : JobData) (answers : List (Result Item CertFault)) → items_of_lines kind lines ≡ Ok (given.Job job) ∷ answers → Begins kind job lines answers
+pub lines_begin : (kind : TextKind) (lines : List (List ℕ)) (job : JobData) (answers : List (Result Item CertFault)) → items_of_lines kind lines ≡ Ok (given.Job job) ∷ answers → Begins kind job lines answers
 lines_begin kind [] job answers e = absurd (cc)
 lines_begin kind (line ∷ []) job answers e = absurd (cc)
 lines_begin kind (line ∷ next ∷ more) job answers e = first_begins kind line next more job answers e

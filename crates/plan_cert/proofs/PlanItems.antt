@@ -2,7 +2,7 @@
 use Rattle.std.proofs.Common.{◌≡◌, ℕ, ◌<◌, Bool, true, false, List, [], ◌∷◌, length, Option, Some, None, Result, Ok, Err, refl, sym, ap, subst, ◌∙◌, arith}
 use Rattle.std.specs.Prelude.{if◌then◌else◌}
 use Rattle.job_setup.specs.Setup.{JobData}
-use Rattle.plan_cert.specs.declared.format.Kind.{Kind}
+use Rattle.plan_cert.specs.declared.format.TextKind.{TextKind}
 use Rattle.plan_cert.specs.declared.format.Format.{Format}
 use Rattle.plan_cert.specs.declared.item.Item.{Item}
 use Rattle.plan_cert.specs.declared.item.Item.TheVariants as given
@@ -16,7 +16,7 @@ use Rattle.plan_cert.specs.PlanReading.{take_plan_line, first_section}
 use Rattle.plan_cert.specs.LineReading.{keyword_in, behind_keyword}
 use Rattle.plan_cert.specs.JobLines.{JobLinesData}
 use Rattle.plan_cert.specs.Items.{lines_in, next_number, is_over, plan_item, end_or_fault, plan_items}
-use Rattle.plan_cert.specs.Reading.{LeavesPlan, LeavesIn, LeavesBy, Leaves, Gives}
+use Rattle.plan_cert.specs.Reading.{LeavesPlan, LeavesIn, LeavesBy, Leaves, GivesNext}
 use Rattle.plan_cert.proofs.WholeLines.{some_line}
 
 -- at the end no answer is left
@@ -54,7 +54,7 @@ pub line_given : (old new : Stand) (answers : List (Result Item CertFault)) (lin
     → LeavesIn old.section old answers → 0 < length answers → lines_in old.rest.now ≡ line ∷ lines_in rest
     → ((job : JobData) → KeepsFacts old.facts job → given ≡ plan_item old.facts.format job old.number old.section line (lines_in rest))
     → HasFew old.facts → new.is_begun ≡ true → new.rest.now ≡ rest → new.number ≡ next_number old.number → new.section ≡ given.1 → new.facts ≡ old.facts
-    → Gives answers given.0 new
+    → GivesNext answers given.0 new
 line_given old new answers line rest given left some cut is old_few begun rest_is number_is section_is facts_is =
     let plan = (plan_left old.section old answers some left).0 in
     let on = (plan_left old.section old answers some left).1 in
@@ -74,7 +74,7 @@ line_given old new answers line rest given left some cut is old_few begun rest_i
 
 -- the text ends within a line
 pub line_unended : (old new : Stand) (answers : List (Result Item CertFault)) (given : Result Item CertFault) → LeavesIn old.section old answers → 0 < length answers
-    → lines_in old.rest.now ≡ old.rest.now ∷ [] → Gives (Err faults.Unended ∷ []) given new → Gives answers given new
+    → lines_in old.rest.now ≡ old.rest.now ∷ [] → GivesNext (Err faults.Unended ∷ []) given new → GivesNext answers given new
 line_unended old new answers given left some cut gives =
     let plan = (plan_left old.section old answers some left).0 in
     let on = (plan_left old.section old answers some left).1 in
@@ -107,7 +107,7 @@ item_refused format job n section line rest e = refused_any format job n section
 -- the job, behind which the first line's answer is left
 pub job_given : (lines : JobLinesData) (n : ℕ) (line : List ℕ) (behind : List (List ℕ)) (job : JobData) (answers : List (Result Item CertFault)) (new : Stand)
     → answers ≡ Ok (given.Job job) ∷ plan_items lines.format job n (first_section lines.format) (line ∷ behind) → KeepsFacts new.facts job → new.is_begun ≡ true → new.number ≡ n → new.section ≡ first_section lines.format
-    → new.facts.format ≡ lines.format → lines_in new.rest.now ≡ line ∷ behind → Gives answers (Ok (given.Job job)) new
+    → new.facts.format ≡ lines.format → lines_in new.rest.now ≡ line ∷ behind → GivesNext answers (Ok (given.Job job)) new
 job_given lines n line behind job answers new is kept begun number_is section_is format_is cut =
     let more = plan_items lines.format job n (first_section lines.format) (line ∷ behind) in
     let left : more ≡ plan_items new.facts.format job new.number new.section (lines_in new.rest.now) =
@@ -118,7 +118,7 @@ job_given lines n line behind job answers new is kept begun number_is section_is
     (more, is, begun, record { bends = kept.few_bends; stages = kept.few_stages }, left_in new.section new more refl (record { job = job; kept = kept; left = left }))
 
 -- what is left behind an answer
-pub leaves_next : (kind : Kind) (stand : Stand) (answers more : List (Result Item CertFault)) → stand.is_begun ≡ true → answers ≡ more → LeavesIn stand.section stand more → Leaves kind stand answers
+pub leaves_next : (kind : TextKind) (stand : Stand) (answers more : List (Result Item CertFault)) → stand.is_begun ≡ true → answers ≡ more → LeavesIn stand.section stand more → Leaves kind stand answers
 leaves_next kind stand answers more begun same left = subst (λ b. LeavesBy b kind stand answers) (sym begun) (subst (λ a. LeavesIn stand.section stand a) (sym same) left)
 
 -- the answers from a line on that gives an item, and from one on that doesn't

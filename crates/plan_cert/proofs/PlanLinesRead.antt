@@ -14,7 +14,7 @@ use Rattle.cert_words.specs.LineWords.{count_at}
 use Rattle.cert_words.specs.PlanWords.{action_at, gauge_at, step_in, claim_in, key_at, row_in, half_in, box_in, meeting_in, upper_in, nose_in, lower_in, self_hit_in, arguments_in, reason_in, note_in}
 use Rattle.plan_cert.specs.Lines.{claim_line, step_line, row_line, note_line, number, back_word, half_word, worth_word, meeting_words, reason_words, words_of, spaced}
 use Rattle.plan_cert.specs.declared.cert.RowHead.{RowHead}
-use Rattle.plan_cert.specs.WellFormed.{IsWorth, IsActionOf, IsStep, IsRow, IsReason}
+use Rattle.plan_cert.specs.WellFormed.{IsWorth, IsActionOf, IsStep, IsRow, IsReasonInRange}
 use Rattle.plan_cert.proofs.WordsRead.{Ends, count_read, back_read, half_read, quarter_read, worth_read}
 use Rattle.plan_cert.proofs.LinesRead.{spelled}
 use Rattle.plan_cert.proofs.WellRead.{IsSmall}
@@ -71,7 +71,7 @@ meeting_alone end box q other one two few =
 kind_read : (kind : ℕ) (rest : List ℕ) → 1 ≤ kind → kind < 10 → Ends rest → count_at 1 10 (spaced (number kind) ++ rest) ≡ Some (kind, rest)
 kind_read kind rest some few ends = count_read 1 10 kind rest some few (omega (arith, few)) ends
 
-pub reason_alone : (job : JobData) (r : Reason) → IsSmall job → IsReason job r → reason_in (stage_count job) (spelled (reason_words r)) ≡ Some r
+pub reason_alone : (job : JobData) (r : Reason) → IsSmall job → IsReasonInRange job r → reason_in (stage_count job) (spelled (reason_words r)) ≡ Some r
 unfolding reason_in arguments_in half_in box_in upper_in nose_in lower_in self_hit_in
 reason_alone job Cover small is = rw (kind_read 1 [] (omega arith) (omega arith) tt) refl
 reason_alone job (Rest half) small is = rw (kind_read 2 (spelled (half_word half ∷ [])) (omega arith) (omega arith) refl, half_read half [] tt) refl
@@ -83,6 +83,6 @@ reason_alone job (SelfHit box q other) small is = rw (kind_read 7 (spelled (meet
 reason_alone job NoGauge small is = rw (kind_read 8 [] (omega arith) (omega arith) tt) refl
 reason_alone job Load small is = rw (kind_read 9 [] (omega arith) (omega arith) tt) refl
 
-pub note_alone : (job : JobData) (a : Action) (r : Reason) → IsSmall job → IsActionOf job a → IsReason job r → note_in (bend_count job) (stage_count job) (spelled (words_of (note_line a r))) ≡ Some (a, r)
+pub note_alone : (job : JobData) (a : Action) (r : Reason) → IsSmall job → IsActionOf job a → IsReasonInRange job r → note_in (bend_count job) (stage_count job) (spelled (words_of (note_line a r))) ≡ Some (a, r)
 unfolding note_in
 note_alone job a r small action reason = rw (action_read job a (spelled (reason_words r)) small action refl, reason_alone job r small reason) refl

@@ -9,7 +9,7 @@ use Rattle.brake_base.specs.declared.stroke.Action.{Action}
 use Rattle.brake_base.specs.declared.stroke.Step.{Step}
 use Rattle.brake_base.specs.declared.stroke.Key.{Key}
 use Rattle.brake_base.specs.declared.reason.Reason.{Reason}
-use Rattle.brake_base.specs.Actions.{number_of}
+use Rattle.brake_base.specs.Actions.{number_of_action}
 use Rattle.job_setup.specs.Setup.{JobData, bend_count, stage_count}
 use Rattle.job_setup.specs.StrokeGroup.{is_lead}
 use Rattle.plan_cert.specs.declared.format.Format.{Format}
@@ -36,7 +36,7 @@ use Rattle.plan_cert.specs.CertReading.{is_last}
 use Rattle.plan_cert.proofs.Actions.{action_is, few_actions}
 use Rattle.plan_cert.proofs.PlanItems.{plan_taken, plan_refused}
 use Rattle.plan_cert.proofs.PlanRanges.{Each, each_then, NoteWordsFit, note_fits}
-use Rattle.plan_cert.proofs.Follows.{Follows, Gives, each_only, number_fits, gives_line}
+use Rattle.plan_cert.proofs.Follows.{Follows, LineGives, each_only, number_fits, gives_line}
 use Rattle.plan_cert.proofs.Endings.{claim_on}
 use Rattle.plan_cert.proofs.ReadWell.{unended, body_items}
 use Rattle.plan_cert.proofs.LinesRead.{spelled}
@@ -90,7 +90,7 @@ spells_noted : (job : JobData) (key : Key) (least : ℕ) (action : Action) (reas
     → Each (Spells (stage_count job) (codes "x") text) (noted job key least action reason)
 unfolding noted
 spells_noted job key least action reason text few fits is =
-    let number = number_of (stage_count job) action in
+    let number = number_of_action (stage_count job) action in
     let same : action ≡ action_at (stage_count job) number =
     action_is (stage_count job) number action (few_actions number (bend_count job) (stage_count job) few (number_fits job action fits.0)) (record { first = fits.0.first; last = omega (arith, fits.0.last, few); stage = fits.0.stage }) refl in
     each_only (Spells (stage_count job) (codes "x") text) (nat_le least number && is_lead job key.mask action.bend) (Some (given.Note number reason, sections.Notes key (number + 1)))
@@ -189,7 +189,7 @@ plan_lines_are format job n section items (line ∷ next ∷ more) small on e =
     by_taken (take_plan_line format job section (keyword_in line) (behind_keyword line)) refl (gives_line format job section (keyword_in line) (behind_keyword line) small.bends) (spells_line format job section (keyword_in line) (behind_keyword line) small.bends)
     (λ after goes others is. plan_lines_are format job (next_number n) after others (next ∷ more) small goes is)
   where
-    by_taken : (taken : Option (Item × Section)) → take_plan_line format job section (keyword_in line) (behind_keyword line) ≡ taken → Each (Gives format job section) taken → Each (Spells (stage_count job) (keyword_in line) (behind_keyword line)) taken
+    by_taken : (taken : Option (Item × Section)) → take_plan_line format job section (keyword_in line) (behind_keyword line) ≡ taken → Each (LineGives format job section) taken → Each (Spells (stage_count job) (keyword_in line) (behind_keyword line)) taken
         → ((after : Section) → is_over after ≡ false → (others : List Item) → plan_items format job (next_number n) after (next ∷ more) ≡ ends_with others → next ∷ more ≡ lines_for (stage_count job) others) → line ∷ next ∷ more ≡ lines_for (stage_count job) items
     by_taken (Some taken) found follows spells rest =
         let goes = goes_on format job section taken.0 taken.1 follows in

@@ -16,7 +16,7 @@ use Rattle.job_setup.specs.Setup.{JobData, bend_count, stage_count}
 use Rattle.cert_words.specs.LineWords.{◌>>=◌, word_at, at_end, count_at, kind_at, back_of, half_of, quarter_of, cost_of, worth_of}
 use Rattle.cert_words.specs.PlanWords.{action_at, gauge_at, step_in, claim_in, key_at, row_in, half_in, box_in, meeting_in, upper_in, nose_in, lower_in, self_hit_in, arguments_in, reason_in, note_in}
 use Rattle.plan_cert.specs.PlanReading.{IsActionAmong}
-use Rattle.plan_cert.specs.WellFormed.{IsWorth, IsActionOf, IsStep, IsRow, IsReason}
+use Rattle.plan_cert.specs.WellFormed.{IsWorth, IsActionOf, IsStep, IsRow, IsReasonInRange}
 
 -- what is there, if anything, meets a rule
 abbrev pub Each : {A : Type 0} → (A → Type 0) → Option A → Type 0
@@ -157,13 +157,13 @@ row_fits job text =
     (λ key fits. each_then (λ (x : Worth × List ℕ). IsWorth x.0) (RowFits job) (kind_at worth_of key.1) (λ worth. at_end (record { mask = record { 0 = key.0.0 }; attitude = key.0.1; stage = key.0.2 }, worth.0) worth.1) (kind_fits IsWorth worth_of key.1 worth_fits)
     (λ worth is. each_end (RowFits job) (record { mask = record { 0 = key.0.0 }; attitude = key.0.1; stage = key.0.2 }, worth.0) worth.1 (record { mask = fits.0; attitude = fits.1; stage = fits.2; worth = is })))
 
-half_fits : (job : JobData) (text : List ℕ) → Each (IsReason job) (half_in text)
+half_fits : (job : JobData) (text : List ℕ) → Each (IsReasonInRange job) (half_in text)
 unfolding half_in
-half_fits job text = each_then Any (IsReason job) (kind_at half_of text) (λ half. at_end (Rest half.0) half.1) (each_any (kind_at half_of text)) (λ half _. each_end (IsReason job) (Rest half.0) half.1 tt)
+half_fits job text = each_then Any (IsReasonInRange job) (kind_at half_of text) (λ half. at_end (Rest half.0) half.1) (each_any (kind_at half_of text)) (λ half _. each_end (IsReasonInRange job) (Rest half.0) half.1 tt)
 
-box_fits : (job : JobData) (text : List ℕ) → Each (IsReason job) (box_in text)
+box_fits : (job : JobData) (text : List ℕ) → Each (IsReasonInRange job) (box_in text)
 unfolding box_in
-box_fits job text = each_then (InRange 0 25) (IsReason job) (count_at 0 25 text) (λ box. at_end (Frame box.0) box.1) (count_fits 0 25 text) (λ box fits. each_end (IsReason job) (Frame box.0) box.1 (omega (arith, fits.1)))
+box_fits job text = each_then (InRange 0 25) (IsReasonInRange job) (count_at 0 25 text) (λ box. at_end (Frame box.0) box.1) (count_fits 0 25 text) (λ box fits. each_end (IsReasonInRange job) (Frame box.0) box.1 (omega (arith, fits.1)))
 
 abbrev MeetingFits : ℕ → ℕ × Quarter × ℕ → Type 0
 MeetingFits end m = (m.0 ≤ 24) × (m.2 < end)
@@ -176,43 +176,43 @@ meeting_fits end text =
     (λ quarter _. each_then (InRange 0 end) (MeetingFits end) (count_at 0 end quarter.1) (λ other. at_end (box.0, quarter.0, other.0) other.1) (count_fits 0 end quarter.1)
     (λ other in_others. each_end (MeetingFits end) (box.0, quarter.0, other.0) other.1 (omega (arith, in_boxes.1), in_others.1))))
 
-upper_fits : (job : JobData) (text : List ℕ) → Each (IsReason job) (upper_in text)
+upper_fits : (job : JobData) (text : List ℕ) → Each (IsReasonInRange job) (upper_in text)
 unfolding upper_in
-upper_fits job text = each_then (MeetingFits 64) (IsReason job) (meeting_in 64 text) (λ m. Some (Upper m.0 m.1 m.2)) (meeting_fits 64 text) (λ m fits. (fits.0, omega (arith, fits.1)))
+upper_fits job text = each_then (MeetingFits 64) (IsReasonInRange job) (meeting_in 64 text) (λ m. Some (Upper m.0 m.1 m.2)) (meeting_fits 64 text) (λ m fits. (fits.0, omega (arith, fits.1)))
 
-nose_fits : (job : JobData) (text : List ℕ) → Each (IsReason job) (nose_in (stage_count job) text)
+nose_fits : (job : JobData) (text : List ℕ) → Each (IsReasonInRange job) (nose_in (stage_count job) text)
 unfolding nose_in
-nose_fits job text = each_then (MeetingFits (stage_count job)) (IsReason job) (meeting_in (stage_count job) text) (λ m. Some (Nose m.0 m.1 m.2)) (meeting_fits (stage_count job) text) (λ m fits. fits)
+nose_fits job text = each_then (MeetingFits (stage_count job)) (IsReasonInRange job) (meeting_in (stage_count job) text) (λ m. Some (Nose m.0 m.1 m.2)) (meeting_fits (stage_count job) text) (λ m fits. fits)
 
-lower_fits : (job : JobData) (text : List ℕ) → Each (IsReason job) (lower_in text)
+lower_fits : (job : JobData) (text : List ℕ) → Each (IsReasonInRange job) (lower_in text)
 unfolding lower_in
-lower_fits job text = each_then (MeetingFits 64) (IsReason job) (meeting_in 64 text) (λ m. Some (Lower m.0 m.1 m.2)) (meeting_fits 64 text) (λ m fits. (fits.0, omega (arith, fits.1)))
+lower_fits job text = each_then (MeetingFits 64) (IsReasonInRange job) (meeting_in 64 text) (λ m. Some (Lower m.0 m.1 m.2)) (meeting_fits 64 text) (λ m fits. (fits.0, omega (arith, fits.1)))
 
-self_hit_fits : (job : JobData) (text : List ℕ) → Each (IsReason job) (self_hit_in text)
+self_hit_fits : (job : JobData) (text : List ℕ) → Each (IsReasonInRange job) (self_hit_in text)
 unfolding self_hit_in
-self_hit_fits job text = each_then (MeetingFits 25) (IsReason job) (meeting_in 25 text) (λ m. Some (SelfHit m.0 m.1 m.2)) (meeting_fits 25 text) (λ m fits. (fits.0, omega (arith, fits.1)))
+self_hit_fits job text = each_then (MeetingFits 25) (IsReasonInRange job) (meeting_in 25 text) (λ m. Some (SelfHit m.0 m.1 m.2)) (meeting_fits 25 text) (λ m fits. (fits.0, omega (arith, fits.1)))
 
-arguments_fit : (job : JobData) (kind : ℕ) (text : List ℕ) → Each (IsReason job) (arguments_in (stage_count job) kind text)
+arguments_fit : (job : JobData) (kind : ℕ) (text : List ℕ) → Each (IsReasonInRange job) (arguments_in (stage_count job) kind text)
 unfolding arguments_in
 arguments_fit job kind text =
-    each_if (IsReason job) (kind == 1) _ _ (each_end (IsReason job) Cover text tt)
-    (each_if (IsReason job) (kind == 2) _ _ (half_fits job text)
-    (each_if (IsReason job) (kind == 3) _ _ (box_fits job text)
-    (each_if (IsReason job) (kind == 4) _ _ (upper_fits job text)
-    (each_if (IsReason job) (kind == 5) _ _ (nose_fits job text)
-    (each_if (IsReason job) (kind == 6) _ _ (lower_fits job text)
-    (each_if (IsReason job) (kind == 7) _ _ (self_hit_fits job text)
-    (each_if (IsReason job) (kind == 8) _ _ (each_end (IsReason job) NoGauge text tt) (each_end (IsReason job) Load text tt))))))))
+    each_if (IsReasonInRange job) (kind == 1) _ _ (each_end (IsReasonInRange job) Cover text tt)
+    (each_if (IsReasonInRange job) (kind == 2) _ _ (half_fits job text)
+    (each_if (IsReasonInRange job) (kind == 3) _ _ (box_fits job text)
+    (each_if (IsReasonInRange job) (kind == 4) _ _ (upper_fits job text)
+    (each_if (IsReasonInRange job) (kind == 5) _ _ (nose_fits job text)
+    (each_if (IsReasonInRange job) (kind == 6) _ _ (lower_fits job text)
+    (each_if (IsReasonInRange job) (kind == 7) _ _ (self_hit_fits job text)
+    (each_if (IsReasonInRange job) (kind == 8) _ _ (each_end (IsReasonInRange job) NoGauge text tt) (each_end (IsReasonInRange job) Load text tt))))))))
 
-reason_fits : (job : JobData) (text : List ℕ) → Each (IsReason job) (reason_in (stage_count job) text)
+reason_fits : (job : JobData) (text : List ℕ) → Each (IsReasonInRange job) (reason_in (stage_count job) text)
 unfolding reason_in
-reason_fits job text = each_then Any (IsReason job) (count_at 1 10 text) (λ kind. arguments_in (stage_count job) kind.0 kind.1) (each_any (count_at 1 10 text)) (λ kind _. arguments_fit job kind.0 kind.1)
+reason_fits job text = each_then Any (IsReasonInRange job) (count_at 1 10 text) (λ kind. arguments_in (stage_count job) kind.0 kind.1) (each_any (count_at 1 10 text)) (λ kind _. arguments_fit job kind.0 kind.1)
 
 abbrev pub NoteWordsFit : JobData → Action × Reason → Type 0
-NoteWordsFit job note = IsActionOf job note.0 × IsReason job note.1
+NoteWordsFit job note = IsActionOf job note.0 × IsReasonInRange job note.1
 
 pub note_fits : (job : JobData) (text : List ℕ) → Each (NoteWordsFit job) (note_in (bend_count job) (stage_count job) text)
 unfolding note_in
 note_fits job text =
     each_then (λ (x : Action × List ℕ). IsActionOf job x.0) (NoteWordsFit job) (action_at (bend_count job) (stage_count job) text) (λ action. reason_in (stage_count job) action.1 >>= λ reason. Some (action.0, reason)) (action_fits job text)
-    (λ action is. each_then (IsReason job) (NoteWordsFit job) (reason_in (stage_count job) action.1) (λ reason. Some (action.0, reason)) (reason_fits job action.1) (λ reason fits. (is, fits)))
+    (λ action is. each_then (IsReasonInRange job) (NoteWordsFit job) (reason_in (stage_count job) action.1) (λ reason. Some (action.0, reason)) (reason_fits job action.1) (λ reason fits. (is, fits)))

@@ -20,7 +20,7 @@ use Rattle.brake_base.specs.declared.plane.Quarter.TheVariants.{Q1, Q2, Q3, Q4}
 use Rattle.brake_base.specs.declared.stroke.Half.{Half}
 use Rattle.brake_base.specs.declared.stroke.Half.TheVariants.{Back as BackHalf, Front as FrontHalf}
 use Rattle.std.proofs.Math.Nat.{pow-le-pow_right, mod-lt, div-lt_iff_lt-mul}
-use Rattle.brake_base.specs.Actions.{back_number, number_of}
+use Rattle.brake_base.specs.Actions.{back_number, number_of_action}
 use Rattle.brake_base.specs.Keys.{KeyIsBefore}
 use Rattle.brake_base.proofs.Actions.{split_number}
 use Rattle.job_setup.specs.Setup.{JobData, bend_count, stage_count}
@@ -34,7 +34,7 @@ use Rattle.plan_cert.specs.declared.cert.RowHead.{RowHead}
 use Rattle.plan_cert.specs.declared.cert.Note.{Note}
 use Rattle.plan_cert.specs.Lines.{CertLine, claim_line, step_line, row_line, note_line, number, back_word, half_word, worth_word, action_words, meeting_words, argument_words, reason_words, action_at, words_of}
 use Rattle.plan_cert.specs.CertText.{line_of_note, row_lines}
-use Rattle.plan_cert.specs.WellFormed.{IsWorth, IsActionOf, IsStep, IsRow, IsReason, IsNote, NoteIsBefore}
+use Rattle.plan_cert.specs.WellFormed.{IsWorth, IsActionOf, IsStep, IsRow, IsReasonInRange, IsNote, NoteIsBefore}
 use Rattle.plan_cert.specs.LineReading.{keyword_in, behind_keyword}
 use Rattle.plan_cert.specs.declared.item.CertFault.{CertFault}
 use Rattle.plan_cert.specs.Cert.{CertData}
@@ -48,12 +48,12 @@ use Rattle.plan_cert.proofs.WellRead.{IsSmall}
 use Rattle.plan_cert.proofs.TextLines.{ArePlain, ArePlainLines, plain_both, line_bytes}
 
 -- the line gives the item, and the next one stands there
-abbrev pub Gives : Format → JobData → Section → CertLine → Item → Section → Type 0
-Gives format job section line item next = take_plan_line format job section (keyword_in (line_bytes line)) (behind_keyword (line_bytes line)) ≡ Some (item, next)
+abbrev pub WrittenGives : Format → JobData → Section → CertLine → Item → Section → Type 0
+WrittenGives format job section line item next = take_plan_line format job section (keyword_in (line_bytes line)) (behind_keyword (line_bytes line)) ≡ Some (item, next)
 
 abbrev pub Goes : Format → JobData → Section → List CertLine → List Item → Section → Type 0
 Goes format job section [] [] end = section ≡ end
-Goes format job section (line ∷ lines) (item ∷ items) end = (next : Section) × Gives format job section line item next × Goes format job next lines items end
+Goes format job section (line ∷ lines) (item ∷ items) end = (next : Section) × WrittenGives format job section line item next × Goes format job next lines items end
 Goes format job section _ _ end = ⊥
 
 pub goes_both : (format : Format) (job : JobData) (a b c : Section) (ls ms : List CertLine) (is js : List Item) → Goes format job a ls is b → Goes format job b ms js c → Goes format job a (ls ++ ms) (is ++ js) c
@@ -62,15 +62,15 @@ goes_both format job a b c (l ∷ ls) ms (i ∷ is) js one two = (one.0, one.1, 
 goes_both format job a b c [] ms (i ∷ is) js one two = absurd one
 goes_both format job a b c (l ∷ ls) ms [] js one two = absurd one
 
-pub claim_gives : (format : Format) (job : JobData) (claim : Worth) → IsWorth claim → Gives format job sections.Claim (claim_line claim) (given.Claim claim) (behind_claim claim)
+pub claim_gives : (format : Format) (job : JobData) (claim : Worth) → IsWorth claim → WrittenGives format job sections.Claim (claim_line claim) (given.Claim claim) (behind_claim claim)
 unfolding take_plan_line take_plan_words take_claim
 claim_gives format job claim is = rw (claim_alone claim is) refl
 
-pub step_gives : (format : Format) (job : JobData) (steps : ℕ) (s : Step) → IsSmall job → steps < bend_count job → IsStep job s → Gives format job (sections.Steps steps) (step_line s) (given.Step s) (sections.Steps (steps + 1))
+pub step_gives : (format : Format) (job : JobData) (steps : ℕ) (s : Step) → IsSmall job → steps < bend_count job → IsStep job s → WrittenGives format job (sections.Steps steps) (step_line s) (given.Step s) (sections.Steps (steps + 1))
 unfolding take_plan_line take_plan_words take_step step_behind
 step_gives format job steps s small few is = rw (lt-ltb steps (bend_count job) few, step_alone job s small is) refl
 
-pub row_gives : (format : Format) (job : JobData) (section : Section) (r : RowHead) → IsSmall job → may_be_row format (bend_count job) section r.key ≡ true → IsRow job r → Gives format job section (row_line r) (given.Row r) (sections.Notes r.key 0)
+pub row_gives : (format : Format) (job : JobData) (section : Section) (r : RowHead) → IsSmall job → may_be_row format (bend_count job) section r.key ≡ true → IsRow job r → WrittenGives format job section (row_line r) (given.Row r) (sections.Notes r.key 0)
 unfolding take_plan_line take_plan_words take_row row_behind
 row_gives format job section r small may is = rw (row_alone job r small is, may) refl
 
@@ -95,12 +95,12 @@ may_behind format job last key least before = before_test last key before
 side_is : (n : ℕ) → back_number (if n % 2 == 0 then Parent else Child) ≡ n % 2
 side_is n = grind (arith, common_steps)
 
-number_back : (stages number : ℕ) → number_of stages (action_at stages number) ≡ number
+number_back : (stages number : ℕ) → number_of_action stages (action_at stages number) ≡ number
 number_back stages number = split_number stages number _ (side_is (number / stages))
 
 -- a note at a key
-pub note_gives : (format : Format) (job : JobData) (key : Key) (least number : ℕ) (reason : Reason) → IsSmall job → least ≤ number → IsActionOf job (action_at (stage_count job) number) → IsReason job reason → is_lead job key.mask (action_at (stage_count job) number).bend ≡ true
-    → Gives format job (sections.Notes key least) (note_line (action_at (stage_count job) number) reason) (given.Note number reason) (sections.Notes key (number + 1))
+pub note_gives : (format : Format) (job : JobData) (key : Key) (least number : ℕ) (reason : Reason) → IsSmall job → least ≤ number → IsActionOf job (action_at (stage_count job) number) → IsReasonInRange job reason → is_lead job key.mask (action_at (stage_count job) number).bend ≡ true
+    → WrittenGives format job (sections.Notes key least) (note_line (action_at (stage_count job) number) reason) (given.Note number reason) (sections.Notes key (number + 1))
 unfolding take_plan_line take_plan_words take_note note_behind noted
 note_gives format job key least number reason small more action is lead =
     let a = action_at (stage_count job) number in
@@ -139,7 +139,7 @@ action_plain job a small is = (number_plain a.bend (omega (arith, is.last, small
 meeting_plain : (box : ℕ) (q : Quarter) (other : ℕ) → box ≤ 24 → other < 64 → ArePlain (meeting_words box q other)
 meeting_plain box q other one two = (number_plain box (omega (arith, one)), (quarter_plain q, (number_plain other (omega (arith, two)), tt)))
 
-arguments_plain : (job : JobData) (r : Reason) → IsSmall job → IsReason job r → ArePlain (argument_words r)
+arguments_plain : (job : JobData) (r : Reason) → IsSmall job → IsReasonInRange job r → ArePlain (argument_words r)
 arguments_plain job Cover small is = tt
 arguments_plain job (Rest half) small is = (half_plain half, tt)
 arguments_plain job (Frame box) small is = (number_plain box (omega (arith, is)), tt)
@@ -170,7 +170,7 @@ row_plain job r small is =
     let masks : 2 ^ bend_count job ≤ 2 ^ 12 = pow-le-pow_right (omega arith) small.bends in
     (number_plain r.key.mask.0 (omega (arith, masks, is.mask)), (number_plain r.key.attitude (omega (arith, is.attitude)), (number_plain r.key.stage (omega (arith, is.stage, small.stages)), (worth_plain r.worth is.worth, tt))))
 
-note_plain : (job : JobData) (a : Action) (r : Reason) → IsSmall job → IsActionOf job a → IsReason job r → ArePlain (words_of (note_line a r))
+note_plain : (job : JobData) (a : Action) (r : Reason) → IsSmall job → IsActionOf job a → IsReasonInRange job r → ArePlain (words_of (note_line a r))
 note_plain job a r small action reason = plain_more (action_words a) (reason_words r) (action_plain job a small action) (number_plain (kind_of r) (kind_short r), arguments_plain job r small reason)
 
 -- the lines with their items: each line's words are plain, and it gives its item
@@ -210,7 +210,7 @@ of_row row note = note.row == row
 -- what holds of a note of a row with a key
 pub record FitsNote (job : JobData) (key : Key) (note : Note) : Type 0 where
   pub action : note.action < 2 * bend_count job * stage_count job
-  pub reason : IsReason job note.reason
+  pub reason : IsReasonInRange job note.reason
   pub lead : is_lead job key.mask (action_at (stage_count job) note.action).bend ≡ true
 
 -- the notes of a row, from the least action on

@@ -10,7 +10,7 @@ use Rattle.job_setup.specs.Setup.{JobData, bend_count}
 use Rattle.job_setup.specs.ValidJob.{IsJob}
 use Rattle.plan_cert.specs.declared.format.Format.{Format}
 use Rattle.plan_cert.specs.declared.format.Format.TheVariants.{Version1, Version2, Table}
-use Rattle.plan_cert.specs.declared.format.Kind.TheVariants.{Certificate}
+use Rattle.plan_cert.specs.declared.format.TextKind.TheVariants.{Certificate}
 use Rattle.plan_cert.specs.declared.item.Item.{Item}
 use Rattle.plan_cert.specs.declared.item.Item.TheVariants as given
 use Rattle.plan_cert.specs.declared.item.CertFault.{CertFault}
@@ -32,7 +32,7 @@ use Rattle.plan_cert.specs.Items.{next_number, is_over, end_before, end_or_fault
 use Rattle.plan_cert.specs.CertReading.{CertFileData, no_cert, with_step, with_note, with_item, is_last, cert_of, with_job, cert_file_of, version_in}
 use Rattle.plan_cert.proofs.JobDecided.{job_decided}
 use Rattle.plan_cert.proofs.PlanRanges.{Each}
-use Rattle.plan_cert.proofs.Follows.{MayBeRow, Follows, Gives, gives_line}
+use Rattle.plan_cert.proofs.Follows.{MayBeRow, Follows, LineGives, gives_line}
 use Rattle.plan_cert.proofs.WellRead.{StepsHold, Holds, IsSmall, step_added, note_number, holds_on, well_formed}
 use Rattle.plan_cert.proofs.ItemLists.{row_behind_rows, note_behind_rows}
 use Rattle.plan_cert.proofs.PlanItems.{plan_taken, plan_refused}
@@ -206,7 +206,7 @@ read_on format job n section cert final (line ∷ next ∷ more) small held e =
     on : is_over section ≡ false
     on = not_over job section cert held
 
-    by_taken : (taken : Option (Item × Section)) → take_plan_line format job section (keyword_in line) (behind_keyword line) ≡ taken → Each (Gives format job section) taken
+    by_taken : (taken : Option (Item × Section)) → take_plan_line format job section (keyword_in line) (behind_keyword line) ≡ taken → Each (LineGives format job section) taken
         → ((after : Section) (added : CertData) → Holds job after added → cert_of added (plan_items format job (next_number n) after (next ∷ more)) ≡ Ok final
         → ReadsAs job final (oks (so_far after added) ++ plan_items format job (next_number n) after (next ∷ more)))
         → ReadsAs job final (oks (so_far section cert) ++ plan_items format job n section (line ∷ next ∷ more))

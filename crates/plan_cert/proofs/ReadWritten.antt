@@ -9,8 +9,8 @@ use Rattle.plan_cert.specs.ExactTexts.{IsTextIn}
 use Rattle.plan_cert.specs.CertText.{cert_text2, lines_of_format, format_lines, plan_lines, cert_text1}
 use Rattle.plan_cert.specs.declared.format.Format.{Format}
 use Rattle.plan_cert.specs.declared.format.Format.TheVariants.{Version1, Version2, Table}
-use Rattle.plan_cert.specs.declared.format.Kind.{Kind}
-use Rattle.plan_cert.specs.declared.format.Kind.TheVariants.{Certificate}
+use Rattle.plan_cert.specs.declared.format.TextKind.{TextKind}
+use Rattle.plan_cert.specs.declared.format.TextKind.TheVariants.{Certificate}
 use Rattle.plan_cert.specs.declared.item.Item.{Item}
 use Rattle.plan_cert.specs.declared.item.Item.TheVariants as given
 use Rattle.plan_cert.specs.declared.item.CertFault.{CertFault}
@@ -58,7 +58,7 @@ put_together first own behind =
     ∙ ap (λ (ls : List (List ℕ)). ls ++ last) (sym (map-append line_bytes (first ∷ own ++ behind) (end_line ∷ [])))
 
 -- the text is the one of a format that has a text of this kind
-pub record HasFormat (kind : Kind) (job : JobData) (body : List Item) (text : List ℕ) : Type 0 where
+pub record HasFormat (kind : TextKind) (job : JobData) (body : List Item) (text : List ℕ) : Type 0 where
   pub format : Format
   pub named : format_of kind (line_bytes (format_line format)) ≡ Some format
   pub valid : IsJob job
@@ -73,7 +73,7 @@ section_open Version1 = refl
 section_open Version2 = refl
 section_open Table = refl
 
-pub items_have_format : (kind : Kind) (text : List ℕ) (job : JobData) (body : List Item) → items kind text ≡ Ok (given.Job job) ∷ (oks body ++ Ok given.End ∷ []) → HasFormat kind job body text
+pub items_have_format : (kind : TextKind) (text : List ℕ) (job : JobData) (body : List Item) → items kind text ≡ Ok (given.Job job) ∷ (oks body ++ Ok given.End ∷ []) → HasFormat kind job body text
 unfolding items
 items_have_format kind text job body e =
     let begins = lines_begin kind (lines_in text) job (oks body ++ Ok given.End ∷ []) e in

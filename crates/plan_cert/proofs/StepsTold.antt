@@ -25,7 +25,7 @@ use Rattle.plan_cert.specs.PlanReading.{are_enough, behind_claim, may_leave, tak
 use Rattle.plan_cert.specs.Items.{next_number, is_over, end_before, end_or_fault, plan_items}
 use Rattle.plan_cert.proofs.PlanItems.{plan_taken, plan_refused}
 use Rattle.plan_cert.proofs.PlanRanges.{Each}
-use Rattle.plan_cert.proofs.Follows.{Follows, Gives, gives_line}
+use Rattle.plan_cert.proofs.Follows.{Follows, LineGives, gives_line}
 use Rattle.plan_cert.proofs.WellRead.{IsSmall}
 use Rattle.plan_cert.proofs.ReadWell.{unended, body_items}
 use Rattle.plan_cert.proofs.PlanLinesSpelled.{ends_with}
@@ -79,7 +79,7 @@ first_stands format job n section (line ∷ next ∷ more) item answers small on
     by_item (given.Note action reason) after follows behind = record { next = after; rest = next ∷ more; follows = follows; behind = behind }
     by_item given.End after follows behind = absurd follows
 
-    by_taken : (taken : Option (Item × Section)) → take_plan_line format job section (keyword_in line) (behind_keyword line) ≡ taken → Each (Gives format job section) taken → StandsBy (is_last item) format job n section item answers
+    by_taken : (taken : Option (Item × Section)) → take_plan_line format job section (keyword_in line) (behind_keyword line) ≡ taken → Each (LineGives format job section) taken → StandsBy (is_last item) format job n section item answers
     by_taken (Some taken) found follows =
         let all : Ok taken.0 ∷ plan_items format job (next_number n) taken.1 (next ∷ more) ≡ Ok item ∷ answers = sym (plan_taken format job n section line (next ∷ more) taken on (omega arith) found) ∙ e in
         let same : taken.0 ≡ item = cc in

@@ -7,7 +7,7 @@ use Rattle.job_setup.specs.Setup.{JobData, bend_count, stage_count}
 use Rattle.job_setup.specs.ValidJob.{IsJob}
 use Rattle.plan_cert.specs.CertText.{lines_of_format, format_lines}
 use Rattle.plan_cert.specs.declared.format.Format.{Format}
-use Rattle.plan_cert.specs.declared.format.Kind.{Kind}
+use Rattle.plan_cert.specs.declared.format.TextKind.{TextKind}
 use Rattle.plan_cert.specs.declared.format.Format.TheVariants.{Version1, Version2, Table}
 use Rattle.plan_cert.specs.declared.item.Item.{Item}
 use Rattle.plan_cert.specs.declared.item.Item.TheVariants as given
@@ -36,7 +36,7 @@ use Rattle.plan_cert.proofs.JobWritten.{job_run}
 use Rattle.plan_cert.proofs.PlanWritten.{Goes, Follow, oks}
 use Rattle.plan_cert.proofs.JobItems.{good_any, stopped_any, judged_by}
 use Rattle.plan_cert.proofs.PlanRanges.{Each}
-use Rattle.plan_cert.proofs.Follows.{Follows, Gives as FollowsGives, gives_line}
+use Rattle.plan_cert.proofs.Follows.{Follows, LineGives as FollowsGives, gives_line}
 
 -- lines that run are taken before others
 pub some_more : (lines : List CertLine) (rest : List (List ℕ)) → 0 < length rest → 0 < length (map line_bytes lines ++ rest)
@@ -126,7 +126,7 @@ format_plain Version2 = (refl, tt)
 format_plain Table = (refl, tt)
 
 -- the text gives the job, the items, and the end
-pub text_given : (kind : Kind) (format : Format) (job : JobData) (lines : List CertLine) (items' : List Item) → format_of kind (line_bytes (format_line format)) ≡ Some format → IsJob job → JobIn format job → Behind format job lines items'
+pub text_given : (kind : TextKind) (format : Format) (job : JobData) (lines : List CertLine) (items' : List Item) → format_of kind (line_bytes (format_line format)) ≡ Some format → IsJob job → JobIn format job → Behind format job lines items'
     → items kind (lines_text (format_lines format job lines)) ≡ Ok (given.Job job) ∷ (oks items' ++ Ok given.End ∷ [])
 unfolding items
 text_given kind format job lines items' named valid tells behind =

@@ -11,8 +11,8 @@ use Rattle.brake_base.specs.declared.stroke.Worth.TheVariants.{Blocked}
 use Rattle.job_setup.specs.Setup.{JobData, bend_count, stage_count}
 use Rattle.plan_cert.specs.declared.format.Format.{Format}
 use Rattle.plan_cert.specs.declared.format.Format.TheVariants.{Version1, Version2, Table}
-use Rattle.plan_cert.specs.declared.format.Kind.{Kind}
-use Rattle.plan_cert.specs.declared.format.Kind.TheVariants.{Certificate, Table as TableKind}
+use Rattle.plan_cert.specs.declared.format.TextKind.{TextKind}
+use Rattle.plan_cert.specs.declared.format.TextKind.TheVariants.{Certificate, Table as TableKind}
 use Rattle.plan_cert.specs.declared.item.Item.{Item}
 use Rattle.plan_cert.specs.declared.item.Item.TheVariants as given
 use Rattle.plan_cert.specs.declared.item.CertFault.{CertFault}
@@ -76,7 +76,7 @@ job_first n s (line ∷ next ∷ more) item answers e = by_taken (take_line s li
     by_taken (Some t) first e = first t e
     by_taken None first e = judged_first n s line (next ∷ more) item answers e
 
-lines_first : (kind : Kind) (lines : List (List ℕ)) (item : Item) (answers : List (Result Item CertFault)) → items_of_lines kind lines ≡ Ok item ∷ answers → IsJobItem item
+lines_first : (kind : TextKind) (lines : List (List ℕ)) (item : Item) (answers : List (Result Item CertFault)) → items_of_lines kind lines ≡ Ok item ∷ answers → IsJobItem item
 lines_first kind [] item answers e = absurd (no_answer item answers e)
 lines_first kind (line ∷ []) item answers e = absurd (refused faults.Unended item answers e)
 lines_first kind (line ∷ next ∷ more) item answers e = by_format (format_of kind line) e
@@ -85,17 +85,17 @@ lines_first kind (line ∷ next ∷ more) item answers e = by_format (format_of 
     by_format (Some f) e = job_first 2 (no_lines f) (next ∷ more) item answers e
     by_format None e = absurd (refused (faults.BadLine 1) item answers e)
 
-items_first : (kind : Kind) (text : List ℕ) (item : Item) (answers : List (Result Item CertFault)) → items kind text ≡ Ok item ∷ answers → IsJobItem item
+items_first : (kind : TextKind) (text : List ℕ) (item : Item) (answers : List (Result Item CertFault)) → items kind text ≡ Ok item ∷ answers → IsJobItem item
 unfolding items
 items_first kind text item answers e = lines_first kind (lines_in text) item answers e
 
 -- so a text with an end has a job before it
-record BeginsWithJob (kind : Kind) (text : List ℕ) : Type 0 where
+record BeginsWithJob (kind : TextKind) (text : List ℕ) : Type 0 where
   job : JobData
   body : List Item
   are : items kind text ≡ Ok (given.Job job) ∷ ends_with body
 
-job_before : (kind : Kind) (text : List ℕ) (body : List Item) → items kind text ≡ ends_with body → BeginsWithJob kind text
+job_before : (kind : TextKind) (text : List ℕ) (body : List Item) → items kind text ≡ ends_with body → BeginsWithJob kind text
 job_before kind text [] e = let first = items_first kind text given.End [] e in absurd (no_job first.0 first.1)
   where
     no_job : (job : JobData) → given.End ≡ given.Job job → ⊥
@@ -115,7 +115,7 @@ collected cert (item ∷ body) = by_test (is_last item) (collected (with_item ce
     by_test false more = more
 
 -- items up to the end, as they are collected
-to_end : (kind : Kind) (text : List ℕ) (end : IsReadToEnd kind text) → items kind text ≡ ends_with end.0
+to_end : (kind : TextKind) (text : List ℕ) (end : IsReadToEnd kind text) → items kind text ≡ ends_with end.0
 to_end kind text end = end.1 ∙ map-append Ok end.0 (given.End ∷ [])
 
 cert_of_ends : (text : List ℕ) → IsReadToEnd Certificate text → (file : CertFileData) × IsTextOf file text

@@ -15,7 +15,7 @@ use Rattle.handling_cost.proofs.Pigeonhole.{at_most}
 use Rattle.plan_cert.specs.FirstVersion.{HasStepForEach, HasText1}
 use Rattle.plan_cert.specs.declared.format.Format.{Format}
 use Rattle.plan_cert.specs.declared.format.Format.TheVariants.{Version1, Version2, Table}
-use Rattle.plan_cert.specs.declared.format.Kind.TheVariants.{Certificate}
+use Rattle.plan_cert.specs.declared.format.TextKind.TheVariants.{Certificate}
 use Rattle.plan_cert.specs.declared.item.Item.{Item}
 use Rattle.plan_cert.specs.declared.item.Item.TheVariants as given
 use Rattle.plan_cert.specs.declared.item.CertFault.{CertFault}

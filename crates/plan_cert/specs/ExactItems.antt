@@ -3,8 +3,8 @@ use Rattle.std.specs.Prelude.{◌≡◌, ℕ, List, [], ◌∷◌, ◌++◌, map
 use Rattle.job_setup.specs.Setup.{JobData}
 use Rattle.plan_cert.specs.declared.cert.RowHead.{RowHead}
 use Rattle.plan_cert.specs.declared.cert.Note.{Note}
-use Rattle.plan_cert.specs.declared.format.Kind.{Kind}
-use Rattle.plan_cert.specs.declared.format.Kind.TheVariants as kinds
+use Rattle.plan_cert.specs.declared.format.TextKind.{TextKind}
+use Rattle.plan_cert.specs.declared.format.TextKind.TheVariants as kinds
 use Rattle.plan_cert.specs.declared.item.Item.{Item}
 use Rattle.plan_cert.specs.declared.item.Item.TheVariants.{End}
 use Rattle.plan_cert.specs.Items.{items}
@@ -13,7 +13,7 @@ use Rattle.plan_cert.specs.CertItems.{cert_items, table_items}
 use Rattle.plan_cert.specs.ExactTexts.{IsTextOf, IsTableText}
 
 -- the answers are items up to and with the end, and no refusal
-abbrev pub IsReadToEnd : Kind → List ℕ → Type 0
+abbrev pub IsReadToEnd : TextKind → List ℕ → Type 0
 IsReadToEnd kind text = (body : List Item) × (items kind text ≡ map Ok (body ++ End ∷ []))
 
 -- exactly a certificate's text is read to its end, and its items are the certificate's

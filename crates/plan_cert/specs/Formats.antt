@@ -1,7 +1,7 @@
 -- The formats that are read, and the first line, which names one.
 use Rattle.std.specs.Prelude.{ℕ, Bool, true, false, List, bytes_eq, codes, Option, Some, None, if◌then◌else◌}
-use Rattle.plan_cert.specs.declared.format.Kind.{Kind}
-use Rattle.plan_cert.specs.declared.format.Kind.TheVariants.{Certificate, Table as TableKind}
+use Rattle.plan_cert.specs.declared.format.TextKind.{TextKind}
+use Rattle.plan_cert.specs.declared.format.TextKind.TheVariants.{Certificate, Table as TableKind}
 use Rattle.plan_cert.specs.declared.format.Format.{Format}
 use Rattle.plan_cert.specs.declared.format.Format.TheVariants.{Version1, Version2, Table}
 
@@ -16,7 +16,7 @@ abbrev pub table_of : List ℕ → Option Format
 table_of line = if bytes_eq line (codes "brake-table 1") then Some Table else None
 
 -- the format that the first line of a text of this kind names
-abbrev pub format_of : Kind → List ℕ → Option Format
+abbrev pub format_of : TextKind → List ℕ → Option Format
 format_of Certificate line = version_of line
 format_of TableKind line = table_of line
 

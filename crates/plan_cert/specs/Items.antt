@@ -3,7 +3,7 @@ use Rattle.std.specs.Prelude.{ℕ, ◌+◌, ◌-◌, ◌^◌, min, Bool, true, f
 use Rattle.std.specs.List.{slice_split}
 use Rattle.job_setup.specs.Setup.{JobData, bend_count, stage_count}
 use Rattle.brake_text.specs.Lines.{is_line_feed}
-use Rattle.plan_cert.specs.declared.format.Kind.{Kind}
+use Rattle.plan_cert.specs.declared.format.TextKind.{TextKind}
 use Rattle.plan_cert.specs.declared.format.Format.{Format}
 use Rattle.plan_cert.specs.declared.section.Section.{Section}
 use Rattle.plan_cert.specs.declared.section.Section.TheVariants as sections
@@ -79,7 +79,7 @@ job_items n lines (line ∷ next ∷ more) = elim (take_line lines line) [
 ]
 
 -- the items of the lines of a text
-abbrev pub items_of_lines : Kind → List (List ℕ) → List (Result Item CertFault)
+abbrev pub items_of_lines : TextKind → List (List ℕ) → List (Result Item CertFault)
 items_of_lines kind [] = []
 items_of_lines kind (line ∷ []) = Err faults.Unended ∷ []
 items_of_lines kind (line ∷ next ∷ more) = elim (format_of kind line) [
@@ -88,5 +88,5 @@ items_of_lines kind (line ∷ next ∷ more) = elim (format_of kind line) [
 ]
 
 -- the items of a text, up to and with its end, or up to and with the refusal
-unfoldable pub items : Kind → List ℕ → List (Result Item CertFault)
+unfoldable pub items : TextKind → List ℕ → List (Result Item CertFault)
 items kind text = items_of_lines kind (lines_in text)

@@ -17,7 +17,7 @@ use Rattle.tool_library.specs.ToolsFile.{is_body_box, is_section}
 use Rattle.machine_file.specs.declared.bounds.TheConstants.{MOST_FRAMES, MOST_BOXES, MOST_STAGES, MOST_PIECES, LEAST_PIECE, GREATEST_PIECE, GREATEST_UNCOVERED, GREATEST_LENGTH, LEAST_FINGER, GREATEST_COST, GREATEST_FORCE}
 use Rattle.machine_file.specs.declared.machine.GaugeRule.{GaugeRule}
 use Rattle.machine_file.specs.declared.machine.Costs.{Costs}
-use Rattle.machine_file.specs.Machine.{farthest}
+use Rattle.machine_file.specs.Machine.{coordinate_limit}
 use Rattle.machine_file.specs.MachineFile.{is_fixed}
 use Rattle.job_setup.specs.Setup.{StageData, SetupData, JobData}
 use Rattle.job_setup.specs.Stages.{total}
@@ -63,7 +63,7 @@ has_bare_tools s = ((length s.punch.sections == 0) && (length s.die.sections == 
 -- the stage is as long as its pieces
 abbrev pub has_pieces : StageData → Bool
 has_pieces s =
-    (is_within (neg_ℤ farthest) farthest s.x0 && int_eq s.x1 (s.x0 +ℤ total s.pieces))
+    (is_within (neg_ℤ coordinate_limit) coordinate_limit s.x0 && int_eq s.x1 (s.x0 +ℤ total s.pieces))
     && (nat_lt 0 (length s.pieces) && (nat_le (length s.pieces) MOST_PIECES && list_all (is_within LEAST_PIECE GREATEST_PIECE) s.pieces))
 
 abbrev pub has_loads : StageData → Bool
@@ -88,12 +88,12 @@ are_costs c =
     && ((nat_le c.half GREATEST_COST && nat_le c.flip GREATEST_COST) && (nat_le c.roll GREATEST_COST && nat_le c.stage GREATEST_COST))
 
 abbrev pub is_bed_range : ℤ × ℤ → Bool
-is_bed_range range = is_range (neg_ℤ farthest) farthest range.0 range.1
+is_bed_range range = is_range (neg_ℤ coordinate_limit) coordinate_limit range.0 range.1
 
 abbrev pub are_fixtures : SetupData → Bool
 are_fixtures s =
     (list_all is_bed_range s.frames && nat_le (length s.frames) MOST_FRAMES)
-    && ((list_all (is_fixed (pos 0) farthest) s.upper && nat_le (length s.upper) MOST_BOXES) && (list_all (is_fixed (neg_ℤ farthest) (pos 0)) s.lower && nat_le (length s.lower) MOST_BOXES))
+    && ((list_all (is_fixed (pos 0) coordinate_limit) s.upper && nat_le (length s.upper) MOST_BOXES) && (list_all (is_fixed (neg_ℤ coordinate_limit) (pos 0)) s.lower && nat_le (length s.lower) MOST_BOXES))
 
 abbrev pub are_rules : SetupData → Bool
 are_rules s = (is_bed_range s.bed && (is_gauge_rule s.gauge && are_costs s.cost)) && (is_within (pos 0) GREATEST_UNCOVERED s.uncovered && is_within (pos 0) GREATEST_FORCE s.force)

@@ -5,7 +5,7 @@ use Rattle.brake_base.specs.declared.stroke.Key.{Key}
 use Rattle.brake_base.specs.declared.stroke.Worth.{Worth}
 use Rattle.brake_base.specs.declared.stroke.Worth.TheVariants.{Cost, Blocked}
 use Rattle.brake_base.specs.declared.reason.Reason.{Reason}
-use Rattle.brake_base.specs.Actions.{number_of}
+use Rattle.brake_base.specs.Actions.{number_of_action}
 use Rattle.job_setup.specs.Setup.{JobData, bend_count, stage_count}
 use Rattle.job_setup.specs.StrokeGroup.{is_lead}
 use Rattle.plan_cert.specs.declared.format.Format.{Format}
@@ -68,7 +68,7 @@ take_row format job section text = row_behind format (bend_count job) (stage_cou
 
 -- a reason against an action at a key, where the next note's number is at least the least
 unfoldable pub noted : JobData → Key → ℕ → Action → Reason → Option (Item × Section)
-noted job key least action reason = let number = number_of (stage_count job) action in
+noted job key least action reason = let number = number_of_action (stage_count job) action in
     only_if (nat_le least number && is_lead job key.mask action.bend) (Some (given.Note number reason, sections.Notes key (number + 1)))
 
 unfoldable pub note_behind : JobData → ℕ → ℕ → Key → ℕ → List ℕ → Option (Item × Section)

@@ -2,7 +2,7 @@
 use Rattle.std.specs.Prelude.{◌≡◌, ℕ, Bool, true, false, ◌&&◌, nat_lt, List, [], ◌∷◌, Option, Some, None, Result, Ok, Err}
 use Rattle.job_setup.specs.Setup.{JobData}
 use Rattle.job_setup.specs.ValidJob.{IsJob}
-use Rattle.plan_cert.specs.declared.format.Kind.{Kind}
+use Rattle.plan_cert.specs.declared.format.TextKind.{TextKind}
 use Rattle.plan_cert.specs.declared.item.Item.{Item}
 use Rattle.plan_cert.specs.declared.item.Item.TheVariants as given
 use Rattle.plan_cert.specs.declared.item.CertFault.{CertFault}
@@ -18,7 +18,7 @@ use Rattle.plan_cert.specs.Items.{items, lines_in, plan_items}
 
 -- what is read, its text, and the number of answers so far
 pub record Reading : Type 0 where
-  pub kind : Kind
+  pub kind : TextKind
   pub text : List ℕ
   pub answered : ℕ
 
@@ -33,12 +33,12 @@ abbrev pub LeavesIn : Section → Stand → List (Result Item CertFault) → Typ
 LeavesIn sections.Over stand answers = answers ≡ []
 LeavesIn _ stand answers = LeavesPlan stand answers
 
-abbrev pub LeavesBy : Bool → Kind → Stand → List (Result Item CertFault) → Type 0
+abbrev pub LeavesBy : Bool → TextKind → Stand → List (Result Item CertFault) → Type 0
 LeavesBy false kind stand answers = answers ≡ items kind stand.rest.now
 LeavesBy true kind stand answers = LeavesIn stand.section stand answers
 
 -- these answers are left from a place on
-abbrev pub Leaves : Kind → Stand → List (Result Item CertFault) → Type 0
+abbrev pub Leaves : TextKind → Stand → List (Result Item CertFault) → Type 0
 Leaves kind stand answers = LeavesBy stand.is_begun kind stand answers
 
 -- the job was read or refused exactly where an answer was given
@@ -46,8 +46,8 @@ abbrev pub IsBegun : ℕ → Bool → Type 0
 IsBegun answered begun = begun ≡ nat_lt 0 answered
 
 -- the first of the answers is given, and the others are left
-abbrev pub Gives : List (Result Item CertFault) → Result Item CertFault → Stand → Type 0
-Gives answers given stand = (more : List (Result Item CertFault)) × (answers ≡ given ∷ more) × (stand.is_begun ≡ true) × HasFew stand.facts × LeavesIn stand.section stand more
+abbrev pub GivesNext : List (Result Item CertFault) → Result Item CertFault → Stand → Type 0
+GivesNext answers given stand = (more : List (Result Item CertFault)) × (answers ≡ given ∷ more) × (stand.is_begun ≡ true) × HasFew stand.facts × LeavesIn stand.section stand more
 
 -- the next line is no job line that may stand behind the job lines, or there is no whole one
 abbrev pub Stops : JobLinesData → List (List ℕ) → Type 0

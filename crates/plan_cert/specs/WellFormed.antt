@@ -44,22 +44,22 @@ pub record IsRow (job : JobData) (row : RowHead) : Type 0 where
   pub worth : IsWorth row.worth
 
 -- a box has a number of 0 to 24, an obstacle one of 0 to 63, a stage one of the job
-abbrev pub IsReason : JobData → Reason → Type 0
-IsReason job Cover = Unit {0}
-IsReason job (Rest half) = Unit {0}
-IsReason job (Frame box) = box ≤ 24
-IsReason job (Upper box quarter index) = (box ≤ 24) × (index ≤ 63)
-IsReason job (Nose box quarter stage) = (box ≤ 24) × (stage < stage_count job)
-IsReason job (Lower box quarter index) = (box ≤ 24) × (index ≤ 63)
-IsReason job (SelfHit box quarter other) = (box ≤ 24) × (other ≤ 24)
-IsReason job NoGauge = Unit {0}
-IsReason job Load = Unit {0}
+abbrev pub IsReasonInRange : JobData → Reason → Type 0
+IsReasonInRange job Cover = Unit {0}
+IsReasonInRange job (Rest half) = Unit {0}
+IsReasonInRange job (Frame box) = box ≤ 24
+IsReasonInRange job (Upper box quarter index) = (box ≤ 24) × (index ≤ 63)
+IsReasonInRange job (Nose box quarter stage) = (box ≤ 24) × (stage < stage_count job)
+IsReasonInRange job (Lower box quarter index) = (box ≤ 24) × (index ≤ 63)
+IsReasonInRange job (SelfHit box quarter other) = (box ≤ 24) × (other ≤ 24)
+IsReasonInRange job NoGauge = Unit {0}
+IsReasonInRange job Load = Unit {0}
 
 -- a reason against an action at a row, on the lead of a stroke there
 pub record IsNote (job : JobData) (rows : List RowHead) (note : Note) : Type 0 where
   pub row : note.row < length rows
   pub action : note.action < 2 * bend_count job * stage_count job
-  pub reason : IsReason job note.reason
+  pub reason : IsReasonInRange job note.reason
   pub lead : (d : RowHead) → IsTrue (is_lead job (slice_index_or rows note.row d).key.mask (action_at (stage_count job) note.action).bend)
 
 -- notes stand in the order of their rows, then of their actions

@@ -2,7 +2,7 @@
 ghost use Rattle.std.specs.Prelude.{◌≡◌, ◌⊎◌, ◌+◌, ◌-◌, ◌^◌, min, ◌<◌, ◌≤◌, ℕ, [], ◌∷◌, ◌++◌, drop, length, Result, Ok, Err, OnOk, OnErr, IfOk, IfErr};
 ghost use Rattle.toml_fields.specs.Results.{GivesOr};
 ghost use Rattle.plan_cert.specs.declared.item.CertFault.TheVariants.{NoMemory};
-ghost use Rattle.plan_cert.specs.declared.format.Kind.TheVariants.{Certificate};
+ghost use Rattle.plan_cert.specs.declared.format.TextKind.TheVariants.{Certificate};
 ghost use Rattle.plan_cert.specs.Cert.{cert_data};
 ghost use Rattle.plan_cert.specs.Items.{items};
 ghost use Rattle.plan_cert.specs.PlanItem.{item_of};

@@ -4,7 +4,7 @@ ghost use Rattle.plan_cert.specs.Formats.{version_of, table_of, format_of, has_l
 
 /// What is read: a certificate, in either version, or a table file.
 #[derive(Clone, Copy, Debug, PartialEq, Eq)]
-pub enum Kind {
+pub enum TextKind {
     Certificate,
     Table,
 }
@@ -27,12 +27,12 @@ impl Format {
 }
 
 /// The format that the first line of a text of this kind names.
-pub(crate) fn format_of(kind: Kind, line: &[u8]) -> Option<Format>
+pub(crate) fn format_of(kind: TextKind, line: &[u8]) -> Option<Format>
     ensures { result ≡ format_of kind line.now }
 {
     match kind {
-        Kind::Certificate => version_of(line),
-        Kind::Table => table_of(line),
+        TextKind::Certificate => version_of(line),
+        TextKind::Table => table_of(line),
     }
 }
 

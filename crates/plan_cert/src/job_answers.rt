@@ -4,9 +4,9 @@ ghost use Rattle.plan_cert.specs.Facts.{HasFew};
 ghost use Rattle.plan_cert.specs.JobLines.{job_lines_data, no_lines};
 ghost use Rattle.plan_cert.specs.Items.{items, lines_in, items_behind, job_items};
 ghost use Rattle.plan_cert.specs.PlanItem.{job_answer};
-ghost use Rattle.plan_cert.specs.Reading.{Gives, GivesJob, IsJudged, Stops};
+ghost use Rattle.plan_cert.specs.Reading.{GivesNext, GivesJob, IsJudged, Stops};
 
-use crate::format::{Format, Kind, format_of};
+use crate::format::{Format, TextKind, format_of};
 use crate::item::CertFault;
 use crate::job_facts::JobFacts;
 use crate::job_reading::JobLines;
@@ -68,7 +68,7 @@ fn judged_job<'a>(
     requires { HasFew stand.old.facts }
     ensures { (behind : List (List ℕ))
         → lines_in rest.now ≡ line.now ∷ behind
-        → Gives (items_behind number (job_lines_data lines) line.now behind)
+        → GivesNext (items_behind number (job_lines_data lines) line.now behind)
         (job_answer result) stand.new }
 {
     let format = lines.format;
@@ -88,7 +88,7 @@ fn judged_job<'a>(
 /// The job, or a refusal, behind the line of the format.
 fn job_in<'a>(stand: &mut Stand<'a>, format: Format, text: &'a [u8]) -> Result<Job, CertFault>
     requires { HasFew stand.old.facts }
-    ensures { Gives (job_items 2 (no_lines format) (lines_in text.now))
+    ensures { GivesNext (job_items 2 (no_lines format) (lines_in text.now))
         (job_answer result) stand.new }
 {
     let mut lines = JobLines::new(format);
@@ -100,9 +100,9 @@ fn job_in<'a>(stand: &mut Stand<'a>, format: Format, text: &'a [u8]) -> Result<J
 }
 
 /// The first answer: the job, or a refusal.
-pub(crate) fn first_answer(kind: Kind, stand: &mut Stand) -> Result<Job, CertFault>
+pub(crate) fn first_answer(kind: TextKind, stand: &mut Stand) -> Result<Job, CertFault>
     requires { HasFew stand.old.facts }
-    ensures { Gives (items kind stand.old.rest.now) (job_answer result) stand.new }
+    ensures { GivesNext (items kind stand.old.rest.now) (job_answer result) stand.new }
 {
     match whole_line(stand.rest) {
         Some((line, rest)) => match format_of(kind, line) {

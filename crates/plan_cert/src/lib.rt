@@ -28,7 +28,7 @@ mod writing;
 
 pub use cert::{Cert, Note, RowHead};
 pub use cert_reading::{CertFile, read_cert};
-pub use format::Kind;
+pub use format::TextKind;
 pub use item::{CertFault, Item, PlanItem};
 pub use job_lines::write_job;
 pub use reader::CertReader;

@@ -5,7 +5,7 @@ ghost use Rattle.plan_cert.specs.declared.item.Item.{Item};
 ghost use Rattle.plan_cert.specs.Facts.{KeepsFacts, HasFew};
 ghost use Rattle.plan_cert.specs.Items.{lines_in, end_before, end_or_fault, plan_item};
 ghost use Rattle.plan_cert.specs.PlanItem.{plan_answer};
-ghost use Rattle.plan_cert.specs.Reading.{LeavesIn, Gives};
+ghost use Rattle.plan_cert.specs.Reading.{LeavesIn, GivesNext};
 
 use crate::item::{CertFault, PlanItem};
 use crate::job_facts::JobFacts;
@@ -23,7 +23,7 @@ pub(crate) fn answer_behind_job<'a>(
     requires few { HasFew stand.old.facts }
     ensures { (answers : List (Result Item CertFault))
         → LeavesIn stand.old.section stand.old answers → 0 < length answers
-        → Gives answers (plan_answer result) stand.new }
+        → GivesNext answers (plan_answer result) stand.new }
 {
     match known_line(known, &stand.facts, &stand.section, stand.rest) {
         Some((item, section, rest)) => {
@@ -42,7 +42,7 @@ fn read_answer<'a>(stand: &mut Stand<'a>, known: &mut KnownNotes<'a>) -> Result<
     requires few { HasFew stand.old.facts }
     ensures { (answers : List (Result Item CertFault))
         → LeavesIn stand.old.section stand.old answers → 0 < length answers
-        → Gives answers (plan_answer result) stand.new }
+        → GivesNext answers (plan_answer result) stand.new }
 {
     match whole_line(stand.rest) {
         Some((line, rest)) => {

@@ -3,7 +3,7 @@ ghost use Rattle.std.specs.Prelude.{◌≡◌, ◌+◌, ◌<◌, length, slice_g
 ghost use Rattle.plan_cert.specs.Items.{items};
 ghost use Rattle.plan_cert.specs.PlanItem.{plan_answer, job_answer};
 
-use crate::format::Kind;
+use crate::format::TextKind;
 use crate::item::{CertFault, Item, PlanItem};
 use crate::job_answers::first_answer;
 use crate::job_facts::JobFacts;
@@ -18,7 +18,7 @@ use std::marker::Model;
 /// and how many answers it gave. It takes no memory.
 #[derive(Drop)]
 pub struct CertReader<'a> {
-    kind: Kind,
+    kind: TextKind,
     text: &'a [u8],
     answered: u64,
     stand: Stand<'a>,
@@ -62,19 +62,19 @@ fn item_behind_job(answer: Result<PlanItem, CertFault>) -> Result<Item, CertFaul
 impl<'a> CertReader<'a> {
     /// A reader of a certificate, in version 1 or 2.
     pub fn new(text: &'a [u8]) -> Self
-        ensures { result ≡ record { kind = Kind.Certificate; text = text.now; answered = 0 } }
+        ensures { result ≡ record { kind = TextKind.Certificate; text = text.now; answered = 0 } }
     {
-        CertReader::of(Kind::Certificate, text)
+        CertReader::of(TextKind::Certificate, text)
     }
 
     /// A reader of a table file.
     pub fn table(text: &'a [u8]) -> Self
-        ensures { result ≡ record { kind = Kind.Table; text = text.now; answered = 0 } }
+        ensures { result ≡ record { kind = TextKind.Table; text = text.now; answered = 0 } }
     {
-        CertReader::of(Kind::Table, text)
+        CertReader::of(TextKind::Table, text)
     }
 
-    fn of(kind: Kind, text: &'a [u8]) -> Self
+    fn of(kind: TextKind, text: &'a [u8]) -> Self
         ensures { result ≡ record { kind = kind; text = text.now; answered = 0 } }
     {
         CertReader {

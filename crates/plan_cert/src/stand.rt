@@ -3,7 +3,7 @@ ghost use Rattle.std.specs.Prelude.{◌≡◌, ◌≢◌, ◌+◌, ◌<◌, ℕ,
 ghost use Rattle.brake_text.specs.Lines.{is_line_feed};
 ghost use Rattle.plan_cert.specs.Facts.{HasFew};
 ghost use Rattle.plan_cert.specs.Items.{lines_in, next_number};
-ghost use Rattle.plan_cert.specs.Reading.{Gives};
+ghost use Rattle.plan_cert.specs.Reading.{GivesNext};
 
 use crate::item::CertFault;
 use crate::job_facts::JobFacts;
@@ -51,7 +51,7 @@ pub(crate) fn next_number(number: u32) -> u32
 /// Refuses the text, so that no answer is left behind the fault.
 pub(crate) fn refuse(stand: &mut Stand, fault: CertFault) -> CertFault
     requires { HasFew stand.old.facts }
-    ensures { Gives (Err fault ∷ []) (Err result) stand.new }
+    ensures { GivesNext (Err fault ∷ []) (Err result) stand.new }
 {
     stand.is_begun = true;
     stand.section = Section::Over;

@@ -2,15 +2,15 @@
 use Rattle.std.specs.Prelude.{◌≡◌, ◌≢◌, ℕ, ◌/◌, ◌%◌, ◌==◌, Bool, true, if◌then◌else◌, List, [], Option, None, slice_index_or, ◌⊎◌}
 use Rattle.std.specs.Int.{bit_at}
 use Rattle.brake_base.specs.declared.reason.Reason.{Reason}
-use Rattle.row_pool.specs.declared.note.Note.{Note}
+use Rattle.row_pool.specs.declared.kept_reason.KeptReason.{KeptReason}
 use Rattle.row_pool.specs.declared.notes.Notes.{Notes}
 use Rattle.row_pool.specs.Notes.{noted_at}
 
 -- the marks, sixteen in a number, the notes of the common places, and the places' own
 pub record NotesData : Type 0 where
   pub marks : List ℕ
-  pub common : List Note
-  pub own : List Note
+  pub common : List KeptReason
+  pub own : List KeptReason
 
 -- all three
 abbrev pub notes_data : Notes → NotesData
@@ -33,5 +33,5 @@ abbrev pub IsHeld : NotesData → ℕ → ℕ → Type 0
 IsHeld notes common place = is_marked notes.marks place ≡ true → noted_at notes.common common ≢ None
 
 -- no note changes but one that wasn't set
-abbrev pub StandsAfter : List Note → List Note → ℕ → Type 0
+abbrev pub StandsAfter : List KeptReason → List KeptReason → ℕ → Type 0
 StandsAfter before after place = (k : ℕ) → (noted_at after k ≡ noted_at before k) ⊎ ((k ≡ place) × (noted_at before k ≡ None))

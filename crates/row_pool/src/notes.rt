@@ -4,7 +4,7 @@ ghost use Rattle.std.specs.Prelude.{◌≡◌, ◌<◌, ◌≤◌, ◌+◌, ◌/
 ghost use Rattle.row_pool.specs.Notes.{noted_at};
 ghost use Rattle.row_pool.specs.Kept.{is_marked, notes_data, no_notes, reason_in, IsHeld, StandsAfter};
 
-use crate::note::Note;
+use crate::kept_reason::KeptReason;
 use brake_base::Reason;
 use std::alloc::{AllocError, Global};
 
@@ -20,9 +20,9 @@ pub struct Notes {
     /// was set.
     pub marks: Vec<u16>,
     /// The reasons of the common places, up to the last that was set.
-    pub common: Vec<Note>,
+    pub common: Vec<KeptReason>,
     /// The reasons of the places that aren't marked, up to the last of them that was set.
-    pub own: Vec<Note>,
+    pub own: Vec<KeptReason>,
 }
 
 /// Fills a list up with a value, so that the place is in it.
@@ -49,7 +49,7 @@ fn is_same(first: Reason, second: Reason) -> bool
 
 /// Whether the reason of a common place is this one. Where the place has none yet, it is this one
 /// from now on.
-fn is_common(common: &mut Vec<Note>, place: usize, reason: Reason) -> bool
+fn is_common(common: &mut Vec<KeptReason>, place: usize, reason: Reason) -> bool
     requires place { place < vec_len common.old }
     ensures yes { IsTrue result → noted_at common.new.items place ≡ Some reason }
     ensures stands { StandsAfter common.old.items common.new.items place }
@@ -59,14 +59,14 @@ fn is_common(common: &mut Vec<Note>, place: usize, reason: Reason) -> bool
     match common[place].reason() {
         Some(first) => is_same(first, reason),
         None => {
-            common[place] = Note::of(reason);
+            common[place] = KeptReason::of(reason);
             true
         }
     }
 }
 
 /// Notes the reason of a place, unless the place has the common one.
-fn set_own(own: &mut Vec<Note>, place: usize, reason: Reason, is_common: bool)
+fn set_own(own: &mut Vec<KeptReason>, place: usize, reason: Reason, is_common: bool)
     requires room { place < vec_capacity own.old }
     ensures here { is_common ≡ false → noted_at own.new.items place ≡ Some reason }
     ensures others { (k : ℕ) → (k ≡ place → ⊥)
@@ -77,12 +77,12 @@ fn set_own(own: &mut Vec<Note>, place: usize, reason: Reason, is_common: bool)
     if is_common {
         return;
     }
-    fill(own, place, Note::Unset);
-    own[place] = Note::of(reason);
+    fill(own, place, KeptReason::Unset);
+    own[place] = KeptReason::of(reason);
 }
 
 /// The reason that was noted at a place. None where none was, as past the last note.
-fn noted_in(notes: &[Note], place: usize) -> Option<Reason>
+fn noted_in(notes: &[KeptReason], place: usize) -> Option<Reason>
     ensures { result ≡ noted_at notes.now place }
 {
     match notes.get(place) {
@@ -196,7 +196,7 @@ impl Notes {
         ensures common_memory { vec_capacity self.new.common ≡ vec_capacity self.old.common }
         ensures own_memory { vec_capacity self.new.own ≡ vec_capacity self.old.own }
     {
-        fill(&mut self.common, common, Note::Unset);
+        fill(&mut self.common, common, KeptReason::Unset);
         let is_common = is_common(&mut self.common, common, reason);
         set_mark(&mut self.marks, place, is_common);
         set_own(&mut self.own, place, reason, is_common);

@@ -1,15 +1,15 @@
 -- A command that stores a text, and may answer in two ways.
 use Rattle.std.specs.Prelude.{◌≡◌, ◌⊎◌, ℕ, List, [], ◌∷◌, codes}
-use Rattle.command_runner.specs.declared.kind.Kind.{Kind}
-use Rattle.command_runner.specs.declared.kind.Kind.TheVariants.{Literal, Input, Output}
-use Rattle.command_runner.specs.declared.kind.Keyword.TheVariants.{Plan}
+use Rattle.command_runner.specs.declared.word_kind.WordKind.{WordKind}
+use Rattle.command_runner.specs.declared.word_kind.WordKind.TheVariants.{Literal, Input, Output}
+use Rattle.command_runner.specs.declared.word_kind.Keyword.TheVariants.{Plan}
 use Rattle.command_runner.specs.declared.status.Status.TheVariants.{Done}
 use Rattle.command_runner.specs.Answers.{AnswerData}
 use Rattle.command_runner.specs.Fetching.{word_at}
 use Rattle.command_runner.specs.Ends.{Meaning}
 
 -- `plan PART OUT`
-abbrev pub sample_form : List Kind
+abbrev pub sample_form : List WordKind
 sample_form = Literal Plan ∷ Input ∷ Output ∷ []
 
 -- this mark is stored under OUT, and is put before the content of the file

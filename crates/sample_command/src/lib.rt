@@ -12,7 +12,7 @@ ghost use Rattle.command_runner.specs.declared.status.Status.TheVariants.{Done};
 ghost use Rattle.sample_command.specs.Sample.{sample_form, marked, IsSampleAnswer};
 
 use brake_io::{Shelf, Sink};
-use command_runner::{Answer, Command, Keyword, Kind, Status, StoredText, run};
+use command_runner::{Answer, Command, Keyword, Status, StoredText, WordKind, run};
 use std::alloc::{AllocError, Global};
 
 /// `plan PART OUT`: it stores a mark under OUT, and puts the mark and the content of PART.
@@ -57,8 +57,12 @@ impl Command for Sample {
 
     ghost meaning = { λ _. IsSampleAnswer };
 
-    fn kinds(&self) -> &'static [Kind] {
-        &[Kind::Literal(Keyword::Plan), Kind::Input, Kind::Output]
+    fn kinds(&self) -> &'static [WordKind] {
+        &[
+            WordKind::Literal(Keyword::Plan),
+            WordKind::Input,
+            WordKind::Output,
+        ]
     }
 
     fn answer(

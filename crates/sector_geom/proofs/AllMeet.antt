@@ -9,9 +9,9 @@ use Rattle.sector_geom.specs.declared.special_points.Bound.TheVariants.{AtMost, 
 use Rattle.sector_geom.specs.Plane.{Point, cross_of, norm_of, numerators, Holds, HasInterior}
 use Rattle.sector_geom.specs.Clear.{IsInWedge, IsOnRay, IsOnSide, IsOnLevel}
 use Rattle.sector_geom.specs.Clear.IsSpecial.{corner, lower_side, upper_side, lower_level, upper_level, foot_on_side, foot_on_level, origin}
-use Rattle.sector_geom.specs.SpecialPoints.{IsMet, PointIsMet, PointsAreMet, CrossingsAreMet, AllMeet}
+use Rattle.sector_geom.specs.SpecialPoints.{IsBoundMet, PointMeetsBound, PointsAreMet, CrossingsAreMet, AllMeet}
 use Rattle.sector_geom.proofs.Turns.{over}
-use Rattle.sector_geom.proofs.Crossings.{IsMet-scaled}
+use Rattle.sector_geom.proofs.Crossings.{IsBoundMet-scaled}
 
 one : pos 0 <ℤ pos 1
 one = omega (arith, signs)
@@ -37,9 +37,9 @@ in_wedge l u p y z d pd ey ez w = record {
         ∙ ap (λ x. pos 0 -ℤ (u.0 *ℤ x -ℤ u.1 *ℤ (y *ℤ d))) (sym ez) ∙ ap (λ x. pos 0 -ℤ (u.0 *ℤ p.1 -ℤ u.1 *ℤ x)) (sym ey)
 
 -- It meets the bound where the point does.
-point_met : (s : Sector) (bound : Bound) (p : Point) (y z d : ℤ) → pos 0 <ℤ d → p.0 ≡ y *ℤ d → p.1 ≡ z *ℤ d → PointIsMet s bound (y, z) → IsInWedge s.lower s.upper p → IsMet bound p d
+point_met : (s : Sector) (bound : Bound) (p : Point) (y z d : ℤ) → pos 0 <ℤ d → p.0 ≡ y *ℤ d → p.1 ≡ z *ℤ d → PointMeetsBound s bound (y, z) → IsInWedge s.lower s.upper p → IsBoundMet bound p d
 point_met s bound p y z d pd ey ez met w =
-    IsMet-scaled bound p (y, z) d (pos 1) one (sym (times_one p.0) ∙ ey) (sym (times_one p.1) ∙ ez) (met (in_wedge s.lower s.upper p y z d pd ey ez w))
+    IsBoundMet-scaled bound p (y, z) d (pos 1) one (sym (times_one p.0) ∙ ey) (sym (times_one p.1) ∙ ez) (met (in_wedge s.lower s.upper p y z d pd ey ez w))
 
 -- y and z in each other's place.
 abbrev swap : Point → Point
@@ -54,9 +54,9 @@ IsOnRay-swap ray p h = record {
 norm-swap : (p : Point) → norm_of (swap p) ≡ norm_of p
 norm-swap p = ring (p.0 ∷ p.1 ∷ []) (var 1 ⊗ var 1 ⊕ var 0 ⊗ var 0) (var 0 ⊗ var 0 ⊕ var 1 ⊗ var 1) tt
 
-IsMet-swap : (bound : Bound) (p : Point) (d : ℤ) → IsMet bound (swap p) d → IsMet bound p d
-IsMet-swap (AtMost n) p d h = rw (norm-swap p) at h
-IsMet-swap (AtLeast n) p d h = rw (norm-swap p) at h
+IsBoundMet-swap : (bound : Bound) (p : Point) (d : ℤ) → IsBoundMet bound (swap p) d → IsBoundMet bound p d
+IsBoundMet-swap (AtMost n) p d h = rw (norm-swap p) at h
+IsBoundMet-swap (AtLeast n) p d h = rw (norm-swap p) at h
 
 -- A side or a level that holds a point below or above 0 does so itself.
 below : (a d x : ℤ) → pos 0 <ℤ d → x ≡ pos 0 → (a *ℤ d) ≤ℤ x → a ≤ℤ pos 0
@@ -78,7 +78,7 @@ origin_in_wedge l u p y z = record { after_lower = le_of_same (sym (zero l)); be
 pub all_meet_in : (s : Sector) (r : Rect) (bound : Bound) → PointsAreMet s r bound → CrossingsAreMet s r bound → AllMeet s.lower s.upper r bound
 all_meet_in s r bound m x p h (corner side level w) = at_corner side level
   where
-    at_corner : IsOnSide r p → IsOnLevel r p → IsMet bound (numerators p) p.d
+    at_corner : IsOnSide r p → IsOnLevel r p → IsBoundMet bound (numerators p) p.d
     at_corner (inl y) (inl z) = point_met s bound (numerators p) r.y0 r.z0 p.d h.positive y z m.0.0.0 w
     at_corner (inl y) (inr z) = point_met s bound (numerators p) r.y0 r.z1 p.d h.positive y z m.0.0.1 w
     at_corner (inr y) (inl z) = point_met s bound (numerators p) r.y1 r.z0 p.d h.positive y z m.0.1.0 w
@@ -87,10 +87,10 @@ all_meet_in s r bound m x p h (lower_side (inl y) on across) = x.0.0.0 (numerato
 all_meet_in s r bound m x p h (lower_side (inr y) on across) = x.0.0.1 (numerators p) p.d h.positive y h.low h.high on across
 all_meet_in s r bound m x p h (upper_side (inl y) on across) = x.1.0.0 (numerators p) p.d h.positive y h.low h.high on across
 all_meet_in s r bound m x p h (upper_side (inr y) on across) = x.1.0.1 (numerators p) p.d h.positive y h.low h.high on across
-all_meet_in s r bound m x p h (lower_level (inl z) on across) = IsMet-swap bound (numerators p) p.d (x.0.1.0 (p.z, p.y) p.d h.positive z h.left h.right (IsOnRay-swap s.lower (numerators p) on) across)
-all_meet_in s r bound m x p h (lower_level (inr z) on across) = IsMet-swap bound (numerators p) p.d (x.0.1.1 (p.z, p.y) p.d h.positive z h.left h.right (IsOnRay-swap s.lower (numerators p) on) across)
-all_meet_in s r bound m x p h (upper_level (inl z) on across) = IsMet-swap bound (numerators p) p.d (x.1.1.0 (p.z, p.y) p.d h.positive z h.left h.right (IsOnRay-swap s.upper (numerators p) on) across)
-all_meet_in s r bound m x p h (upper_level (inr z) on across) = IsMet-swap bound (numerators p) p.d (x.1.1.1 (p.z, p.y) p.d h.positive z h.left h.right (IsOnRay-swap s.upper (numerators p) on) across)
+all_meet_in s r bound m x p h (lower_level (inl z) on across) = IsBoundMet-swap bound (numerators p) p.d (x.0.1.0 (p.z, p.y) p.d h.positive z h.left h.right (IsOnRay-swap s.lower (numerators p) on) across)
+all_meet_in s r bound m x p h (lower_level (inr z) on across) = IsBoundMet-swap bound (numerators p) p.d (x.0.1.1 (p.z, p.y) p.d h.positive z h.left h.right (IsOnRay-swap s.lower (numerators p) on) across)
+all_meet_in s r bound m x p h (upper_level (inl z) on across) = IsBoundMet-swap bound (numerators p) p.d (x.1.1.0 (p.z, p.y) p.d h.positive z h.left h.right (IsOnRay-swap s.upper (numerators p) on) across)
+all_meet_in s r bound m x p h (upper_level (inr z) on across) = IsBoundMet-swap bound (numerators p) p.d (x.1.1.1 (p.z, p.y) p.d h.positive z h.left h.right (IsOnRay-swap s.upper (numerators p) on) across)
 all_meet_in s r bound m x p h (foot_on_side (inl y) z w) =
     point_met s bound (numerators p) r.y0 (pos 0) p.d h.positive y (no_multiple p.z p.d z) (m.1.0.1 (below r.z0 p.d p.z h.positive z h.low) (above r.z1 p.d p.z h.positive z h.high)).0 w
 all_meet_in s r bound m x p h (foot_on_side (inr y) z w) =
@@ -146,13 +146,13 @@ points_met s r bound i all = (
     level y z (inl e) = inl (e ∙ times_one r.z0)
     level y z (inr e) = inr (e ∙ times_one r.z1)
 
-    at_corner : (y z : ℤ) → (y ≡ r.y0) ⊎ (y ≡ r.y1) → (z ≡ r.z0) ⊎ (z ≡ r.z1) → PointIsMet s bound (y, z)
+    at_corner : (y z : ℤ) → (y ≡ r.y0) ⊎ (y ≡ r.y1) → (z ≡ r.z0) ⊎ (z ≡ r.z1) → PointMeetsBound s bound (y, z)
     at_corner y z ey ez w = all (over (y, z) (pos 1)) (holds r y z (in_y y ey).0 (in_y y ey).1 (in_z z ez).0 (in_z z ez).1) (corner (side y z ey) (level y z ez) w)
 
-    on_level : (z : ℤ) → (z ≡ r.z0) ⊎ (z ≡ r.z1) → r.y0 ≤ℤ pos 0 → pos 0 ≤ℤ r.y1 → PointIsMet s bound (pos 0, z)
+    on_level : (z : ℤ) → (z ≡ r.z0) ⊎ (z ≡ r.z1) → r.y0 ≤ℤ pos 0 → pos 0 ≤ℤ r.y1 → PointMeetsBound s bound (pos 0, z)
     on_level z ez a b w = all (over (pos 0, z) (pos 1)) (holds r (pos 0) z a b (in_z z ez).0 (in_z z ez).1) (foot_on_level (level (pos 0) z ez) refl w)
 
-    on_side : (y : ℤ) → (y ≡ r.y0) ⊎ (y ≡ r.y1) → r.z0 ≤ℤ pos 0 → pos 0 ≤ℤ r.z1 → PointIsMet s bound (y, pos 0)
+    on_side : (y : ℤ) → (y ≡ r.y0) ⊎ (y ≡ r.y1) → r.z0 ≤ℤ pos 0 → pos 0 ≤ℤ r.z1 → PointMeetsBound s bound (y, pos 0)
     on_side y ey a b w = all (over (y, pos 0) (pos 1)) (holds r y (pos 0) (in_y y ey).0 (in_y y ey).1 a b) (foot_on_side (side y (pos 0) ey) refl w)
 
 -- An edge between two others.
@@ -181,8 +181,8 @@ crossings_met s r bound i all = (
       λ p d pd e l h on across. all (over p d) (held_on_side r p d r.y1 pd wide (same r.y1) e l h) (lower_side (inr e) on across),
     ),
     (
-      λ p d pd e l h on across. IsMet-swap bound p d (all (over (swap p) d) (held_on_level r (swap p) d r.z0 pd (same r.z0) high e l h) (lower_level (inl e) (IsOnRay-swap (swap s.lower) p on) across)),
-      λ p d pd e l h on across. IsMet-swap bound p d (all (over (swap p) d) (held_on_level r (swap p) d r.z1 pd high (same r.z1) e l h) (lower_level (inr e) (IsOnRay-swap (swap s.lower) p on) across)),
+      λ p d pd e l h on across. IsBoundMet-swap bound p d (all (over (swap p) d) (held_on_level r (swap p) d r.z0 pd (same r.z0) high e l h) (lower_level (inl e) (IsOnRay-swap (swap s.lower) p on) across)),
+      λ p d pd e l h on across. IsBoundMet-swap bound p d (all (over (swap p) d) (held_on_level r (swap p) d r.z1 pd high (same r.z1) e l h) (lower_level (inr e) (IsOnRay-swap (swap s.lower) p on) across)),
     ),
   ),
   (
@@ -191,8 +191,8 @@ crossings_met s r bound i all = (
       λ p d pd e l h on across. all (over p d) (held_on_side r p d r.y1 pd wide (same r.y1) e l h) (upper_side (inr e) on across),
     ),
     (
-      λ p d pd e l h on across. IsMet-swap bound p d (all (over (swap p) d) (held_on_level r (swap p) d r.z0 pd (same r.z0) high e l h) (upper_level (inl e) (IsOnRay-swap (swap s.upper) p on) across)),
-      λ p d pd e l h on across. IsMet-swap bound p d (all (over (swap p) d) (held_on_level r (swap p) d r.z1 pd high (same r.z1) e l h) (upper_level (inr e) (IsOnRay-swap (swap s.upper) p on) across)),
+      λ p d pd e l h on across. IsBoundMet-swap bound p d (all (over (swap p) d) (held_on_level r (swap p) d r.z0 pd (same r.z0) high e l h) (upper_level (inl e) (IsOnRay-swap (swap s.upper) p on) across)),
+      λ p d pd e l h on across. IsBoundMet-swap bound p d (all (over (swap p) d) (held_on_level r (swap p) d r.z1 pd high (same r.z1) e l h) (upper_level (inr e) (IsOnRay-swap (swap s.upper) p on) across)),
     ),
   ),
 )

@@ -10,11 +10,11 @@ use Rattle.sector_geom.specs.declared.special_points.Bound.TheVariants.{AtMost, 
 use Rattle.sector_geom.specs.declared.special_points.Crossing.{Crossing}
 use Rattle.sector_geom.specs.Plane.{Point}
 use Rattle.sector_geom.specs.Clear.{IsOnRay}
-use Rattle.sector_geom.specs.SpecialPoints.{IsMet, IsCrossing, IsRayInRange, MissesLine, IsBetween, EdgeIsMet}
+use Rattle.sector_geom.specs.SpecialPoints.{IsBoundMet, IsCrossing, IsRayInRange, MissesLine, IsBetween, EdgeIsMet}
 
 -- The same point under two denominators
-pub IsMet-scaled : (b : Bound) (p q : Point) (d e : ℤ) → pos 0 <ℤ e → (p.0 *ℤ e ≡ q.0 *ℤ d) → (p.1 *ℤ e ≡ q.1 *ℤ d) → IsMet b q e → IsMet b p d
-IsMet-scaled (AtMost n) p q d e pe y z h =
+pub IsBoundMet-scaled : (b : Bound) (p q : Point) (d e : ℤ) → pos 0 <ℤ e → (p.0 *ℤ e ≡ q.0 *ℤ d) → (p.1 *ℤ e ≡ q.1 *ℤ d) → IsBoundMet b q e → IsBoundMet b p d
+IsBoundMet-scaled (AtMost n) p q d e pe y z h =
     let E = var 0 in let N = var 1 in let D = var 2 in let Y = var 3 in let Z = var 4 in
     le_from (nonneg_by_factor (positive-mul pe pe) (nonneg_as
     (ring (e ∷ n ∷ d ∷ p.0 ∷ p.1 ∷ []) (E ⊗ E ⊗ (N ⊗ (D ⊗ D) ⊖ (Y ⊗ Y ⊕ Z ⊗ Z))) (E ⊗ E ⊗ (N ⊗ (D ⊗ D)) ⊖ ((Y ⊗ E) ⊗ (Y ⊗ E) ⊕ (Z ⊗ E) ⊗ (Z ⊗ E))) tt
@@ -22,7 +22,7 @@ IsMet-scaled (AtMost n) p q d e pe y z h =
     ∙ ap (λ x. e *ℤ e *ℤ (n *ℤ (d *ℤ d)) -ℤ ((q.0 *ℤ d) *ℤ (q.0 *ℤ d) +ℤ x *ℤ x)) z
     ∙ ring (e ∷ n ∷ d ∷ q.0 ∷ q.1 ∷ []) (E ⊗ E ⊗ (N ⊗ (D ⊗ D)) ⊖ ((Y ⊗ D) ⊗ (Y ⊗ D) ⊕ (Z ⊗ D) ⊗ (Z ⊗ D))) (D ⊗ D ⊗ (N ⊗ (E ⊗ E) ⊖ (Y ⊗ Y ⊕ Z ⊗ Z))) tt)
     (nonneg-mul (nonneg-square d) (le_to h))))
-IsMet-scaled (AtLeast n) p q d e pe y z h =
+IsBoundMet-scaled (AtLeast n) p q d e pe y z h =
     let E = var 0 in let N = var 1 in let D = var 2 in let Y = var 3 in let Z = var 4 in
     le_from (nonneg_by_factor (positive-mul pe pe) (nonneg_as
     (ring (e ∷ n ∷ d ∷ p.0 ∷ p.1 ∷ []) (E ⊗ E ⊗ ((Y ⊗ Y ⊕ Z ⊗ Z) ⊖ N ⊗ (D ⊗ D))) (((Y ⊗ E) ⊗ (Y ⊗ E) ⊕ (Z ⊗ E) ⊗ (Z ⊗ E)) ⊖ E ⊗ E ⊗ (N ⊗ (D ⊗ D))) tt
@@ -74,9 +74,9 @@ none_met ray at range b (inr behind) p d pd y _ _ h n =
     zero_clash (ring xs ((B ⊗ B ⊕ (A ⊗ S) ⊗ (A ⊗ S)) ⊗ (B ⊗ D) ⊕ (A ⊗ R) ⊗ (A ⊗ R) ⊗ F) ((A ⊗ A ⊗ R ⊗ S) ⊗ (R ⊗ Z ⊖ S ⊗ (A ⊗ D))) tt ∙ ap (λ x. (at *ℤ at *ℤ ray.0 *ℤ ray.1) *ℤ x) along ∙ *ℤ-zero (at *ℤ at *ℤ ray.0 *ℤ ray.1))
     (positive-add (positive-mul (positive-add (positive-mul pn pn) (nonneg-square (at *ℤ ray.1))) (positive-mul pn pd)) (nonneg-mul (nonneg-square (at *ℤ ray.0)) forward))
 
-pub crossing_met : (ray : Point) (at : ℤ) (range : Point) (b : Bound) (s : Crossing) → IsCrossing ray at s → IsBetween range s.z s.d → (IsMet b (s.y, s.z) s.d → EdgeIsMet ray at range b) × (EdgeIsMet ray at range b → IsMet b (s.y, s.z) s.d)
+pub crossing_met : (ray : Point) (at : ℤ) (range : Point) (b : Bound) (s : Crossing) → IsCrossing ray at s → IsBetween range s.z s.d → (IsBoundMet b (s.y, s.z) s.d → EdgeIsMet ray at range b) × (EdgeIsMet ray at range b → IsBoundMet b (s.y, s.z) s.d)
 crossing_met ray at range b s o i = (
-  λ m p d pd y l h r n. let e = met_once ray at p (s.y, s.z) d s.d n y o.on_line r o.on_ray in IsMet-scaled b p (s.y, s.z) d s.d o.positive e.0 e.1 m,
+  λ m p d pd y l h r n. let e = met_once ray at p (s.y, s.z) d s.d n y o.on_line r o.on_ray in IsBoundMet-scaled b p (s.y, s.z) d s.d o.positive e.0 e.1 m,
   λ all. all (s.y, s.z) s.d o.positive o.on_line i.0 i.1 o.on_ray o.across,
 )
 

@@ -13,12 +13,12 @@ use Rattle.sector_geom.specs.Plane.{Holds, HasInterior, IsInRange}
 use Rattle.algebra.proofs.Widths.{abs_in, abs_out}
 use Rattle.std.proofs.lemmas.Option.{cond_some}
 use Rattle.std.proofs.Common.{◌≤◌, ◌^◌, unsigned_abs}
-use Rattle.sector_geom.specs.Pieces.{lowered_by, raised_by, widened_by, HoldsAll, LiesIn, part_in, with_interior, piece_of, pieces_of, SomeHolds, HoldTogether}
+use Rattle.sector_geom.specs.Pieces.{start_widened_by, end_widened_by, widened_by, HoldsAll, LiesIn, part_in, with_interior, piece_of, pieces_of, SomeHolds, HoldTogether}
 
-lowered_below : (by low : ℤ) → pos 0 ≤ℤ by → lowered_by by low ≤ℤ low
+lowered_below : (by low : ℤ) → pos 0 ≤ℤ by → start_widened_by by low ≤ℤ low
 lowered_below by low h = grind (arith, ints, clamps)
 
-raised_above : (by high : ℤ) → pos 0 ≤ℤ by → high ≤ℤ raised_by by high
+raised_above : (by high : ℤ) → pos 0 ≤ℤ by → high ≤ℤ end_widened_by by high
 raised_above by high h = grind (arith, ints, clamps)
 
 times_le : (a b d : ℤ) → pos 0 <ℤ d → a ≤ℤ b → (a *ℤ d) ≤ℤ (b *ℤ d)
@@ -27,8 +27,8 @@ times_le a b d pd h = le_from (nonneg_as (ring (a ∷ b ∷ d ∷ []) (var 1 ⊗
 pub widened_holds : (by : ℤ) (r : Rect) → pos 0 ≤ℤ by → HoldsAll (widened_by by r) r
 widened_holds by r h p held = record {
   positive = held.positive;
-  left = omega (arith, signs, times_le (lowered_by by r.y0) r.y0 p.d held.positive (lowered_below by r.y0 h), held.left);
-  right = omega (arith, signs, times_le r.y1 (raised_by by r.y1) p.d held.positive (raised_above by r.y1 h), held.right);
+  left = omega (arith, signs, times_le (start_widened_by by r.y0) r.y0 p.d held.positive (lowered_below by r.y0 h), held.left);
+  right = omega (arith, signs, times_le r.y1 (end_widened_by by r.y1) p.d held.positive (raised_above by r.y1 h), held.right);
   low = held.low;
   high = held.high;
 }

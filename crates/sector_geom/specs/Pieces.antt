@@ -8,16 +8,16 @@ use Rattle.brake_base.specs.declared.plane.Quarter.TheVariants.{Q1, Q2, Q3, Q4}
 use Rattle.sector_geom.specs.Plane.{Holds, HasInterior}
 
 -- The lower end of a range, lowered by so much, but not below 0 where it isn't below 0.
-abbrev pub lowered_by : ℤ → ℤ → ℤ
-lowered_by by low = if int_le (pos 0) low then int_max (low -ℤ by) (pos 0) else low -ℤ by
+abbrev pub start_widened_by : ℤ → ℤ → ℤ
+start_widened_by by low = if int_le (pos 0) low then int_max (low -ℤ by) (pos 0) else low -ℤ by
 
 -- The upper end, raised by so much, but not above 0 where it isn't above 0.
-abbrev pub raised_by : ℤ → ℤ → ℤ
-raised_by by high = if int_le high (pos 0) then int_min (high +ℤ by) (pos 0) else high +ℤ by
+abbrev pub end_widened_by : ℤ → ℤ → ℤ
+end_widened_by by high = if int_le high (pos 0) then int_min (high +ℤ by) (pos 0) else high +ℤ by
 
 -- The rectangle grown by so much at both ends of its range of y, but not past y = 0 where it lies on one side of it.
 abbrev pub widened_by : ℤ → Rect → Rect
-widened_by by r = record { y0 = lowered_by by r.y0; y1 = raised_by by r.y1; z0 = r.z0; z1 = r.z1 }
+widened_by by r = record { y0 = start_widened_by by r.y0; y1 = end_widened_by by r.y1; z0 = r.z0; z1 = r.z1 }
 
 -- The first rectangle holds each point of the second.
 abbrev pub HoldsAll : Rect → Rect → Type 0

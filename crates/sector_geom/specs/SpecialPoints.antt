@@ -28,21 +28,21 @@ pub record IsCrossingInRange (c : Crossing) : Type 0 where
   pub d : unsigned_abs c.d ≤ 2 ^ 31
 
 -- The point (y/d, z/d) is as far from the origin as it is to be.
-abbrev pub IsMet : Bound → Point → ℤ → Type 0
-IsMet (AtMost n) p d = norm_of p ≤ℤ (n *ℤ (d *ℤ d))
-IsMet (AtLeast n) p d = (n *ℤ (d *ℤ d)) ≤ℤ norm_of p
+abbrev pub IsBoundMet : Bound → Point → ℤ → Type 0
+IsBoundMet (AtMost n) p d = norm_of p ≤ℤ (n *ℤ (d *ℤ d))
+IsBoundMet (AtLeast n) p d = (n *ℤ (d *ℤ d)) ≤ℤ norm_of p
 
 -- Each special point is.
 abbrev pub AllMeet : Point → Point → Rect → Bound → Type 0
-AllMeet lower upper r bound = (p : Rat2) → Holds r p → IsSpecial lower upper r p → IsMet bound (numerators p) p.d
+AllMeet lower upper r bound = (p : Rat2) → Holds r p → IsSpecial lower upper r p → IsBoundMet bound (numerators p) p.d
 
 -- The point is, where it lies in the wedge.
-abbrev pub PointIsMet : Sector → Bound → Point → Type 0
-PointIsMet s bound p = IsInWedge s.lower s.upper p → IsMet bound p (pos 1)
+abbrev pub PointMeetsBound : Sector → Bound → Point → Type 0
+PointMeetsBound s bound p = IsInWedge s.lower s.upper p → IsBoundMet bound p (pos 1)
 
 -- Two points are.
 abbrev pub PairIsMet : Sector → Bound → Point → Point → Type 0
-PairIsMet s bound p q = PointIsMet s bound p × PointIsMet s bound q
+PairIsMet s bound p q = PointMeetsBound s bound p × PointMeetsBound s bound q
 
 -- The four corners are.
 abbrev pub CornersAreMet : Sector → Rect → Bound → Type 0
@@ -61,7 +61,7 @@ FeetAreMet s r bound = LevelFeetAreMet s r bound × SideFeetAreMet s r bound
 
 -- The origin is, where the rectangle holds it.
 abbrev pub OriginIsMet : Sector → Rect → Bound → Type 0
-OriginIsMet s r bound = r.y0 ≤ℤ pos 0 → pos 0 ≤ℤ r.y1 → r.z0 ≤ℤ pos 0 → pos 0 ≤ℤ r.z1 → PointIsMet s bound (pos 0, pos 0)
+OriginIsMet s r bound = r.y0 ≤ℤ pos 0 → pos 0 ≤ℤ r.y1 → r.z0 ≤ℤ pos 0 → pos 0 ≤ℤ r.z1 → PointMeetsBound s bound (pos 0, pos 0)
 
 abbrev pub AxisPointsAreMet : Sector → Rect → Bound → Type 0
 AxisPointsAreMet s r bound = FeetAreMet s r bound × OriginIsMet s r bound
@@ -72,7 +72,7 @@ PointsAreMet s r bound = CornersAreMet s r bound × AxisPointsAreMet s r bound
 -- The point is where the ray meets the edge on the line y = at, over the range of z, which it doesn't run along.
 abbrev pub EdgeIsMet : Point → ℤ → Point → Bound → Type 0
 EdgeIsMet ray at range bound =
-    (p : Point) (d : ℤ) → pos 0 <ℤ d → p.0 ≡ at *ℤ d → (range.0 *ℤ d) ≤ℤ p.1 → p.1 ≤ℤ (range.1 *ℤ d) → IsOnRay ray p → (ray.0 ≢ pos 0) → IsMet bound p d
+    (p : Point) (d : ℤ) → pos 0 <ℤ d → p.0 ≡ at *ℤ d → (range.0 *ℤ d) ≤ℤ p.1 → p.1 ≤ℤ (range.1 *ℤ d) → IsOnRay ray p → (ray.0 ≢ pos 0) → IsBoundMet bound p d
 
 -- On two lines.
 abbrev pub LinesAreMet : Point → Point → Point → Bound → Type 0

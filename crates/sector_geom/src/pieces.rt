@@ -2,7 +2,7 @@
 
 ghost use Rattle.std.specs.Prelude.{◌≡◌, pos, ◌≤◌, ◌^◌, ◌≤ℤ◌, unsigned_abs};
 ghost use Rattle.sector_geom.specs.Plane.{Holds, IsInRange};
-ghost use Rattle.sector_geom.specs.Pieces.{lowered_by, raised_by, widened_by, with_interior, pieces_of, HoldTogether, HoldsAll};
+ghost use Rattle.sector_geom.specs.Pieces.{start_widened_by, end_widened_by, widened_by, with_interior, pieces_of, HoldTogether, HoldsAll};
 
 use brake_base::Rect;
 
@@ -26,7 +26,7 @@ fn lowered(low: i64, by: i64) -> i64
     requires low { unsigned_abs low ≤ 2 ^ 30 }
     requires not_negative { pos 0 ≤ℤ by }
     requires by_in_range { by ≤ℤ pos (2 ^ 30) }
-    ensures value { result ≡ lowered_by by low }
+    ensures value { result ≡ start_widened_by by low }
 {
     if low >= 0 {
         (low - by).max(0)
@@ -39,7 +39,7 @@ fn raised(high: i64, by: i64) -> i64
     requires high { unsigned_abs high ≤ 2 ^ 30 }
     requires not_negative { pos 0 ≤ℤ by }
     requires by_in_range { by ≤ℤ pos (2 ^ 30) }
-    ensures value { result ≡ raised_by by high }
+    ensures value { result ≡ end_widened_by by high }
 {
     if high <= 0 {
         (high + by).min(0)

@@ -3,7 +3,7 @@
 ghost use Rattle.std.specs.Prelude.{◌≡◌, pos, ◌≤ℤ◌, ◌↔◌, IsTrue, MatchOption, ◌≤◌, ◌^◌, unsigned_abs};
 ghost use Rattle.sector_geom.specs.Plane.{cross_of, HasInterior, IsInRange, IsCornerInRange};
 ghost use Rattle.sector_geom.specs.Clear.{IsInWedge};
-ghost use Rattle.sector_geom.specs.SpecialPoints.{IsMet, IsBoundInRange, IsCrossingInRange, IsRayInRange, IsSectorInRange, PointIsMet, PairIsMet, CornersAreMet, LevelFeetAreMet, SideFeetAreMet, FeetAreMet, OriginIsMet, AxisPointsAreMet, PointsAreMet, EdgeIsMet, LinesAreMet, RayIsMet, CrossingsAreMet, AllMeet, MissesLine, IsCrossing, IsBetween};
+ghost use Rattle.sector_geom.specs.SpecialPoints.{IsBoundMet, IsBoundInRange, IsCrossingInRange, IsRayInRange, IsSectorInRange, PointMeetsBound, PairIsMet, CornersAreMet, LevelFeetAreMet, SideFeetAreMet, FeetAreMet, OriginIsMet, AxisPointsAreMet, PointsAreMet, EdgeIsMet, LinesAreMet, RayIsMet, CrossingsAreMet, AllMeet, MissesLine, IsCrossing, IsBetween};
 
 use crate::covers::squared_distance;
 use crate::sector::Sector;
@@ -109,7 +109,7 @@ fn point_meets(s: &Sector, point: (i64, i64), bound: Bound) -> bool
     requires sector { IsSectorInRange s.now }
     requires point { IsCornerInRange point }
     requires bound { IsBoundInRange bound }
-    ensures exact { IsTrue result ↔ PointIsMet s.now bound point }
+    ensures exact { IsTrue result ↔ PointMeetsBound s.now bound point }
 {
     !is_in_wedge(s, point) || distance_meets(point, bound)
 }
@@ -143,7 +143,7 @@ fn is_clockwise(ray: (i64, i64), point: (i64, i64)) -> bool
 fn distance_meets(point: (i64, i64), bound: Bound) -> bool
     requires point { IsCornerInRange point }
     requires bound { IsBoundInRange bound }
-    ensures exact { IsTrue result ↔ IsMet bound point (pos 1) }
+    ensures exact { IsTrue result ↔ IsBoundMet bound point (pos 1) }
 {
     let distance2 = squared_distance(point);
     match bound {
@@ -239,7 +239,7 @@ fn is_between(range: (i64, i64), point: Crossing) -> bool
 fn crossing_distance_meets(point: Crossing, bound: Bound) -> bool
     requires point { IsCrossingInRange point }
     requires bound { IsBoundInRange bound }
-    ensures exact { IsTrue result ↔ IsMet bound (point.y, point.z) point.d }
+    ensures exact { IsTrue result ↔ IsBoundMet bound (point.y, point.z) point.d }
 {
     let distance2 = point.y as i128 * point.y as i128 + point.z as i128 * point.z as i128;
     let scale = point.d as i128 * point.d as i128;

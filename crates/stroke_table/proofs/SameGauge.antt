@@ -18,7 +18,7 @@ use Rattle.fold_boxes.specs.declared.posed_part.PoseBox.{PoseBox}
 use Rattle.fold_boxes.specs.Pose.{PoseData, span_start, pose_of}
 use Rattle.job_setup.specs.Setup.{JobData, shape_of}
 use Rattle.job_setup.specs.StageOf.{stage_of}
-use Rattle.job_setup.specs.LegalGauge.{IsLevel, IsFlatFace, IsFree, IsPair, IsLegalPair, far_edge, left_finger, right_finger, finger_box}
+use Rattle.job_setup.specs.LegalGauge.{IsLevel, IsFlatFace, IsFingerFree, IsPair, IsLegalPair, far_edge, left_finger, right_finger, finger_box}
 use Rattle.job_setup.specs.Reasons.{pose_at}
 use Rattle.gauge_rules.specs.Pairs.{IsFirstLegal}
 use Rattle.stroke_table.specs.Moved.{moved_body, moved_box, moved_map, moved_pose}
@@ -54,9 +54,9 @@ module _ (by x0 x1 : ℤ) (pose : PoseData) where
         high = flat.high;
       }
 
-  free_moved : (finger other : Box3) → other ≡ moved_body by finger → IsFree pose finger → IsFree there other
+  free_moved : (finger other : Box3) → other ≡ moved_body by finger → IsFingerFree pose finger → IsFingerFree there other
   free_moved finger other is free =
-      subst (IsFree there) (sym is)
+      subst (IsFingerFree there) (sym is)
       (All-map (λ box. ShareInterior (moved_body by finger) box.body → ⊥) (moved_box by) pose.boxes (λ k d within. apart_moved by finger (get_or pose.boxes k d).body (free k d within)))
 
   module _ (rule : GaugeRule) (thickness : ℤ) (left right : PoseBox) where

@@ -11,7 +11,7 @@ use Rattle.brake_base.specs.declared.stroke.Half.TheVariants.{Back, Front}
 use Rattle.machine_file.specs.declared.machine.Fixed.{Fixed}
 use Rattle.fold_boxes.specs.declared.posed_part.PoseBox.{PoseBox}
 use Rattle.sector_geom.specs.Plane.{HasInterior, IsInRange}
-use Rattle.sector_geom.specs.Pieces.{lowered_by, raised_by, widened_by}
+use Rattle.sector_geom.specs.Pieces.{start_widened_by, end_widened_by, widened_by}
 use Rattle.tool_library.specs.Tools.{IsDie}
 use Rattle.job_setup.specs.declared.setup.Stage.{Stage}
 use Rattle.job_setup.specs.Setup.{StageData, JobData, stage_data}
@@ -43,16 +43,16 @@ seen_interior Front r h = record { wide = let wide = h.wide in omega (arith, int
 pub seen_in_range : (half : Half) (r : Rect) → IsInRange r → IsInRange (seen_from half r)
 seen_in_range half r h = let s = seen_within half (2 ^ 30) r (record { y0 = h.y0; y1 = h.y1; z0 = h.z0; z1 = h.z1 }) in record { y0 = s.y0; y1 = s.y1; z0 = s.z0; z1 = s.z1 }
 
-lowered_bounds : (by low : ℤ) → pos 0 ≤ℤ by → by ≤ℤ pos 100000 → neg_ℤ (pos 600000000) ≤ℤ low → low ≤ℤ pos 600000000 → (neg_ℤ (pos 600100000) ≤ℤ lowered_by by low) × (lowered_by by low ≤ℤ pos 600100000)
+lowered_bounds : (by low : ℤ) → pos 0 ≤ℤ by → by ≤ℤ pos 100000 → neg_ℤ (pos 600000000) ≤ℤ low → low ≤ℤ pos 600000000 → (neg_ℤ (pos 600100000) ≤ℤ start_widened_by by low) × (start_widened_by by low ≤ℤ pos 600100000)
 lowered_bounds by low not_negative small above below = (grind (arith, ints, clamps), grind (arith, ints, clamps))
 
-raised_bounds : (by high : ℤ) → pos 0 ≤ℤ by → by ≤ℤ pos 100000 → neg_ℤ (pos 600000000) ≤ℤ high → high ≤ℤ pos 600000000 → (neg_ℤ (pos 600100000) ≤ℤ raised_by by high) × (raised_by by high ≤ℤ pos 600100000)
+raised_bounds : (by high : ℤ) → pos 0 ≤ℤ by → by ≤ℤ pos 100000 → neg_ℤ (pos 600000000) ≤ℤ high → high ≤ℤ pos 600000000 → (neg_ℤ (pos 600100000) ≤ℤ end_widened_by by high) × (end_widened_by by high ≤ℤ pos 600100000)
 raised_bounds by high not_negative small above below = (grind (arith, ints, clamps), grind (arith, ints, clamps))
 
-lowered_below : (by low : ℤ) → pos 0 ≤ℤ by → lowered_by by low ≤ℤ low
+lowered_below : (by low : ℤ) → pos 0 ≤ℤ by → start_widened_by by low ≤ℤ low
 lowered_below by low h = grind (arith, ints, clamps)
 
-raised_above : (by high : ℤ) → pos 0 ≤ℤ by → high ≤ℤ raised_by by high
+raised_above : (by high : ℤ) → pos 0 ≤ℤ by → high ≤ℤ end_widened_by by high
 raised_above by high h = grind (arith, ints, clamps)
 
 far_in_range : (n : ℤ) → neg_ℤ (pos 600100000) ≤ℤ n → n ≤ℤ pos 600100000 → unsigned_abs n ≤ 2 ^ 30
@@ -67,7 +67,7 @@ widened_in_range by r not_negative small h =
     let y1 = abs_out r.y1 600000000 h.y1 in
     let low = lowered_bounds by r.y0 not_negative small (omega (arith, ints, y0.1)) y0.0 in
     let high = raised_bounds by r.y1 not_negative small (omega (arith, ints, y1.1)) y1.0 in
-    record { y0 = far_in_range (lowered_by by r.y0) low.0 low.1; y1 = far_in_range (raised_by by r.y1) high.0 high.1; z0 = near_in_range r.z0 h.z0; z1 = near_in_range r.z1 h.z1 }
+    record { y0 = far_in_range (start_widened_by by r.y0) low.0 low.1; y1 = far_in_range (end_widened_by by r.y1) high.0 high.1; z0 = near_in_range r.z0 h.z0; z1 = near_in_range r.z1 h.z1 }
 
 pub widened_interior : (by : ℤ) (r : Rect) → pos 0 ≤ℤ by → HasInterior r → HasInterior (widened_by by r)
 widened_interior by r not_negative h =

@@ -23,7 +23,7 @@ use Rattle.job_setup.specs.Reasons.{across, seen_from, widening, piece_at, lies_
 use Rattle.sweep_check.specs.declared.pieces.Piece.{Piece}
 use Rattle.sweep_check.specs.declared.noses.PunchNose.{PunchNose}
 use Rattle.sweep_check.specs.Pieces.{piece_from, box_pieces, pieces_of, if_back, if_front, back_pieces, front_obstacle, front_obstacles}
-use Rattle.sweep_check.specs.Hits.{is_sunk_group, IsMet, IsNoseMet, nose_of, SomeHit}
+use Rattle.sweep_check.specs.Hits.{is_sunk_group, IsPieceMet, IsNoseMet, nose_of, SomeHit}
 use Rattle.sweep_check.proofs.Some.{any_weaker, any_here, any_flat_from, any_flat_to}
 use Rattle.sweep_check.proofs.PieceLists.{some_of_box, of_some_box}
 
@@ -36,7 +36,7 @@ abbrev Names : ℕ → Quarter → Piece → Type 0
 Names n quarter piece = (piece.body ≡ n) × (piece.quarter ≡ quarter)
 
 abbrev Meets : List Obstacle → ℕ → ℕ → Quarter → Piece → Type 0
-Meets obstacles i n quarter piece = Names n quarter piece × Any (λ o. (o.index ≡ i) × IsMet piece o) obstacles
+Meets obstacles i n quarter piece = Names n quarter piece × Any (λ o. (o.index ≡ i) × IsPieceMet piece o) obstacles
 
 box_meets : (job : JobData) (obstacles : List Obstacle) (i n : ℕ) (quarter : Quarter) (box : PoseBox) → (box.id ≡ n) × SomeObstacle obstacles i (IsHit job box quarter) → Any (Meets obstacles i n quarter) (box_pieces job Eighth box)
 box_meets job obstacles i n quarter box named =
@@ -50,13 +50,13 @@ box_meets job obstacles i n quarter box named =
         absurd (subst (λ (o : Option Rect). IsSomeAnd o (λ piece. (is_untested job.part.thickness quarter piece named.1.1.group ≡ false) × IsSwept Eighth quarter piece (seen_from box.half named.1.1.rect))) is hit.across)
     by_piece (Some rect) is hit some =
         let both = subst (λ (o : Option Rect). IsSomeAnd o (λ piece. (is_untested job.part.thickness quarter piece named.1.1.group ≡ false) × IsSwept Eighth quarter piece (seen_from box.half named.1.1.rect))) is hit.across in
-        let met : IsMet (piece_from job Eighth box quarter rect) named.1.1 = record {
+        let met : IsPieceMet (piece_from job Eighth box quarter rect) named.1.1 = record {
           near = record { along = hit.along; tested = untested_is job.part.thickness quarter rect named.1.1.group ∙ both.0 };
           swept = both.1;
         } in
         some_of_box (Meets obstacles i n quarter) job Eighth box quarter rect is ((named.0, refl), (named.1.0, named.1.1, named.1.2, named.1.3, (named.1.4.0, met)))
 
-pub hits_to : (job : JobData) (pose : PoseData) (obstacles : List Obstacle) (n : ℕ) (quarter : Quarter) (i : ℕ) → SomeBox pose n (λ box. SomeObstacle obstacles i (IsHit job box quarter)) → SomeHit (λ o. o.index) IsMet (pieces_of job Eighth pose.boxes) obstacles n quarter i
+pub hits_to : (job : JobData) (pose : PoseData) (obstacles : List Obstacle) (n : ℕ) (quarter : Quarter) (i : ℕ) → SomeBox pose n (λ box. SomeObstacle obstacles i (IsHit job box quarter)) → SomeHit (λ o. o.index) IsPieceMet (pieces_of job Eighth pose.boxes) obstacles n quarter i
 hits_to job pose obstacles n quarter i some =
     any_flat_from (Meets obstacles i n quarter) (box_pieces job Eighth) pose.boxes
     (any_weaker (λ box. (box.id ≡ n) × SomeObstacle obstacles i (IsHit job box quarter)) (λ box. Any (Meets obstacles i n quarter) (box_pieces job Eighth box)) pose.boxes (box_meets job obstacles i n quarter) some)
@@ -69,7 +69,7 @@ meets_box job obstacles i n quarter box some =
     by_quarter : (q : Quarter) (rect : Rect) → piece_at job box q ≡ Some rect → Meets obstacles i n quarter (piece_from job Eighth box q rect) → (box.id ≡ n) × SomeObstacle obstacles i (IsHit job box quarter)
     by_quarter q rect is holds =
         let obstacle = holds.1.1 in
-        let met : IsMet (piece_from job Eighth box q rect) obstacle = holds.1.4.1 in
+        let met : IsPieceMet (piece_from job Eighth box q rect) obstacle = holds.1.4.1 in
         let hit : IsHit job box q obstacle = record {
           along = met.near.along;
           across = subst (λ (o : Option Rect). IsSomeAnd o (λ piece. (is_untested job.part.thickness q piece obstacle.group ≡ false) × IsSwept Eighth q piece (seen_from box.half obstacle.rect))) (sym is)
@@ -77,7 +77,7 @@ meets_box job obstacles i n quarter box some =
         } in
         (holds.0.0, subst (λ (z : Quarter). SomeObstacle obstacles i (IsHit job box z)) holds.0.1 (holds.1.0, obstacle, holds.1.2, holds.1.3, (holds.1.4.0, hit)))
 
-pub hits_from : (job : JobData) (pose : PoseData) (obstacles : List Obstacle) (n : ℕ) (quarter : Quarter) (i : ℕ) → SomeHit (λ o. o.index) IsMet (pieces_of job Eighth pose.boxes) obstacles n quarter i → SomeBox pose n (λ box. SomeObstacle obstacles i (IsHit job box quarter))
+pub hits_from : (job : JobData) (pose : PoseData) (obstacles : List Obstacle) (n : ℕ) (quarter : Quarter) (i : ℕ) → SomeHit (λ o. o.index) IsPieceMet (pieces_of job Eighth pose.boxes) obstacles n quarter i → SomeBox pose n (λ box. SomeObstacle obstacles i (IsHit job box quarter))
 hits_from job pose obstacles n quarter i some =
     any_weaker (λ box. Any (Meets obstacles i n quarter) (box_pieces job Eighth box)) (λ box. (box.id ≡ n) × SomeObstacle obstacles i (IsHit job box quarter)) pose.boxes (meets_box job obstacles i n quarter)
     (any_flat_to (Meets obstacles i n quarter) (box_pieces job Eighth) pose.boxes some)
@@ -169,21 +169,21 @@ front_to {X = X} P FrontHalf x some = (refl, by_index some.0 some.2 some.3)
 abbrev MeetsFront : JobData → PoseData → ℕ → ℕ → Quarter → Piece → Type 0
 MeetsFront job pose m n quarter = Meets (front_obstacles job pose.boxes) m n quarter
 
-front_of : (job : JobData) (pose : PoseData) (m : ℕ) (piece : Piece) → SomeBox pose m (λ other. (other.half ≡ FrontHalf) × IsMet piece (front_obstacle job other)) → Any (λ o. (o.index ≡ m) × IsMet piece o) (front_obstacles job pose.boxes)
+front_of : (job : JobData) (pose : PoseData) (m : ℕ) (piece : Piece) → SomeBox pose m (λ other. (other.half ≡ FrontHalf) × IsPieceMet piece (front_obstacle job other)) → Any (λ o. (o.index ≡ m) × IsPieceMet piece o) (front_obstacles job pose.boxes)
 front_of job pose m piece some =
-    any_flat_from (λ o. (o.index ≡ m) × IsMet piece o) (λ box. if_front box.half (front_obstacle job box ∷ [])) pose.boxes
-    (any_weaker (λ box. (box.id ≡ m) × ((box.half ≡ FrontHalf) × IsMet piece (front_obstacle job box))) (λ box. Any (λ o. (o.index ≡ m) × IsMet piece o) (if_front box.half (front_obstacle job box ∷ []))) pose.boxes
-    (λ box holds. front_from (λ o. (o.index ≡ m) × IsMet piece o) box.half (front_obstacle job box ∷ []) holds.1.0 (any_here (λ o. (o.index ≡ m) × IsMet piece o) (front_obstacle job box) [] (holds.0, holds.1.1)))
+    any_flat_from (λ o. (o.index ≡ m) × IsPieceMet piece o) (λ box. if_front box.half (front_obstacle job box ∷ [])) pose.boxes
+    (any_weaker (λ box. (box.id ≡ m) × ((box.half ≡ FrontHalf) × IsPieceMet piece (front_obstacle job box))) (λ box. Any (λ o. (o.index ≡ m) × IsPieceMet piece o) (if_front box.half (front_obstacle job box ∷ []))) pose.boxes
+    (λ box holds. front_from (λ o. (o.index ≡ m) × IsPieceMet piece o) box.half (front_obstacle job box ∷ []) holds.1.0 (any_here (λ o. (o.index ≡ m) × IsPieceMet piece o) (front_obstacle job box) [] (holds.0, holds.1.1)))
     some)
 
-of_front : (job : JobData) (pose : PoseData) (m : ℕ) (piece : Piece) → Any (λ o. (o.index ≡ m) × IsMet piece o) (front_obstacles job pose.boxes) → SomeBox pose m (λ other. (other.half ≡ FrontHalf) × IsMet piece (front_obstacle job other))
+of_front : (job : JobData) (pose : PoseData) (m : ℕ) (piece : Piece) → Any (λ o. (o.index ≡ m) × IsPieceMet piece o) (front_obstacles job pose.boxes) → SomeBox pose m (λ other. (other.half ≡ FrontHalf) × IsPieceMet piece (front_obstacle job other))
 of_front job pose m piece some =
-    any_weaker (λ box. Any (λ o. (o.index ≡ m) × IsMet piece o) (if_front box.half (front_obstacle job box ∷ []))) (λ box. (box.id ≡ m) × ((box.half ≡ FrontHalf) × IsMet piece (front_obstacle job box))) pose.boxes
-    (λ box has. let found = front_to (λ o. (o.index ≡ m) × IsMet piece o) box.half (front_obstacle job box) has in (found.1.0, (found.0, found.1.1)))
-    (any_flat_to (λ o. (o.index ≡ m) × IsMet piece o) (λ box. if_front box.half (front_obstacle job box ∷ [])) pose.boxes some)
+    any_weaker (λ box. Any (λ o. (o.index ≡ m) × IsPieceMet piece o) (if_front box.half (front_obstacle job box ∷ []))) (λ box. (box.id ≡ m) × ((box.half ≡ FrontHalf) × IsPieceMet piece (front_obstacle job box))) pose.boxes
+    (λ box has. let found = front_to (λ o. (o.index ≡ m) × IsPieceMet piece o) box.half (front_obstacle job box) has in (found.1.0, (found.0, found.1.1)))
+    (any_flat_to (λ o. (o.index ≡ m) × IsPieceMet piece o) (λ box. if_front box.half (front_obstacle job box ∷ [])) pose.boxes some)
 
 -- the piece of a box of the back half meets the other box
-self_met : (job : JobData) (box other : PoseBox) (quarter : Quarter) (rect : Rect) → piece_at job box quarter ≡ Some rect → IsSelfHit job box quarter other → (other.half ≡ FrontHalf) × IsMet (piece_from job Fourth box quarter rect) (front_obstacle job other)
+self_met : (job : JobData) (box other : PoseBox) (quarter : Quarter) (rect : Rect) → piece_at job box quarter ≡ Some rect → IsSelfHit job box quarter other → (other.half ≡ FrontHalf) × IsPieceMet (piece_from job Fourth box quarter rect) (front_obstacle job other)
 self_met job box other quarter rect is hit =
     let swept = subst (λ (o : Option Rect). IsSomeAnd o (λ piece. IsSwept Fourth quarter piece (widened_by (widening job) (across other.body)))) is hit.across in (
       hit.front,
@@ -193,7 +193,7 @@ self_met job box other quarter rect is hit =
       },
     )
 
-met_self : (job : JobData) (box other : PoseBox) (quarter : Quarter) (rect : Rect) → piece_at job box quarter ≡ Some rect → box.half ≡ BackHalf → other.half ≡ FrontHalf → IsMet (piece_from job Fourth box quarter rect) (front_obstacle job other) → IsSelfHit job box quarter other
+met_self : (job : JobData) (box other : PoseBox) (quarter : Quarter) (rect : Rect) → piece_at job box quarter ≡ Some rect → box.half ≡ BackHalf → other.half ≡ FrontHalf → IsPieceMet (piece_from job Fourth box quarter rect) (front_obstacle job other) → IsSelfHit job box quarter other
 met_self job box other quarter rect is back front met = record {
   back = back;
   front = front;
@@ -215,7 +215,7 @@ box_meets_front job pose m n quarter box named = by_piece (piece_at job box quar
         (some_of_box (MeetsFront job pose m n quarter) job Fourth box quarter rect is
         ((named.0, refl), front_of job pose m (piece_from job Fourth box quarter rect) (some.0, some.1, some.2, some.3, (some.4.0, self_met job box some.1 quarter rect is hit))))
 
-pub self_to : (job : JobData) (pose : PoseData) (n : ℕ) (quarter : Quarter) (m : ℕ) → SomeBox pose n (λ box. SomeBox pose m (IsSelfHit job box quarter)) → SomeHit (λ o. o.index) IsMet (back_pieces job pose.boxes) (front_obstacles job pose.boxes) n quarter m
+pub self_to : (job : JobData) (pose : PoseData) (n : ℕ) (quarter : Quarter) (m : ℕ) → SomeBox pose n (λ box. SomeBox pose m (IsSelfHit job box quarter)) → SomeHit (λ o. o.index) IsPieceMet (back_pieces job pose.boxes) (front_obstacles job pose.boxes) n quarter m
 self_to job pose n quarter m some =
     any_flat_from (MeetsFront job pose m n quarter) (λ box. if_back box.half (box_pieces job Fourth box)) pose.boxes
     (any_weaker (λ box. (box.id ≡ n) × SomeBox pose m (IsSelfHit job box quarter)) (λ box. Any (MeetsFront job pose m n quarter) (if_back box.half (box_pieces job Fourth box))) pose.boxes (box_meets_front job pose m n quarter) some)
@@ -231,7 +231,7 @@ front_meets_box job pose m n quarter box some =
         let other = of_front job pose m (piece_from job Fourth box q rect) holds.1 in
         (holds.0.0, subst (λ (z : Quarter). SomeBox pose m (IsSelfHit job box z)) holds.0.1 (other.0, other.1, other.2, other.3, (other.4.0, met_self job box other.1 q rect is back other.4.1.0 other.4.1.1)))
 
-pub self_from : (job : JobData) (pose : PoseData) (n : ℕ) (quarter : Quarter) (m : ℕ) → SomeHit (λ o. o.index) IsMet (back_pieces job pose.boxes) (front_obstacles job pose.boxes) n quarter m → SomeBox pose n (λ box. SomeBox pose m (IsSelfHit job box quarter))
+pub self_from : (job : JobData) (pose : PoseData) (n : ℕ) (quarter : Quarter) (m : ℕ) → SomeHit (λ o. o.index) IsPieceMet (back_pieces job pose.boxes) (front_obstacles job pose.boxes) n quarter m → SomeBox pose n (λ box. SomeBox pose m (IsSelfHit job box quarter))
 self_from job pose n quarter m some =
     any_weaker (λ box. Any (MeetsFront job pose m n quarter) (if_back box.half (box_pieces job Fourth box))) (λ box. (box.id ≡ n) × SomeBox pose m (IsSelfHit job box quarter)) pose.boxes (front_meets_box job pose m n quarter)
     (any_flat_to (MeetsFront job pose m n quarter) (λ box. if_back box.half (box_pieces job Fourth box)) pose.boxes some)

@@ -15,7 +15,7 @@ use Rattle.job_setup.specs.Obstacles.{upper_group, lower_group}
 use Rattle.job_setup.specs.Reasons.{MeetsAlong, IsReasonOf}
 use Rattle.sweep_check.specs.FirstReasons.{kind_place, IsFirstOf, IsFirstAmong}
 use Rattle.sweep_check.specs.Pieces.{pieces_of, back_pieces, front_obstacles}
-use Rattle.sweep_check.specs.Hits.{IsMet, IsNoseMet, nose_of, SomeHit, IsLeastNumber}
+use Rattle.sweep_check.specs.Hits.{IsPieceMet, IsNoseMet, nose_of, SomeHit, IsLeastNumber}
 use Rattle.sweep_check.proofs.Some.{all_any}
 use Rattle.sweep_check.proofs.Orders.{IsHitKind, kinds_in_order, rests_in_order}
 use Rattle.sweep_check.proofs.HitKinds.{hits_to, hits_from, noses_to, noses_from, self_to, self_from}
@@ -67,7 +67,7 @@ only_self (Lower body quarter index) e = absurd (omega (arith, e))
 only_self NoGauge e = absurd (omega (arith, e))
 only_self Load e = absurd (omega (arith, e))
 
-pub upper_kind : (job : JobData) (pose : PoseData) (back : Back) (stage : ℕ) → IsHitKind job pose back stage 4 Upper (SomeHit (λ o. o.index) IsMet (pieces_of job Eighth pose.boxes) (upper_group job))
+pub upper_kind : (job : JobData) (pose : PoseData) (back : Back) (stage : ℕ) → IsHitKind job pose back stage 4 Upper (SomeHit (λ o. o.index) IsPieceMet (pieces_of job Eighth pose.boxes) (upper_group job))
 upper_kind job pose back stage = record {
   only = only_upper;
   kind = λ body quarter other. refl;
@@ -85,7 +85,7 @@ nose_kind job pose back stage = record {
   from = λ body quarter other some. noses_from job pose body quarter other some;
 }
 
-pub lower_kind : (job : JobData) (pose : PoseData) (back : Back) (stage : ℕ) → IsHitKind job pose back stage 6 Lower (SomeHit (λ o. o.index) IsMet (pieces_of job Eighth pose.boxes) (lower_group job stage))
+pub lower_kind : (job : JobData) (pose : PoseData) (back : Back) (stage : ℕ) → IsHitKind job pose back stage 6 Lower (SomeHit (λ o. o.index) IsPieceMet (pieces_of job Eighth pose.boxes) (lower_group job stage))
 lower_kind job pose back stage = record {
   only = only_lower;
   kind = λ body quarter other. refl;
@@ -94,7 +94,7 @@ lower_kind job pose back stage = record {
   from = λ body quarter other some. hits_from job pose (lower_group job stage) body quarter other some;
 }
 
-pub self_kind : (job : JobData) (pose : PoseData) (back : Back) (stage : ℕ) → IsHitKind job pose back stage 7 SelfHit (SomeHit (λ o. o.index) IsMet (back_pieces job pose.boxes) (front_obstacles job pose.boxes))
+pub self_kind : (job : JobData) (pose : PoseData) (back : Back) (stage : ℕ) → IsHitKind job pose back stage 7 SelfHit (SomeHit (λ o. o.index) IsPieceMet (back_pieces job pose.boxes) (front_obstacles job pose.boxes))
 self_kind job pose back stage = record {
   only = only_self;
   kind = λ body quarter other. refl;

@@ -15,7 +15,7 @@ use Rattle.fold_boxes.proofs.PosedBoxes.{pose_boxes_near, pose_boxes_solid}
 use Rattle.sweep_check.proofs.BoxOrder.{pose_boxes_ascend, pose_boxes_few}
 use Rattle.fold_boxes.proofs.PartBounds.{small_numbers}
 use Rattle.sector_geom.specs.Plane.{HasInterior, IsInRange}
-use Rattle.sector_geom.specs.Pieces.{lowered_by, raised_by, widened_by}
+use Rattle.sector_geom.specs.Pieces.{start_widened_by, end_widened_by, widened_by}
 use Rattle.job_setup.specs.Setup.{JobData, shape_of}
 use Rattle.job_setup.specs.StageOf.{no_stage, stage_of}
 use Rattle.job_setup.specs.ValidJob.{IsJob}
@@ -78,7 +78,7 @@ small_widening job fit =
     record { some = omega (arith, ints); few = omega (arith, ints, small.thick, small.deep, small.shallow, thick.bottom, thick.top) }
 
 -- ---- the rectangles
-lowered_end : (by low : ℤ) → IsSmallWidening by → unsigned_abs low ≤ 600000000 → (unsigned_abs (lowered_by by low) ≤ 2 ^ 30) × (lowered_by by low ≤ℤ low)
+lowered_end : (by low : ℤ) → IsSmallWidening by → unsigned_abs low ≤ 600000000 → (unsigned_abs (start_widened_by by low) ≤ 2 ^ 30) × (start_widened_by by low ≤ℤ low)
 lowered_end by low small near = by_test (int_le (pos 0) low) (λ h. le_from h)
   where
     le_from : int_le (pos 0) low ≡ true → pos 0 ≤ℤ low
@@ -88,7 +88,7 @@ lowered_end by low small near = by_test (int_le (pos 0) low) (λ h. le_from h)
     by_test true h = let up = h refl in (omega (arith, ints, clamps, near, small.some, small.few, up), omega (arith, ints, clamps, small.some, up))
     by_test false h = (omega (arith, ints, near, small.some, small.few), omega (arith, ints, small.some))
 
-raised_end : (by high : ℤ) → IsSmallWidening by → unsigned_abs high ≤ 600000000 → (unsigned_abs (raised_by by high) ≤ 2 ^ 30) × (high ≤ℤ raised_by by high)
+raised_end : (by high : ℤ) → IsSmallWidening by → unsigned_abs high ≤ 600000000 → (unsigned_abs (end_widened_by by high) ≤ 2 ^ 30) × (high ≤ℤ end_widened_by by high)
 raised_end by high small near = by_test (int_le high (pos 0)) (λ h. le_from h)
   where
     le_from : int_le high (pos 0) ≡ true → high ≤ℤ pos 0

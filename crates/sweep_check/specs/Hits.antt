@@ -25,13 +25,13 @@ is_sunk_group (Lower sunk) = sunk
 
 -- The ranges of the piece and the obstacle along the bed share an interior point, and the obstacle isn't a sunk one that the piece
 -- can't meet.
-pub record IsNear (piece : Piece) (obstacle : Obstacle) : Type 0 where
+pub record IsPieceNear (piece : Piece) (obstacle : Obstacle) : Type 0 where
   pub along : IsTrue (is_overlap (piece.x0, piece.x1) (obstacle.x0, obstacle.x1))
   pub tested : (is_sunk_group obstacle.group && piece.is_high) ≡ false
 
 -- The piece meets the obstacle: it is near, and the piece's cover isn't clear of it.
-pub record IsMet (piece : Piece) (obstacle : Obstacle) : Type 0 where
-  pub near : IsNear piece obstacle
+pub record IsPieceMet (piece : Piece) (obstacle : Obstacle) : Type 0 where
+  pub near : IsPieceNear piece obstacle
   pub swept : IsClear piece.cover (seen_from piece.half obstacle.rect) → ⊥
 
 -- The piece meets the nose.

@@ -2,7 +2,7 @@
 ghost use Rattle.std.specs.Prelude.{◌≡◌, ◌↔◌, ◌<◌, ◌&&◌, IsTrue, All, AllPairs};
 ghost use Rattle.sector_geom.specs.Clear.{IsClear};
 ghost use Rattle.job_setup.specs.Reasons.{seen_from};
-ghost use Rattle.sweep_check.specs.Hits.{is_sunk_group, IsNear, IsMet, IsSolidObstacle, IsCovered, PieceIsBefore, IsLeastNumber, IsFirstHit};
+ghost use Rattle.sweep_check.specs.Hits.{is_sunk_group, IsPieceNear, IsPieceMet, IsSolidObstacle, IsCovered, PieceIsBefore, IsLeastNumber, IsFirstHit};
 
 use crate::pieces::{Piece, seen_from};
 use crate::ranges::is_overlap;
@@ -24,7 +24,7 @@ pub(crate) fn first_hit(pieces: &[Piece], obstacles: &[Obstacle]) -> Option<Hit>
     requires solid { All IsSolidObstacle obstacles.now }
     requires pieces_ascend { AllPairs PieceIsBefore pieces.now }
     requires obstacles_ascend { AllPairs (λ a b. a.index < b.index) obstacles.now }
-    ensures { IsFirstHit (λ obstacle. obstacle.index) IsMet pieces.now obstacles.now result }
+    ensures { IsFirstHit (λ obstacle. obstacle.index) IsPieceMet pieces.now obstacles.now result }
 {
     for piece in pieces {
         if let Some(other) = first_met(piece, obstacles) {
@@ -43,7 +43,7 @@ fn first_met(piece: &Piece, obstacles: &[Obstacle]) -> Option<u8>
     requires covered { IsCovered piece.now }
     requires solid { All IsSolidObstacle obstacles.now }
     requires ascend { AllPairs (λ a b. a.index < b.index) obstacles.now }
-    ensures { IsLeastNumber (λ obstacle. obstacle.index) (IsMet piece.now) obstacles.now result }
+    ensures { IsLeastNumber (λ obstacle. obstacle.index) (IsPieceMet piece.now) obstacles.now result }
 {
     for obstacle in obstacles {
         if is_met(piece, obstacle) {
@@ -57,7 +57,7 @@ fn first_met(piece: &Piece, obstacles: &[Obstacle]) -> Option<u8>
 pub(crate) fn is_met(piece: &Piece, obstacle: &Obstacle) -> bool
     requires covered { IsCovered piece.now }
     requires solid { IsSolidObstacle obstacle.now }
-    ensures { IsTrue result ↔ IsMet piece.now obstacle.now }
+    ensures { IsTrue result ↔ IsPieceMet piece.now obstacle.now }
 {
     is_near(piece, obstacle) && !is_clear(piece, obstacle)
 }
@@ -65,7 +65,7 @@ pub(crate) fn is_met(piece: &Piece, obstacle: &Obstacle) -> bool
 /// Whether the piece's range along the bed meets the obstacle's, and the obstacle isn't a sunk one
 /// that the piece can't meet.
 fn is_near(piece: &Piece, obstacle: &Obstacle) -> bool
-    ensures { IsTrue result ↔ IsNear piece.now obstacle.now }
+    ensures { IsTrue result ↔ IsPieceNear piece.now obstacle.now }
 {
     is_overlap((piece.x0, piece.x1), (obstacle.x0, obstacle.x1)) && !is_untested(piece, obstacle)
 }

@@ -4,7 +4,7 @@ ghost use Rattle.brake_base.specs.declared.stroke.Back.{Back};
 ghost use Rattle.fold_boxes.specs.Pose.{pose_data};
 ghost use Rattle.sweep_check.specs.Around.{AreSurroundings};
 ghost use Rattle.sweep_check.specs.FirstReasons.{IsFirstAmong, pose_of_boxes};
-ghost use Rattle.sweep_check.specs.Hits.{IsMet, IsFirstHit};
+ghost use Rattle.sweep_check.specs.Hits.{IsPieceMet, IsFirstHit};
 ghost use Rattle.sweep_check.specs.Pieces.{AreSolidBoxes, back_pieces, front_obstacles};
 
 use crate::frames::first_in_frame;
@@ -117,7 +117,7 @@ pub fn first_of_halves(job: &Job, boxes: &[PoseBox]) -> Option<Reason>
 /// The first piece of the back half that meets a box of the front half.
 fn first_self_hit(job: &Job, boxes: &[PoseBox]) -> Option<Hit>
     requires boxes { AreSolidBoxes boxes.now }
-    ensures { IsFirstHit (λ obstacle. obstacle.index) IsMet (back_pieces job.now boxes.now)
+    ensures { IsFirstHit (λ obstacle. obstacle.index) IsPieceMet (back_pieces job.now boxes.now)
         (front_obstacles job.now boxes.now) result }
 {
     first_hit(

@@ -7,7 +7,7 @@ ghost use Rattle.fold_boxes.specs.Pose.{pose_data};
 ghost use Rattle.job_setup.specs.Obstacles.{upper_group, lower_group};
 ghost use Rattle.job_setup.specs.Reasons.{MeetsAlong, IsReasonOf};
 ghost use Rattle.sweep_check.specs.Pieces.{AreSolidBoxes, pieces_of, back_pieces, front_obstacles};
-ghost use Rattle.sweep_check.specs.Hits.{IsSolidObstacle, IsCovered, IsEighth, IsNose, IsMet, IsNoseMet, SomeHit, nose_of};
+ghost use Rattle.sweep_check.specs.Hits.{IsSolidObstacle, IsCovered, IsEighth, IsNose, IsPieceMet, IsNoseMet, SomeHit, nose_of};
 
 use crate::frames::is_in_frame;
 use crate::hits::{Hit, is_met};
@@ -101,7 +101,7 @@ fn is_upper_hit(job: &Job, pose: &Pose, hit: Hit) -> bool
     requires some { 0 < length job.now.setup.stages }
     requires boxes { AreSolidBoxes pose.now.boxes.items }
     ensures { IsTrue result
-        ↔ SomeHit (λ obstacle. obstacle.index) IsMet (pieces_of job.now Eighth pose.now.boxes.items)
+        ↔ SomeHit (λ obstacle. obstacle.index) IsPieceMet (pieces_of job.now Eighth pose.now.boxes.items)
         (upper_group job.now) hit.body hit.quarter hit.other }
 {
     let found = all_pieces(job, pose.boxes.as_slice());
@@ -128,7 +128,7 @@ fn is_lower_hit(job: &Job, pose: &Pose, stage: u8, hit: Hit) -> bool
     requires stage { stage < length job.now.setup.stages }
     requires boxes { AreSolidBoxes pose.now.boxes.items }
     ensures { IsTrue result
-        ↔ SomeHit (λ obstacle. obstacle.index) IsMet (pieces_of job.now Eighth pose.now.boxes.items)
+        ↔ SomeHit (λ obstacle. obstacle.index) IsPieceMet (pieces_of job.now Eighth pose.now.boxes.items)
         (lower_group job.now stage) hit.body hit.quarter hit.other }
 {
     let found = all_pieces(job, pose.boxes.as_slice());
@@ -139,7 +139,7 @@ fn is_lower_hit(job: &Job, pose: &Pose, stage: u8, hit: Hit) -> bool
 fn is_self_hit(job: &Job, pose: &Pose, hit: Hit) -> bool
     requires boxes { AreSolidBoxes pose.now.boxes.items }
     ensures { IsTrue result
-        ↔ SomeHit (λ obstacle. obstacle.index) IsMet (back_pieces job.now pose.now.boxes.items)
+        ↔ SomeHit (λ obstacle. obstacle.index) IsPieceMet (back_pieces job.now pose.now.boxes.items)
         (front_obstacles job.now pose.now.boxes.items) hit.body hit.quarter hit.other }
 {
     let boxes = pose.boxes.as_slice();
@@ -155,7 +155,7 @@ fn is_some_hit(pieces: &[Piece], obstacles: &[Obstacle], hit: Hit) -> bool
     requires covered { All IsCovered pieces.now }
     requires solid { All IsSolidObstacle obstacles.now }
     ensures { IsTrue result
-        ↔ SomeHit (λ obstacle. obstacle.index) IsMet pieces.now obstacles.now hit.body hit.quarter
+        ↔ SomeHit (λ obstacle. obstacle.index) IsPieceMet pieces.now obstacles.now hit.body hit.quarter
         hit.other }
 {
     pieces.iter().any(|piece| is_hit(piece, obstacles, hit))
@@ -167,7 +167,7 @@ fn is_hit(piece: &Piece, obstacles: &[Obstacle], hit: Hit) -> bool
     requires solid { All IsSolidObstacle obstacles.now }
     ensures { IsTrue result
         ↔ (((piece.now.body ≡ hit.body) × (piece.now.quarter ≡ hit.quarter))
-        × Any (λ obstacle. (obstacle.index ≡ hit.other) × IsMet piece.now obstacle) obstacles.now) }
+        × Any (λ obstacle. (obstacle.index ≡ hit.other) × IsPieceMet piece.now obstacle) obstacles.now) }
 {
     is_named(piece, hit) && meets_numbered(piece, obstacles, hit.other)
 }
@@ -184,7 +184,7 @@ fn meets_numbered(piece: &Piece, obstacles: &[Obstacle], number: u8) -> bool
     requires covered { IsCovered piece.now }
     requires solid { All IsSolidObstacle obstacles.now }
     ensures { IsTrue result
-        ↔ Any (λ obstacle. (obstacle.index ≡ number) × IsMet piece.now obstacle) obstacles.now }
+        ↔ Any (λ obstacle. (obstacle.index ≡ number) × IsPieceMet piece.now obstacle) obstacles.now }
 {
     obstacles
         .iter()
@@ -195,7 +195,7 @@ fn meets_numbered(piece: &Piece, obstacles: &[Obstacle], number: u8) -> bool
 fn is_numbered_met(piece: &Piece, obstacle: &Obstacle, number: u8) -> bool
     requires covered { IsCovered piece.now }
     requires solid { IsSolidObstacle obstacle.now }
-    ensures { IsTrue result ↔ ((obstacle.now.index ≡ number) × IsMet piece.now obstacle.now) }
+    ensures { IsTrue result ↔ ((obstacle.now.index ≡ number) × IsPieceMet piece.now obstacle.now) }
 {
     obstacle.index == number && is_met(piece, obstacle)
 }

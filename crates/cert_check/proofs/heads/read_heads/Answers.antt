@@ -1,6 +1,6 @@
 use Rattle.std.proofs.Common.{◌≡◌, ◌<◌, ◌∷◌, ℕ, Bool, List, Ok, refl, sym, ap, subst, arith}
 use Rattle.plan_cert.specs.declared.item.Item.TheVariants as given
-use Rattle.plan_cert.specs.declared.format.Kind.TheVariants.{Certificate}
+use Rattle.plan_cert.specs.declared.format.TextKind.TheVariants.{Certificate}
 use Rattle.plan_cert.specs.Reading.{Reading}
 use Rattle.plan_cert.specs.Items.{items}
 use Rattle.plan_cert.specs.CertReading.{no_cert, answers_left}

@@ -2,7 +2,7 @@ use Rattle.std.proofs.Common.{rules, ◌≡◌, ◌<◌, ◌∷◌, ℕ, List, l
 use Rattle.job_setup.specs.Setup.{JobData}
 use Rattle.handling_cost.proofs.Keys.{start_in_range}
 use Rattle.plan_cert.specs.declared.cert.RowHead.{RowHead}
-use Rattle.plan_cert.specs.declared.format.Kind.TheVariants.{Certificate}
+use Rattle.plan_cert.specs.declared.format.TextKind.TheVariants.{Certificate}
 use Rattle.plan_cert.specs.Reading.{Reading}
 use Rattle.plan_cert.specs.Cert.{CertData}
 use Rattle.plan_cert.specs.declared.item.Item.TheVariants as given

@@ -1,6 +1,6 @@
 use Rattle.std.proofs.Common.{◌≡◌, ◌+◌, ℕ, length, set, get_or, arith, refl, sym, ◌∙◌, ap, subst, length-set}
 use Rattle.plan_cert.specs.declared.cert.RowHead.{RowHead}
-use Rattle.cert_check.specs.RowTable.{IsIndexed, key_number}
+use Rattle.cert_check.specs.RowTable.{IsIndexed, key_place}
 use Rattle.cert_check.proofs.RowOrder.{few_rows, number_within}
 use Rattle.cert_check.proofs.Indexes.{index_starts, index_grows}
 use Rattle.cert_check.proofs.row_table.enter.Goals as goal
@@ -23,19 +23,19 @@ overflow_add-places c =
     let within = c.loop-row-test.true in
     omega (arith, few, within)
 
-pub bounds-places-key_number : goal.bounds-places-key_number
-bounds-places-key_number c =
+pub bounds-places-key_place : goal.bounds-places-key_place
+bounds-places-key_place c =
     let fits = number_within c.args.job.now c.requires.valid c.args.rows.now c.requires.rows c.loop-row.row c.index-rows-row.result c.loop-row-test.true in
-    let number : c.key_number.result ≡ key_number (get_or c.args.rows.now c.loop-row.row c.index-rows-row.result).key = c.key_number.ensures ∙ ap (λ (row : RowHead). key_number row.key) c.index-rows-row.is in
+    let number : c.key_place.result ≡ key_place (get_or c.args.rows.now c.loop-row.row c.index-rows-row.result).key = c.key_place.ensures ∙ ap (λ (row : RowHead). key_place row.key) c.index-rows-row.is in
     let count = c.loop-row.invariant.count in
     let all = c.requires.count in
     omega (arith, fits, number, count, all)
 
 pub loop-row-preserved : goal.loop-row-preserved
 loop-row-preserved c =
-    let number : c.key_number.result ≡ key_number (get_or c.args.rows.now c.loop-row.row c.index-rows-row.result).key = c.key_number.ensures ∙ ap (λ (row : RowHead). key_number row.key) c.index-rows-row.is in
+    let number : c.key_place.result ≡ key_place (get_or c.args.rows.now c.loop-row.row c.index-rows-row.result).key = c.key_place.ensures ∙ ap (λ (row : RowHead). key_place row.key) c.index-rows-row.is in
     record {
-      count = length-set c.loop-row.places c.key_number.result (c.loop-row.row + 1) ∙ c.loop-row.invariant.count;
+      count = length-set c.loop-row.places c.key_place.result (c.loop-row.row + 1) ∙ c.loop-row.invariant.count;
       indexed = subst (λ (n : ℕ). IsIndexed c.args.rows.now (c.loop-row.row + 1) (set c.loop-row.places n (c.loop-row.row + 1))) (sym number)
           (index_grows c.args.job.now c.requires.valid c.args.rows.now c.requires.rows c.loop-row.places (c.loop-row.invariant.count ∙ c.requires.count) c.loop-row.row c.loop-row-test.true c.index-rows-row.result c.loop-row.invariant.indexed);
     }

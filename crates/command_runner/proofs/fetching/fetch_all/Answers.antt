@@ -1,8 +1,8 @@
 use Rattle.std.proofs.Common.{◌≡◌, ◌++◌, ◌∷◌, [], Err, map, string_bytes, refl, ap, ◌∙◌, length-append, arith, rules}
 use Rattle.std.specs.Vec.{vec_items}
 use Rattle.command_runner.specs.declared.fetching.FileWord.{FileWord}
-use Rattle.command_runner.specs.declared.fetching.Stop.{Stop}
-use Rattle.command_runner.specs.declared.fetching.Stop.TheVariants.{Fault}
+use Rattle.command_runner.specs.declared.fetching.FetchStop.{FetchStop}
+use Rattle.command_runner.specs.declared.fetching.FetchStop.TheVariants.{Fault}
 use Rattle.command_runner.proofs.Fetches.{contents_more, content_kept, fetched_all, stops_too_long, fault_cause}
 use Rattle.command_runner.proofs.Storing.{none_falls, same_error}
 use Rattle.command_runner.proofs.fetching.fetch_all.Goals as goal
@@ -42,7 +42,7 @@ returns-in_err-bytes-clause-fetched g c =
 pub returns-in_err-bytes-clause-faults : goal.returns-in_err-bytes-clause-faults
 returns-in_err-bytes-clause-faults g c = λ no.
     let stopped : c.from_residual.result ≡ Err c.in_err-bytes.field-0.0 = search rules in
-    c.in_err-bytes.ensures.faults (λ fails. no (stopped ∙ ap (λ (stop : Stop). Err stop) (same_error (Err c.in_err-bytes.field-0.0) c.in_err-bytes.field-0.0 Fault refl fails))) ∙ c.loop-file.invariant.faults
+    c.in_err-bytes.ensures.faults (λ fails. no (stopped ∙ ap (λ (stop : FetchStop). Err stop) (same_error (Err c.in_err-bytes.field-0.0) c.in_err-bytes.field-0.0 Fault refl fails))) ∙ c.loop-file.invariant.faults
 
 pub returns-in_err-bytes-clause-fault : goal.returns-in_err-bytes-clause-fault
 returns-in_err-bytes-clause-fault g c = λ fails.

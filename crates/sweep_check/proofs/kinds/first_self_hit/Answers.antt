@@ -3,7 +3,7 @@ use Rattle.std.specs.Prelude.{All, AllPairs}
 use Rattle.job_setup.specs.declared.obstacle.Obstacle.{Obstacle}
 use Rattle.sweep_check.specs.declared.pieces.Piece.{Piece}
 use Rattle.sweep_check.specs.Pieces.{back_pieces}
-use Rattle.sweep_check.specs.Hits.{IsSolidObstacle, IsCovered, PieceIsBefore, IsMet, IsFirstHit}
+use Rattle.sweep_check.specs.Hits.{IsSolidObstacle, IsCovered, PieceIsBefore, IsPieceMet, IsFirstHit}
 use Rattle.sweep_check.proofs.Bounds.{widening_high}
 use Rattle.sweep_check.proofs.PieceLists.{back_ascends, front_ascends, back_covered, fronts_solid}
 use Rattle.sweep_check.proofs.kinds.first_self_hit.Goals as goal
@@ -25,5 +25,5 @@ first_hit-requires-clause-obstacles_ascend c =
 
 pub returns : goal.returns
 returns c =
-    subst (λ (xs : List Obstacle). IsFirstHit (λ (o : Obstacle). o.index) IsMet (back_pieces c.args.job.now c.args.boxes.now) xs c.first_hit.result) (c.as_slice-2.ensures.value ∙ c.front_obstacles.ensures.value)
-    (subst (λ (ps : List Piece). IsFirstHit (λ (o : Obstacle). o.index) IsMet ps c.as_slice-2.result.now c.first_hit.result) (c.as_slice.ensures.value ∙ c.back_pieces.ensures.value) c.first_hit.ensures)
+    subst (λ (xs : List Obstacle). IsFirstHit (λ (o : Obstacle). o.index) IsPieceMet (back_pieces c.args.job.now c.args.boxes.now) xs c.first_hit.result) (c.as_slice-2.ensures.value ∙ c.front_obstacles.ensures.value)
+    (subst (λ (ps : List Piece). IsFirstHit (λ (o : Obstacle). o.index) IsPieceMet ps c.as_slice-2.result.now c.first_hit.result) (c.as_slice.ensures.value ∙ c.back_pieces.ensures.value) c.first_hit.ensures)

@@ -4,7 +4,7 @@ use Rattle.sector_geom.specs.declared.sector.Sweep.TheVariants.{Eighth}
 use Rattle.job_setup.specs.declared.obstacle.Obstacle.{Obstacle}
 use Rattle.job_setup.specs.Obstacles.{lower_group}
 use Rattle.sweep_check.specs.Pieces.{AreSolidBoxes, pieces_of}
-use Rattle.sweep_check.specs.Hits.{IsSolidObstacle, IsCovered, IsMet}
+use Rattle.sweep_check.specs.Hits.{IsSolidObstacle, IsCovered, IsPieceMet}
 use Rattle.sweep_check.proofs.Bounds.{widening_high, lower_group_solid}
 use Rattle.sweep_check.proofs.PieceLists.{eighths}
 use Rattle.sweep_check.proofs.HitTests.{covered_eighths, hit_alike}
@@ -26,4 +26,4 @@ pub returns : goal.returns
 returns c =
     let job = c.args.job.now in
     let listed = c.as_slice-2.ensures.value ∙ c.all_pieces-found.ensures.value ∙ ap (pieces_of job Eighth) c.as_slice.ensures.value in
-    hit_alike (λ (o : Obstacle). o.index) IsMet _ (pieces_of job Eighth c.args.pose.now.boxes.items) _ (lower_group job c.args.stage) c.args.hit.body c.args.hit.quarter c.args.hit.other c.is_some_hit.result listed (c.as_slice-3.ensures.value ∙ c.lower_group.ensures.value) c.is_some_hit.ensures
+    hit_alike (λ (o : Obstacle). o.index) IsPieceMet _ (pieces_of job Eighth c.args.pose.now.boxes.items) _ (lower_group job c.args.stage) c.args.hit.body c.args.hit.quarter c.args.hit.other c.is_some_hit.result listed (c.as_slice-3.ensures.value ∙ c.lower_group.ensures.value) c.is_some_hit.ensures

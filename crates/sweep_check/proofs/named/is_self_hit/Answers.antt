@@ -2,7 +2,7 @@ use Rattle.std.proofs.Common.{◌∙◌, ap, sym, subst}
 use Rattle.std.specs.Prelude.{All}
 use Rattle.job_setup.specs.declared.obstacle.Obstacle.{Obstacle}
 use Rattle.sweep_check.specs.Pieces.{back_pieces, front_obstacles}
-use Rattle.sweep_check.specs.Hits.{IsSolidObstacle, IsCovered, IsMet}
+use Rattle.sweep_check.specs.Hits.{IsSolidObstacle, IsCovered, IsPieceMet}
 use Rattle.sweep_check.proofs.Bounds.{widening_high}
 use Rattle.sweep_check.proofs.PieceLists.{back_covered, fronts_solid}
 use Rattle.sweep_check.proofs.HitTests.{hit_alike}
@@ -25,4 +25,4 @@ returns c =
     let job = c.args.job.now in
     let pieces = c.as_slice.ensures.value ∙ c.back_pieces.ensures.value ∙ ap (back_pieces job) c.as_slice-boxes.ensures.value in
     let obstacles = c.as_slice-2.ensures.value ∙ c.front_obstacles.ensures.value ∙ ap (front_obstacles job) c.as_slice-boxes.ensures.value in
-    hit_alike (λ (o : Obstacle). o.index) IsMet _ (back_pieces job c.args.pose.now.boxes.items) _ (front_obstacles job c.args.pose.now.boxes.items) c.args.hit.body c.args.hit.quarter c.args.hit.other c.is_some_hit.result pieces obstacles c.is_some_hit.ensures
+    hit_alike (λ (o : Obstacle). o.index) IsPieceMet _ (back_pieces job c.args.pose.now.boxes.items) _ (front_obstacles job c.args.pose.now.boxes.items) c.args.hit.body c.args.hit.quarter c.args.hit.other c.is_some_hit.result pieces obstacles c.is_some_hit.ensures

@@ -28,14 +28,14 @@ pub enum Tested {
 /// What is kept of each set of folded bends: what belongs to it, its strokes, and the rows to which
 /// its actions lead. A table is seen as its job.
 #[derive(Drop)]
-pub struct SetTable {
+pub struct SearchTable {
     strokes: StrokeTable,
     facts: FactTable,
     /// For each action at each set the row that was last found for the key to which it leads.
     rows: Vec<u32>,
 }
 
-impl Model for SetTable {
+impl Model for SearchTable {
     ghost use Rattle.std.specs.Prelude.{◌≡◌};
     ghost use Rattle.job_setup.specs.Setup.{JobData};
 
@@ -90,15 +90,15 @@ fn row_at(rows: &[u32], place: usize, pool: &RowPool, key: &Key) -> Option<u32>
     }
 }
 
-impl SetTable {
+impl SearchTable {
     /// A table for the job. It takes all memory that it will use.
-    pub fn open(alloc: Global, job: &Job) -> Result<SetTable, AllocError>
+    pub fn open(alloc: Global, job: &Job) -> Result<SearchTable, AllocError>
         ensures { IfOk result (λ table. table ≡ job.now) }
     {
         let strokes = StrokeTable::open(alloc, job)?;
         let facts = FactTable::open(alloc, job)?;
         let rows = vec![in alloc; 0; action_places(job)]?;
-        Ok(SetTable {
+        Ok(SearchTable {
             strokes,
             facts,
             rows,

@@ -1,10 +1,10 @@
 use Rattle.std.proofs.Common.{◌∙◌, sym, subst}
 use Rattle.handling_cost.proofs.Actions.{lead_is}
-use Rattle.bb_search.specs.declared.set_table.Tested.{Tested}
+use Rattle.bb_search.specs.declared.search_table.Tested.{Tested}
 use Rattle.bb_search.specs.Tested.{IsTested}
 use Rattle.bb_search.proofs.TestLemmas.{refused, has_gauge, free}
-use Rattle.bb_search.proofs.set_table.SetTable.test.Goals.{in-Some, in-None}
-use Rattle.bb_search.proofs.set_table.SetTable.test.Goals as goal
+use Rattle.bb_search.proofs.search_table.SearchTable.test.Goals.{in-Some, in-None}
+use Rattle.bb_search.proofs.search_table.SearchTable.test.Goals as goal
 
 pub stroke_at-stroke-requires-clause-flat : goal.stroke_at-stroke-requires-clause-flat
 stroke_at-stroke-requires-clause-flat c = (lead_is c.args.job.now c.args.key.now.mask c.args.action.bend c.requires.action.lead).flat

@@ -47,13 +47,13 @@ fn stand(part: &mut Standing, job: &Job, mask: Mask)
 /// What belongs to each set of folded bends, with the strokes and the part as it was last folded. A
 /// table is seen as its job.
 #[derive(Drop)]
-pub(crate) struct SetTable {
+pub(crate) struct CheckTable {
     strokes: StrokeTable,
     facts: FactTable,
     part: Standing,
 }
 
-impl Model for SetTable {
+impl Model for CheckTable {
     ghost use Rattle.std.specs.Prelude.{◌≡◌};
     ghost use Rattle.job_setup.specs.Setup.{JobData};
     ghost use Rattle.cert_check.specs.Standing.{IsStanding};
@@ -66,15 +66,15 @@ impl Model for SetTable {
         × IsStanding t.strokes t.part.mask t.part.places.items };
 }
 
-impl SetTable {
+impl CheckTable {
     /// A table for the job. It takes all memory that it will use.
-    pub fn open(alloc: Global, job: &Job) -> Result<SetTable, AllocError>
+    pub fn open(alloc: Global, job: &Job) -> Result<CheckTable, AllocError>
         ensures { IfOk result (λ table. table ≡ job.now) }
     {
         let strokes = StrokeTable::open(alloc, job)?;
         let facts = FactTable::open(alloc, job)?;
         let part = fold_part(job, Mask::empty());
-        Ok(SetTable {
+        Ok(CheckTable {
             strokes,
             facts,
             part,

@@ -27,7 +27,7 @@ pub enum Keyword {
 
 /// What a word is.
 #[derive(Clone, Copy, Debug, PartialEq, Eq)]
-pub enum Kind {
+pub enum WordKind {
     /// This very word.
     Literal(Keyword),
     /// An input file, which is fetched.
@@ -102,14 +102,14 @@ fn is_numbered_name(name: &str, word: &str) -> bool
     word.starts_with(name) && is_numbered_ending(&word[name.len()..])
 }
 
-impl Kind {
+impl WordKind {
     /// Whether the word is of this kind.
     pub fn is_of(self, word: &str) -> bool
         ensures { result ≡ is_of_kind self word.now }
     {
         match self {
-            Kind::Literal(keyword) => word == keyword.spelling(),
-            Kind::Number { least, most } => number_in(word.as_bytes(), least, most).is_some(),
+            WordKind::Literal(keyword) => word == keyword.spelling(),
+            WordKind::Number { least, most } => number_in(word.as_bytes(), least, most).is_some(),
             _ => is_file_word(word),
         }
     }
@@ -120,8 +120,8 @@ impl Kind {
         ensures { result ≡ limit_of self }
     {
         match self {
-            Kind::Input => Some(INPUT_LIMIT),
-            Kind::Certificate | Kind::Table => Some(CERTIFICATE_LIMIT),
+            WordKind::Input => Some(INPUT_LIMIT),
+            WordKind::Certificate | WordKind::Table => Some(CERTIFICATE_LIMIT),
             _ => None,
         }
     }
@@ -130,7 +130,7 @@ impl Kind {
     pub fn is_file(self) -> bool
         ensures { result ≡ is_file self }
     {
-        !matches!(self, Kind::Literal(_) | Kind::Number { .. })
+        !matches!(self, WordKind::Literal(_) | WordKind::Number { .. })
     }
 
     /// Whether nothing that is stored for the word of this kind has the other word's name.
@@ -139,8 +139,8 @@ impl Kind {
         ensures { result ≡ is_stored_apart self word.now other.now }
     {
         match self {
-            Kind::Output => word != other,
-            Kind::NumberedOutput => !is_numbered_name(word, other),
+            WordKind::Output => word != other,
+            WordKind::NumberedOutput => !is_numbered_name(word, other),
             _ => true,
         }
     }

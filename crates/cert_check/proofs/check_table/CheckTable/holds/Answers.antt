@@ -1,5 +1,5 @@
 use Rattle.handling_cost.specs.Plan.{IsReasonFor}
-use Rattle.cert_check.proofs.set_table.SetTable.holds.Goals as goal
+use Rattle.cert_check.proofs.check_table.CheckTable.holds.Goals as goal
 
 pub returns-clause-holds : goal.returns-clause-holds
 unfolding IsReasonFor
