@@ -3,9 +3,9 @@ use Rattle.std.specs.Prelude.{ℕ, ◌≤◌, ℤ, int_lt, List, [], ◌∷◌, 
 use Rattle.std.specs.Ordering.{int_eq}
 use Rattle.toml_fields.specs.Fields.{is_name}
 use Rattle.toml_fields.specs.Ranges.{IsWithin}
-use Rattle.part_file.specs.declared.bounds.TheConstants.{LEAST_THICKNESS, GREATEST_THICKNESS}
+use Rattle.part_file.specs.Bounds.{least_thickness, greatest_thickness}
 use Rattle.part_file.specs.Part.{PartData, IsRadius, half_thickness}
-use Rattle.allowance.specs.declared.bounds.TheConstants.{LEAST_MEASURED, GREATEST_HALF_DEDUCTION, MOST_ROWS}
+use Rattle.allowance.specs.Bounds.{least_measured, greatest_half_deduction, most_allow_rows}
 use Rattle.allowance.specs.declared.table.Factor.{Factor}
 use Rattle.allowance.specs.declared.table.Factor.TheVariants.{K, Measured}
 use Rattle.allowance.specs.declared.table.AllowRow.{AllowRow}
@@ -32,18 +32,18 @@ table_data table = map row_data table.rows.items
 -- how half of the deduction is found: by a correction factor, or as it was measured, each in its range
 abbrev pub IsAllowFactor : Factor → Type 0
 IsAllowFactor (K k) = IsFactor k
-IsAllowFactor (Measured q) = IsWithin LEAST_MEASURED GREATEST_HALF_DEDUCTION q
+IsAllowFactor (Measured q) = IsWithin least_measured greatest_half_deduction q
 
 -- the ranges of a row
 pub record IsAllowRow (row : RowData) : Type 0 where
   pub material : IsTrue (is_name row.material)
-  pub thickness : IsWithin LEAST_THICKNESS GREATEST_THICKNESS row.thickness
+  pub thickness : IsWithin least_thickness greatest_thickness row.thickness
   pub radius : IsRadius row.radius
   pub factor : IsAllowFactor row.factor
 
 -- what a table that was read keeps to
 pub record IsAllowTable (rows : List RowData) : Type 0 where
-  pub few : length rows ≤ MOST_ROWS
+  pub few : length rows ≤ most_allow_rows
   pub each : All IsAllowRow rows
 
 -- the row has the part's material, thickness and radius

@@ -3,17 +3,17 @@
 -- and the correction factor k, which is given in thousandths here. Pi is taken as 355 / 113.
 use Rattle.std.specs.Prelude.{ℤ, pos, ◌+ℤ◌, ◌-ℤ◌, ◌*ℤ◌, ◌≤ℤ◌, ◌<ℤ◌, int_div}
 use Rattle.toml_fields.specs.Ranges.{IsWithin}
-use Rattle.part_file.specs.declared.bounds.TheConstants.{GREATEST_THICKNESS}
+use Rattle.part_file.specs.Bounds.{greatest_thickness}
 use Rattle.part_file.specs.Part.{IsRadius}
-use Rattle.allowance.specs.declared.bounds.TheConstants.{LEAST_FACTOR, GREATEST_FACTOR}
+use Rattle.allowance.specs.Bounds.{least_factor, greatest_factor}
 
 -- a correction factor, in thousandths
 abbrev pub IsFactor : ℤ → Type 0
-IsFactor k = IsWithin LEAST_FACTOR GREATEST_FACTOR k
+IsFactor k = IsWithin least_factor greatest_factor k
 
 -- a thickness, in micrometres, for which the formula is taken
 abbrev pub IsBendThickness : ℤ → Type 0
-IsBendThickness t = IsWithin (pos 1) GREATEST_THICKNESS t
+IsBendThickness t = IsWithin (pos 1) greatest_thickness t
 
 -- a bend's inner radius and thickness, in micrometres, and its correction factor
 pub record IsBend (r t k : ℤ) : Type 0 where

@@ -1,3 +1,4 @@
+pub mod Bounds
 pub mod HalfDeduction
 pub mod AllowTable
 pub mod FaultNumbers

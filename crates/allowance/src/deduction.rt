@@ -1,8 +1,7 @@
 //! Half of the deduction of a right angle, by DIN 6935.
 ghost use Rattle.std.specs.Prelude.{◌≡◌, pos, ◌≤ℤ◌, ◌<ℤ◌, ◌+ℤ◌, ◌-ℤ◌, ◌*ℤ◌};
+ghost use Rattle.allowance.specs.Bounds.{greatest_half_deduction};
 ghost use Rattle.allowance.specs.HalfDeduction.{half_arc, rounded, half_deduction_of, IsFactor, IsBendThickness, IsBend, IsNearest};
-
-use crate::bounds::GREATEST_HALF_DEDUCTION;
 
 /// The thickness, weighted by the correction factor.
 fn weighted(t: i64, k: i64) -> i64
@@ -43,7 +42,7 @@ pub fn half_deduction(r: i64, t: i64, k: i64) -> i64
     requires { IsBend r t k }
     ensures value { result ≡ half_deduction_of r t k }
     ensures nearest { IsNearest r t k result }
-    ensures high { result ≤ℤ GREATEST_HALF_DEDUCTION }
+    ensures high { result ≤ℤ greatest_half_deduction }
 {
     r + t - rounded(half_arc(r, t, k))
 }

@@ -2,9 +2,9 @@
 ghost use Rattle.std.specs.Prelude.{◌≡◌, ◌≤ℤ◌, map, All, IfOk};
 ghost use Rattle.toml_fields.specs.Results.{Gives};
 ghost use Rattle.part_file.specs.Part.{part_data, half_thickness};
+ghost use Rattle.allowance.specs.Bounds.{greatest_half_deduction};
 ghost use Rattle.allowance.specs.AllowTable.{row_data, table_data, IsAllowRow, IsAllowTable, matches, row_half_deduction, matching_row, half_deduction_in};
 
-use crate::bounds::GREATEST_HALF_DEDUCTION;
 use crate::deduction::half_deduction;
 use brake_base::Name;
 use part_file::Part;
@@ -55,7 +55,7 @@ fn matches(row: &AllowRow, part: &Part) -> bool
 fn row_half_deduction(row: &AllowRow) -> i64
     requires { IsAllowRow (row_data row.now) }
     ensures value { result ≡ row_half_deduction (row_data row.now) }
-    ensures high { result ≤ℤ GREATEST_HALF_DEDUCTION }
+    ensures high { result ≤ℤ greatest_half_deduction }
 {
     match row.factor {
         Factor::K(k) => half_deduction(row.radius, row.thickness, k),
@@ -92,7 +92,7 @@ pub fn find(table: &AllowTable, part: &Part) -> Result<i64, AllowFault>
     requires { IsAllowTable (table_data table.now) }
     ensures value { result ≡ half_deduction_in (table_data table.now) (part_data part.now) }
     ensures low { IfOk result (λ q. half_thickness (part_data part.now) ≤ℤ q) }
-    ensures high { IfOk result (λ q. q ≤ℤ GREATEST_HALF_DEDUCTION) }
+    ensures high { IfOk result (λ q. q ≤ℤ greatest_half_deduction) }
 {
     let row = only_match(&table.rows, part)?;
     let q = row_half_deduction(row);

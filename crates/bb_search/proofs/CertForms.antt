@@ -1,5 +1,5 @@
 -- What is taken from a pool after a run is a well formed, good and thrifty certificate.
-use Rattle.std.proofs.Common.{◌≡◌, ◌≢◌, inl, inr, ℕ, ◌+◌, ◌-◌, ◌*◌, ◌<◌, ◌≤◌, List, length, get_or, Some, None, IsTrue, arith, refl, sym, ◌∙◌, ap, subst}
+use Rattle.std.proofs.Common.{◌≡◌, ◌≢◌, inl, inr, ℕ, ◌+◌, ◌-◌, ◌*◌, ◌<◌, ◌≤◌, List, length, min, get_or, Some, None, IsTrue, arith, refl, sym, ◌∙◌, ap, subst}
 use Rattle.std.specs.Prelude.{slice_get, option_and_then, All}
 use Rattle.std.proofs.Math.Nat.{mul_comm}
 use Rattle.std.proofs.lemmas.Bool.{cases_lt}
@@ -19,7 +19,7 @@ use Rattle.job_setup.specs.StrokeGroup.{is_lead}
 use Rattle.job_setup.specs.ValidJob.{IsJob}
 use Rattle.handling_cost.specs.StepCost.{IsKeyOf, IsActionAt, IsFull}
 use Rattle.handling_cost.specs.Plan.{start}
-use Rattle.handling_cost.specs.Reach.{IsReached}
+use Rattle.handling_cost.specs.Reach.{IsReached, nodes}
 use Rattle.handling_cost.proofs.Actions.{few_left}
 use Rattle.handling_cost.proofs.Keys.{start_in_range, below_full}
 use Rattle.handling_cost.proofs.Nodes.{reached_in_range}
@@ -32,13 +32,13 @@ use Rattle.plan_cert.specs.declared.cert.Note.{Note}
 use Rattle.plan_cert.specs.Cert.{CertData}
 use Rattle.plan_cert.specs.Lines.{action_at}
 use Rattle.plan_cert.specs.WellFormed.{IsWorth, IsStep, HasSteps, IsRow, IsNote, NoteIsBefore, AreRows}
-use Rattle.plan_cert.specs.GoodCert.{IsThriftyCert, HasRow as HasCertRow, HasNote as HasCertNote}
+use Rattle.plan_cert.specs.GoodCert.{IsThriftyCert, IsWithinBudget, HasRow as HasCertRow, HasNote as HasCertNote}
 use Rattle.bb_search.specs.Table.{HasRow, HasNote}
 use Rattle.bb_search.specs.Outcomes.{HaveFirstGauges, outcome_of, AreGoodRows, IsAnswer}
 use Rattle.bb_search.specs.Searches.{SearchData}
-use Rattle.bb_search.specs.Certificates.{HasAnswer, IsCertificateOf}
+use Rattle.bb_search.specs.Certificates.{HasAnswer, HasRowsOf, IsCertificateOf}
 use Rattle.bb_search.specs.CertRows.{row_order, row_of_order, IsRowOrder, AreSortedRows, AreHeads, note_order, AreNotes}
-use Rattle.bb_search.proofs.OutcomeLemmas.{apart, some_worth}
+use Rattle.bb_search.proofs.OutcomeLemmas.{apart, some_worth, reach_of_rows}
 use Rattle.bb_search.proofs.RowOrders.{key_before, order_of_row}
 use Rattle.bb_search.proofs.Ranges.{reason_ranged, steps_ranged, steps_most}
 use Rattle.bb_search.proofs.CertLemmas.{condition_carried, thrifty_carried, map_pairs, row_of_head, row_there, row_back, note_there, note_back, note_at}
@@ -223,18 +223,44 @@ all_done job pool budget steps claim answer k within none = elim (slice_get_case
   | inr past ↦ absurd (omega (arith, within, past.0))
 ]
 
+module _ (job : JobData) (is_job : IsJob job) (pool : Pool) (is_pool : IsPool pool) (claim : Worth) (steps : List Step) (good : AreGoodRows job pool claim steps)
+    (orders : List ℕ) (are : AreSortedRows pool.rows orders) (heads : List RowHead) (taken : AreHeads pool.rows orders (length orders) heads) (notes : List Note) (listed : AreNotes pool orders (note_order (length orders) 0) notes) where
+  abbrev taken_cert : CertData
+  taken_cert = record { claim = claim; steps = steps; rows = heads; notes = notes }
+
+  -- the heads and notes are the rows of the pool and their reasons
+  pub rows_of_pool : HasRowsOf job pool taken_cert
+  rows_of_pool = record {
+    count = taken.all ∙ are.all;
+    rows = λ key worth. (row_back pool orders are heads taken key worth, row_there pool orders are heads taken key worth);
+    notes = λ key action reason at. (
+      note_back pool orders are heads taken job is_job good.noted notes listed claim steps key action reason,
+      note_there pool orders are heads taken job is_job good.noted notes listed claim steps key action reason at,
+    );
+  }
+
+  pub few_rows : (budget : ℕ) → pool.limit ≡ min budget (nodes job) → IsWithinBudget job budget taken_cert
+  few_rows budget limit = record {
+    rows = omega (arith, taken.all, are.all, is_pool.within, limit);
+    reach = λ count less. reach_of_rows job pool is_pool good.nodes count (omega (arith, less, taken.all, are.all));
+  }
+
 -- what a search with a claim gives is its certificate
-pub certificate_is : (search : SearchData) (job : JobData) → job ≡ search.job → IsJob job → IsPool search.pool → HasAnswer search → (claim : Worth) → search.outcome ≡ Some (outcome_of claim) → (steps : List Step) → steps ≡ search.steps →
+pub certificate_is : (search : SearchData) (job : JobData) → job ≡ search.job → IsJob job → IsPool search.pool → search.pool.limit ≡ min search.budget (nodes search.job) → HasAnswer search → (claim : Worth) → search.outcome ≡ Some (outcome_of claim) → (steps : List Step) → steps ≡ search.steps →
     (orders : List ℕ) → AreSortedRows search.pool.rows orders → (heads : List RowHead) → AreHeads search.pool.rows orders (length orders) heads → (notes : List Note) → AreNotes search.pool orders (note_order (length orders) 0) notes →
     IsCertificateOf search (record { claim = claim; steps = steps; rows = heads; notes = notes })
-certificate_is search job of_job is_job is_pool answered claim is steps same orders are heads taken notes listed =
+certificate_is search job of_job is_job is_pool limit answered claim is steps same orders are heads taken notes listed =
     let valid : IsJob search.job = subst IsJob of_job is_job in
     let answer : IsAnswer search.job search.pool search.budget search.steps (outcome_of claim) =
     subst (IsAnswer search.job search.pool search.budget search.steps) (same_Some (outcome_of answered.0) (outcome_of claim) (sym answered.1 ∙ is)) answered.2 in
+    let good : AreGoodRows search.job search.pool claim search.steps = rows_of_answer search.job search.pool search.budget search.steps claim answer in
+    let good_kept : AreGoodRows search.job search.pool claim steps = subst (AreGoodRows search.job search.pool claim) (sym same) good in
     record {
       claim = is;
       steps = same;
       gauges = subst (HaveFirstGauges search.job start) (sym same) (first_gauges search.job valid search.pool search.budget search.steps claim answer);
+      rows = rows_of_pool search.job valid search.pool is_pool claim steps good_kept orders are heads taken notes listed;
+      few = few_rows search.job valid search.pool is_pool claim steps good_kept orders are heads taken notes listed search.budget limit;
       proves = subst (λ (xs : List Step). IsThriftyCert search.job (record { claim = claim; steps = xs; rows = heads; notes = notes })) (sym same)
           (cert_of_answer search.job valid search.pool is_pool search.budget claim search.steps answer orders are heads taken notes listed);
     }

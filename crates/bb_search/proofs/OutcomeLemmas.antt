@@ -29,7 +29,8 @@ use Rattle.handling_cost.proofs.Nodes.{reach_within_nodes, reached_in_range}
 use Rattle.row_pool.specs.Rows.{Pool, PoolRow, keys, empty_pool, IsPool}
 use Rattle.bb_search.specs.Table.{HasRow, HasNote, noted_for, AreNoted}
 use Rattle.bb_search.specs.Settling.{IsSound, OpenAbove, IsKnownAfter, IsSpent, IsFound}
-use Rattle.bb_search.specs.Outcomes.{AreSteps, outcome_with, IsLeast, AreGoodRows, IsUsedUp, IsAnswer}
+use Rattle.handling_cost.specs.Claim.{NoPlanCostsLess}
+use Rattle.bb_search.specs.Outcomes.{AreSteps, outcome_with, AreGoodRows, AreWithinBudget, IsUsedUp, IsAnswer}
 use Rattle.bb_search.proofs.OrderLemmas.{is_action}
 use Rattle.bb_search.proofs.TableLemmas.{known_proves}
 use Rattle.bb_search.proofs.CallLemmas.{small_worth, cost_most}
@@ -183,7 +184,7 @@ module _ (job : JobData) (is_job : IsJob job) (limit actions : ℕ) (pool : Pool
         ];
       }
 
-  pub best_is_least : (cost : ℕ) → IsKnownAfter job (empty_pool limit actions) pool start (Cost cost) → IsLeast job cost
+  pub best_is_least : (cost : ℕ) → IsKnownAfter job (empty_pool limit actions) pool start (Cost cost) → NoPlanCostsLess job cost
   best_is_least cost found = worth_is_least job is_job pool is_pool found.sound (Cost cost) (known_proves job is_job pool.rows start (Cost cost) found.known)
 
   pub blocked_has_none : IsKnownAfter job (empty_pool limit actions) pool start Blocked → (steps : List Step) → IsPlan job steps → ⊥
@@ -214,6 +215,26 @@ module _ (job : JobData) (is_job : IsJob job) (pool before : Pool) (is_pool : Is
         }
     | inr more ↦ absurd (reach_within_nodes job is_job (subst (λ (n : ℕ). ReachIsAbove job n) (spent.limit ∙ (limit ∙ more)) above_limit))
   ]
+
+-- the rows have different keys, which are reached and not full
+pub reach_of_rows : (job : JobData) (pool : Pool) → IsPool pool → ((i : ℕ) (row : PoolRow) → slice_get pool.rows i ≡ Some row → IsNode job row.key) → (count : ℕ) → count < length pool.rows → ReachIsAbove job count
+reach_of_rows job pool is_pool each count less = (keys pool, let same = keys_length pool in omega (arith, less, same), is_pool.distinct, all_keys pool (IsNode job) each)
+
+module _ (job : JobData) (actions budget : ℕ) (pool : Pool) where
+  found_nodes : (worth : Option Worth) → IsFound job (empty_pool (min budget (nodes job)) actions) pool start worth → (i : ℕ) (row : PoolRow) → slice_get pool.rows i ≡ Some row → IsNode job row.key
+  found_nodes (Some worth) found = found.sound.nodes
+  found_nodes None spent = spent.nodes
+
+  pub found_limit : (worth : Option Worth) → IsFound job (empty_pool (min budget (nodes job)) actions) pool start worth → pool.limit ≡ min budget (nodes job)
+  found_limit (Some worth) found = found.limit
+  found_limit None spent = spent.limit
+
+  pub within_budget : IsPool pool → (worth : Option Worth) → IsFound job (empty_pool (min budget (nodes job)) actions) pool start worth → AreWithinBudget job pool budget
+  within_budget is_pool worth found = record {
+    distinct = is_pool.distinct;
+    rows = omega (arith, is_pool.within, found_limit worth found);
+    reach = reach_of_rows job pool is_pool (found_nodes worth found);
+  }
 
 -- from the start key's worth and the kept steps to what the outcome says
 pub answer_is : (job : JobData) → IsJob job → (actions budget : ℕ) (pool : Pool) (steps : List Step) → IsPool pool → (worth : Option Worth) →

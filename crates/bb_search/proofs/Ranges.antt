@@ -3,13 +3,11 @@ use Rattle.std.proofs.Common.{◌≡◌, ℕ, suc, ◌+◌, ◌-◌, ◌*◌, �
 use Rattle.std.specs.Prelude.{All, Any}
 use Rattle.std.specs.List.{flat_map, enumerate_from}
 use Rattle.std.proofs.lemmas.List.{length-map}
-use Rattle.std.proofs.lemmas.List.FromFn.{length-range_with_len}
 use Rattle.std.proofs.lemmas.List.Elements.{All-nil, All-cons, All-head, All-tail, All-append, All-map}
 use Rattle.brake_base.specs.declared.mask.Mask.{Mask}
 use Rattle.brake_base.specs.declared.stroke.Back.{Back}
 use Rattle.brake_base.specs.declared.stroke.Key.{Key}
 use Rattle.brake_base.specs.declared.stroke.Action.{Action}
-use Rattle.brake_base.specs.declared.stroke.Gauge.{Gauge}
 use Rattle.brake_base.specs.declared.stroke.Step.{Step}
 use Rattle.brake_base.specs.declared.reason.Reason.{Reason}
 use Rattle.brake_base.specs.declared.reason.Reason.TheVariants.{Cover, Rest, Frame, Upper, Nose, Lower, SelfHit, NoGauge, Load}
@@ -18,7 +16,7 @@ use Rattle.unfolder.specs.Blank.{face_numbers, bend_numbers}
 use Rattle.machine_file.specs.declared.machine.Fixed.{Fixed}
 use Rattle.fold_boxes.specs.declared.posed_part.PoseBox.{PoseBox}
 use Rattle.fold_boxes.specs.Shapes.{ShapeData, IsShape}
-use Rattle.fold_boxes.specs.Pose.{PoseData, pose_box, posed_place, box_ids, pose_of}
+use Rattle.fold_boxes.specs.Pose.{pose_box, box_ids, pose_of}
 use Rattle.fold_boxes.proofs.Picked.{all_numbers, all_picked}
 use Rattle.job_setup.specs.declared.obstacle.Obstacle.{Obstacle}
 use Rattle.job_setup.specs.Setup.{StageData, JobData, shape_of, bend_count}
@@ -27,11 +25,11 @@ use Rattle.job_setup.specs.StageOf.{stage_of}
 use Rattle.job_setup.specs.ValidJob.{IsJob, IsStage}
 use Rattle.job_setup.specs.Obstacles.{raised_box, along_stage, upper_boxes, lower_boxes, half_opening, upper_obstacle, lower_obstacle, upper_group, lower_group}
 use Rattle.job_setup.specs.Reasons.{SomeBox, SomeObstacle, pose_at, IsReason}
-use Rattle.job_setup.specs.LegalGauge.{IsFlatFace, IsPair, IsLegalPair}
 use Rattle.job_setup.proofs.Validity.{shape_of_job}
 use Rattle.handling_cost.specs.StepCost.{left, key_after}
-use Rattle.handling_cost.specs.Plan.{IsReasonFor, IsGaugeFor, IsLegal, IsRest}
+use Rattle.handling_cost.specs.Plan.{IsReasonFor, IsLegal, IsRest}
 use Rattle.handling_cost.proofs.Actions.{few_bends, fewer_left}
+use Rattle.handling_cost.proofs.Legal.{gauge_within}
 use Rattle.handling_cost.proofs.Counts.{at_most_all}
 use Rattle.plan_cert.specs.WellFormed.{IsStep, IsReasonInRange}
 
@@ -119,31 +117,9 @@ unfolding IsReasonFor
 reason_ranged job is_job mask action reason holds = ranged job is_job mask (group_of job mask action.bend) action.back action.stage reason holds
 
 -- ---- steps
-from_some : (A B : PoseBox → Type 0) (xs : List PoseBox) (R : Type 0) → ((x : PoseBox) → A x → B x → R) → Any (λ x. A x × B x) xs → R
-from_some A B xs R f h = f h.1 h.4.0 h.4.1
-
--- the faces of a legal pair are faces of the part
-legal_within : (job : JobData) (pose : PoseData) (gauge : Gauge) → IsLegalPair job pose gauge → (gauge.left_face < length pose.places) × (gauge.right_face < length pose.places)
-legal_within job pose gauge legal =
-    let A = IsFlatFace job.part.thickness pose gauge.left_face in
-    let B = IsFlatFace job.part.thickness pose gauge.right_face in
-    let P = IsPair job.setup.gauge job.part.thickness pose in
-    let R = (gauge.left_face < length pose.places) × (gauge.right_face < length pose.places) in
-    from_some A (λ left. Any (λ right. B right × P left right) pose.boxes) pose.boxes R (λ left flat rest. from_some B (P left) pose.boxes R (λ right flat_right pair. (flat.within, flat_right.within)) rest) legal
-
-gauge_ranged : (job : JobData) (key : Key) (step : Step) → IsLegal job key step → (step.gauge.left_face < length job.part.faces) × (step.gauge.right_face < length job.part.faces)
-unfolding IsGaugeFor
-gauge_ranged job key step legal =
-    let group = group_of job key.mask step.action.bend in
-    let pose = pose_at job key.mask group step.action.back step.action.stage in
-    let faces = length-map (face_numbers job.part.faces) (posed_place (shape_of job) key.mask group step.action.back (stage_of job step.action.stage).x0 (stage_of job step.action.stage).x1) in
-    let count = length-range_with_len 0 (length job.part.faces) in
-    let within = legal_within job pose step.gauge legal.gauge in
-    (omega (arith, faces, count, within.0), omega (arith, faces, count, within.1))
-
 step_ranged : (job : JobData) (key : Key) (step : Step) → IsLegal job key step → IsStep job step
 step_ranged job key step legal =
-    let faces = gauge_ranged job key step legal in
+    let faces = gauge_within job key.mask step.action step.gauge legal.gauge in
     record {
       action = record { first = legal.action.first; last = legal.action.last; stage = legal.action.stage };
       left = omega (arith, faces.0);

@@ -17,12 +17,15 @@ row_of_order order = order % 4294967296
 
 -- the place of some row
 abbrev pub IsRowOrder : List PoolRow → ℕ → Type 0
-IsRowOrder rows order = (row : PoolRow) × (slice_get rows (row_of_order order) ≡ Some row) × (order ≡ row_order row.key (row_of_order order))
+IsRowOrder rows order =
+    (row : PoolRow) × (slice_get rows (row_of_order order) ≡ Some row)
+    × (order ≡ row_order row.key (row_of_order order))
 
 -- the places of the first so many rows, and no others, each once
 pub record AreRowOrders (rows : List PoolRow) (count : ℕ) (orders : List ℕ) : Type 0 where
   pub all : length orders ≡ count
-  pub each : (i : ℕ) (row : PoolRow) → i < count → slice_get rows i ≡ Some row → Contains orders (row_order row.key i)
+  pub each : (i : ℕ) (row : PoolRow) → i < count → slice_get rows i ≡ Some row
+      → Contains orders (row_order row.key i)
   pub only : All (IsRowOrder rows) orders
   pub below : All (λ order. row_of_order order < count) orders
   pub distinct : AllPairs (λ a b. a ≢ b) orders
@@ -30,23 +33,29 @@ pub record AreRowOrders (rows : List PoolRow) (count : ℕ) (orders : List ℕ) 
 -- the places of all rows, and no others, in ascending order; there are less than 2^32 of them
 pub record AreSortedRows (rows : List PoolRow) (orders : List ℕ) : Type 0 where
   pub all : length orders ≡ length rows
-  pub each : (i : ℕ) (row : PoolRow) → slice_get rows i ≡ Some row → Contains orders (row_order row.key i)
+  pub each : (i : ℕ) (row : PoolRow) → slice_get rows i ≡ Some row
+      → Contains orders (row_order row.key i)
   pub only : All (IsRowOrder rows) orders
   pub ascending : AllPairs (λ a b. a < b) orders
   pub few : length rows < 4294967296
 
 -- the key and the worth of a row
 abbrev pub IsHeadOf : List PoolRow → ℕ → RowHead → Type 0
-IsHeadOf rows number head = (row : PoolRow) × (slice_get rows number ≡ Some row) × (row.key ≡ head.key) × (row.worth ≡ Some head.worth)
+IsHeadOf rows number head =
+    (row : PoolRow) × (slice_get rows number ≡ Some row) × (row.key ≡ head.key)
+    × (row.worth ≡ Some head.worth)
 
 -- the keys and the worths of the rows with the first so many places
-pub record AreHeads (rows : List PoolRow) (orders : List ℕ) (count : ℕ) (heads : List RowHead) : Type 0 where
+pub record AreHeads (rows : List PoolRow) (orders : List ℕ) (count : ℕ)
+    (heads : List RowHead) : Type 0 where
   pub all : length heads ≡ count
-  pub each : (i order : ℕ) (head : RowHead) → slice_get orders i ≡ Some order → slice_get heads i ≡ Some head → IsHeadOf rows (row_of_order order) head
+  pub each : (i order : ℕ) (head : RowHead) → slice_get orders i ≡ Some order
+      → slice_get heads i ≡ Some head → IsHeadOf rows (row_of_order order) head
 
 -- the reason for the action of a number at the row that has the place of this number
 abbrev pub reason_in : Pool → List ℕ → ℕ → ℕ → Option Reason
-reason_in pool orders place action = reason_at pool (row_of_order (slice_index_or orders place 0)) action
+reason_in pool orders place action =
+    reason_at pool (row_of_order (slice_index_or orders place 0)) action
 
 -- where a note of this row and action stands among notes
 abbrev pub note_order : ℕ → ℕ → ℕ
@@ -60,7 +69,9 @@ pub record IsNoteOf (pool : Pool) (orders : List ℕ) (until : ℕ) (note : Note
 
 -- the reasons of the rows that stand before this place among notes, and no others, in order
 pub record AreNotes (pool : Pool) (orders : List ℕ) (until : ℕ) (notes : List Note) : Type 0 where
-  pub each : (place action : ℕ) (reason : Reason) → action < 256 → note_order place action < until → reason_in pool orders place action ≡ Some reason
+  pub each : (place action : ℕ) (reason : Reason) → action < 256 → note_order place action < until
+      → reason_in pool orders place action ≡ Some reason
       → Contains notes (record { row = place; action = action; reason = reason })
   pub only : All (IsNoteOf pool orders until) notes
-  pub ascending : AllPairs (λ (a b : Note). note_order a.row a.action < note_order b.row b.action) notes
+  pub ascending : AllPairs (λ (a b : Note). note_order a.row a.action
+      < note_order b.row b.action) notes

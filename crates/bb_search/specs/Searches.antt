@@ -8,7 +8,8 @@ use Rattle.handling_cost.specs.Reach.{nodes}
 use Rattle.row_pool.specs.Rows.{Pool, empty_pool}
 use Rattle.bb_search.specs.declared.outcome.Outcome.{Outcome}
 
--- the job for which it was opened, the pool of rows, how many keys may be settled, what the run answered, and the kept steps
+-- the job for which it was opened, the pool of rows, how many keys may be settled, what the run
+-- answered, and the kept steps
 pub record SearchData : Type 0 where
   pub job : JobData
   pub pool : Pool
@@ -18,14 +19,22 @@ pub record SearchData : Type 0 where
 
 -- all of them together
 abbrev pub search_data : JobData → Pool → ℕ → Option Outcome → List Step → SearchData
-search_data job pool budget outcome steps = record { job = job; pool = pool; budget = budget; outcome = outcome; steps = steps }
+search_data job pool budget outcome steps = record {
+  job = job;
+  pool = pool;
+  budget = budget;
+  outcome = outcome;
+  steps = steps;
+}
 
 -- a search that hasn't run
 abbrev pub opened : JobData → ℕ → SearchData
-opened job budget = search_data job (empty_pool (min budget (nodes job)) (24 * stage_count job)) budget None []
+opened job budget =
+    search_data job (empty_pool (min budget (nodes job)) (24 * stage_count job)) budget None []
 
 -- before the run it is as it was opened, and the trail has room for the folds of all bends
 pub record IsSearch (search : SearchData) (trail : ListWithRoom Place) : Type 0 where
   pub fresh : search.outcome ≡ None → search ≡ opened search.job search.budget
   pub actions : search.pool.actions ≡ 24 * stage_count search.job
+  pub limit : search.pool.limit ≡ min search.budget (nodes search.job)
   pub room : trail ≡ list_with_room [] 156

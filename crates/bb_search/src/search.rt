@@ -6,7 +6,7 @@ ghost use Rattle.job_setup.specs.ValidJob.{IsJob};
 ghost use Rattle.handling_cost.specs.Plan.{start};
 ghost use Rattle.row_pool.specs.Rows.{Pool, empty_pool};
 ghost use Rattle.bb_search.specs.Settling.{IsFound};
-ghost use Rattle.bb_search.specs.Outcomes.{AreSteps, outcome_of, outcome_with, IsAnswer};
+ghost use Rattle.bb_search.specs.Outcomes.{AreSteps, outcome_of, outcome_with, IsAnswer, AreWithinBudget};
 ghost use Rattle.bb_search.specs.Searches.{opened};
 ghost use Rattle.bb_search.specs.Certificates.{HasAnswer, IsCertificateOf};
 ghost use Rattle.plan_cert.specs.Cert.{cert_data};
@@ -146,11 +146,13 @@ impl Search {
     /// `Best` comes with a kept plan of that cost, each step with its first legal gauge, and no
     /// plan costs less. `Blocked` comes only where there is no plan. With both the rows are a good
     /// and thrifty certificate, and each row's key is reached. `Spent` comes only where more keys
-    /// are reached than the budget allows; then as many have a row.
+    /// are reached than the budget allows; then as many have a row. There are never more rows than
+    /// the budget allows, nor than keys are reached.
     pub fn run(&mut self, job: &Job) -> Outcome
         requires job { job.now ≡ self.old.job }
         requires fresh { self.old.outcome ≡ None }
         ensures answer { IsAnswer job.now self.new.pool self.new.budget self.new.steps result }
+        ensures rows { AreWithinBudget job.now self.new.pool self.new.budget }
         ensures outcome { self.new.outcome ≡ Some result }
         ensures job { self.new.job ≡ self.old.job }
         ensures budget { self.new.budget ≡ self.old.budget }
@@ -184,8 +186,8 @@ impl Search {
         self.steps.as_slice()
     }
 
-    /// The certificate of what the run answered: the rows in the order of their keys, their reasons
-    /// as notes, the claim and the kept steps.
+    /// The certificate of what the run answered: all rows in the order of their keys, their reasons
+    /// as notes, the claim and the kept steps, and no more.
     pub fn certificate(&self, alloc: Global, job: &Job) -> Result<Cert, AllocError>
         requires job { job.now ≡ self.now.job }
         requires answered { HasAnswer self.now }

@@ -90,16 +90,6 @@ stays_one shape rules before group mark face start places records some inside st
     at_most : (f : ℕ) → f < face + 1 → f ≤ face
     at_most f h = omega (arith, h)
 
-pub moved_all : (shape : ShapeData) (before group : Mask) (mark face : ℕ) (start places records : List Place) → face ≡ length shape.part.faces → IsMoving shape before group mark face start places records
-    → ArePlaces shape (union before group) places × AreKept shape before group mark records
-moved_all shape before group mark face start places records end now = (
-  (λ f other inside. now.done f other (omega (arith, inside, now.count, end)) (omega (arith, inside, now.count))),
-  record {
-    count = now.long ∙ ap (λ n. mark + moved_before shape group n) end;
-    each = λ f other some inside moved. now.kept f other some (omega (arith, inside, end)) inside moved;
-  },
-)
-
 -- the trail has room for the place of one more face
 pub some_room : (shape : ShapeData) (before group : Mask) (mark face : ℕ) (start places records : List Place) (room all : ℕ) → 0 < face → face < length shape.part.faces → length shape.part.faces ≤ 13 → 13 ≤ all
     → IsMoving shape before group mark face start places records → room + length records ≡ all + mark → 0 < room

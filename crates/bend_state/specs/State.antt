@@ -22,7 +22,9 @@ no_bends = record { 0 = 0 }
 -- the folds lead from one set of folded bends to another: each group may be bent where the bends before it are folded
 abbrev pub Leads : ShapeData → Mask → List Fold → Mask → Type 0
 Leads shape before [] mask = before ≡ mask
-Leads shape before (fold ∷ folds) mask = (fold.before ≡ before) × IsGroup shape before fold.group × Leads shape (union before fold.group) folds mask
+Leads shape before (fold ∷ folds) mask =
+    (fold.before ≡ before) × IsGroup shape before fold.group
+    × Leads shape (union before fold.group) folds mask
 
 -- the places are those of the folded bends, which the folds folded one after the other
 pub record IsState (s : StateData) (places : List Place) : Type 0 where
@@ -39,9 +41,11 @@ unfoldable pub moved_before : ShapeData → Mask → ℕ → ℕ
 moved_before shape group f = length (filter (moves shape group) (range_with_len 1 (f - 1)))
 
 -- the records from the mark on are the places of the faces that a fold moves, in the order of the faces
-pub record AreKept (shape : ShapeData) (mask group : Mask) (mark : ℕ) (records : List Place) : Type 0 where
+pub record AreKept (shape : ShapeData) (mask group : Mask) (mark : ℕ) (records : List Place)
+    : Type 0 where
   pub count : length records ≡ mark + moved_before shape group (length shape.part.faces)
-  pub each : (f : ℕ) (other : Place) → 0 < f → f < length shape.part.faces → moves shape group f ≡ true
+  pub each :
+      (f : ℕ) (other : Place) → 0 < f → f < length shape.part.faces → moves shape group f ≡ true
       → IsPlaceOf shape mask f (slice_index_or records (mark + moved_before shape group f) other)
 
 -- the last fold, where there is one
@@ -57,8 +61,10 @@ IsKept shape fold records = AreKept shape fold.before fold.group fold.mark recor
 
 -- the folds of a state, and one of the group as the last
 abbrev pub with_fold : StateData → Mask → ℕ → List Fold
-with_fold state group mark = state.folds ++ record { before = state.mask; group = group; mark = mark } ∷ []
+with_fold state group mark =
+    state.folds ++ record { before = state.mask; group = group; mark = mark } ∷ []
 
 -- what remains of a set without a group: the bends of the set that the group doesn't have
 abbrev pub IsWithout : Mask → Mask → Mask → Type 0
-IsWithout mask group rest = (bend : ℕ) → 1 ≤ bend → bend ≤ 16 → has rest bend ≡ (has mask bend && not (has group bend))
+IsWithout mask group rest =
+    (bend : ℕ) → 1 ≤ bend → bend ≤ 16 → has rest bend ≡ (has mask bend && not (has group bend))

@@ -1,5 +1,5 @@
 -- The order of worths, and a cost paid before one.
-use Rattle.std.specs.Prelude.{ℕ, ◌+◌, ◌≤◌}
+use Rattle.std.specs.Prelude.{ℕ, ◌+◌, ◌≤◌, max}
 use Rattle.brake_base.specs.declared.stroke.Worth.{Worth}
 use Rattle.brake_base.specs.declared.stroke.Worth.TheVariants.{Cost, Blocked}
 
@@ -13,3 +13,9 @@ IsAtMost (Cost m) (Cost n) = m ≤ n
 abbrev pub plus : ℕ → Worth → Worth
 plus cost (Cost n) = Cost (cost + n)
 plus cost Blocked = Blocked
+
+-- the greater of two worths
+abbrev pub greater : Worth → Worth → Worth
+greater Blocked second = Blocked
+greater (Cost first) Blocked = Blocked
+greater (Cost first) (Cost second) = Cost (max first second)

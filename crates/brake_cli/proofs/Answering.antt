@@ -1,43 +1,48 @@
 -- Where the shelf tells what it holds, `blank` has one answer.
-use Rattle.std.proofs.Common.{◌≡◌, ◌⊎◌, inl, inr, ℕ, List, Option, Some, None, Result, Ok, Err, refl, sym, ap, ◌∙◌}
+use Rattle.std.proofs.Common.{◌≡◌, ◌⊎◌, inl, inr, ℕ, List, Option, Some, None, Result, Ok, Err, refl, sym, ap, ◌∙◌, subst}
 use Rattle.std.specs.Prelude.{IfSome, IsSomeAnd, option_map}
-use Rattle.brake_io.specs.Meanings.{Content, Puts}
+use Rattle.brake_io.specs.Meanings.{Content}
 use Rattle.command_runner.specs.declared.status.Status.{Status}
-use Rattle.command_runner.specs.Answers.{AnswerData, concatenation}
-use Rattle.command_runner.specs.Fetching.{fetched_over, files_of}
-use Rattle.command_runner.specs.Delivery.{IsCutShort, Outside, Delivers, delivered, stored_in_part, put_in_part}
-use Rattle.command_runner.specs.Ends.{IsAnswerAfter, Ends, answers, stops}
+use Rattle.command_runner.specs.Answers.{AnswerData}
+use Rattle.command_runner.specs.Fetching.{IsFetched, files_of, all_fetched}
+use Rattle.command_runner.specs.Delivery.{IsCutShort, Outside}
+use Rattle.command_runner.specs.Ends.{Leaves, IsOutcome, cut_short, answered, refused_long}
 use Rattle.command_runner.proofs.Told.{told_fetched}
-use Rattle.brake_cli.specs.declared.command.Command.TheVariants.{Blank}
-use Rattle.brake_cli.specs.Commands.{form_of, meaning_of, command_of}
-use Rattle.brake_cli.specs.Run.{RunEnds, blank_after, told_blank}
+use Rattle.brake_cli.specs.declared.command.Command.{Command}
+use Rattle.brake_cli.specs.declared.command.Command.TheVariants.{Blank, Plan, Check, CheckFiles, Trial, Why, Setups, Settle, Merge, Prove}
+use Rattle.brake_cli.specs.Run.{form_for, meaning_for, blank_after, told_blank, TellsBlankBy}
 
--- one answer follows what was fetched
-blank_is : (fetched : Result (List (List ℕ)) ℕ) (words : List (List ℕ)) (answer : AnswerData) → IsAnswerAfter (meaning_of Blank) words fetched answer → answer ≡ blank_after fetched
-blank_is (Ok contents) words answer is = is
-blank_is (Err number) words answer is = is
+module _ (part tools : ℕ) (words : List (List ℕ)) (before now : Outside) (status : Status) (content : Content) (told : before.shelf.content ≡ Some content) where
+  -- what follows what was fetched is the one answer
+  left : (fetched : Result (List (List ℕ)) ℕ) (answer : AnswerData) → IsFetched before.shelf now.shelf (files_of (form_for (Some (Blank part tools))) words) fetched → blank_after fetched ≡ answer → Leaves answer before now status
+      → IsSomeAnd (told_blank (Blank part tools) content.held words) (λ answer. Leaves answer before now status)
+  left fetched answer is follows leaves =
+      let there : told_blank (Blank part tools) content.held words ≡ Some answer =
+      ap (option_map blank_after) (told_fetched before.shelf now.shelf content (files_of (form_for (Some (Blank part tools))) words) fetched told is) ∙ ap (λ (a : AnswerData). Some a) follows in
+      subst (λ (o : Option AnswerData). IsSomeAnd o (λ a. Leaves a before now status)) (sym there) leaves
 
-left : (held : Option AnswerData) (answer : AnswerData) (before between now : Outside) (status : Status) → held ≡ Some answer → Delivers answer between now status → between.sink ≡ before.sink
-    → IsCutShort status ⊎ IsSomeAnd held (λ answer. (status ≡ answer.status) × Puts before.sink now.sink (concatenation answer.texts))
-left held answer before between now status is (delivered ended stored puts faults sink_faults) same = inr (rw is (ended, rw same at puts))
-left held answer before between now status is (stored_in_part short stored puts) same = inl short
-left held answer before between now status is (put_in_part short stored puts) same = inl short
+  told_over : IsOutcome (form_for (Some (Blank part tools))) (meaning_for (Some (Blank part tools))) words before now status
+      → IsCutShort status ⊎ IsSomeAnd (told_blank (Blank part tools) content.held words) (λ answer. Leaves answer before now status)
+  told_over (cut_short short) = inl short
+  told_over (refused_long long) = inr (left (Err long.number) (blank_after (Err long.number)) long.is_fetched refl long.leaves)
+  told_over (answered run) = inr (left (Ok run.contents) run.answer (all_fetched run.contents run.are_fetched run.longs refl) (sym run.is_answer) run.leaves)
 
-told_over : (words : List (List ℕ)) (before now : Outside) (status : Status) (content : Content) → before.shelf.content ≡ Some content → Ends (form_of Blank) (meaning_of Blank) words before now status
-    → IsCutShort status ⊎ IsSomeAnd (told_blank content.held words) (λ answer. (status ≡ answer.status) × Puts before.sink now.sink (concatenation answer.texts))
-told_over words before now status content told (stops short fetches same) = inl short
-told_over words before now status content told (answers answer between fetches is delivers) =
-    let there : fetched_over content.held (files_of (form_of Blank) words) ≡ Some is.fetched = told_fetched before.shelf between content (files_of (form_of Blank) words) is.fetched told is.is_fetched in
-    let here : told_blank content.held words ≡ Some answer = ap (option_map blank_after) there ∙ ap (λ (a : AnswerData). Some a) (sym (blank_is is.fetched words answer is.is_answer)) in
-    left (told_blank content.held words) answer before (record { shelf = between; sink = before.sink }) now status here delivers refl
+over_shelf : (part tools : ℕ) (words : List (List ℕ)) (before now : Outside) (status : Status) (o : Option Content) → before.shelf.content ≡ o
+    → IsOutcome (form_for (Some (Blank part tools))) (meaning_for (Some (Blank part tools))) words before now status
+    → IfSome o (λ content. IsCutShort status ⊎ IsSomeAnd (told_blank (Blank part tools) content.held words) (λ answer. Leaves answer before now status))
+over_shelf part tools words before now status None told outcome = tt
+over_shelf part tools words before now status (Some content) told outcome = told_over part tools words before now status content told outcome
 
--- where the shelf tells what it holds, `blank` has one answer
-pub told_answer : (words : List (List ℕ)) (before now : Outside) (status : Status) (held : Option Content) → before.shelf.content ≡ held → Ends (form_of Blank) (meaning_of Blank) words before now status
-    → IfSome held (λ content. IsCutShort status ⊎ IsSomeAnd (told_blank content.held words) (λ answer. (status ≡ answer.status) × Puts before.sink now.sink (concatenation answer.texts)))
-told_answer words before now status None told ends = tt
-told_answer words before now status (Some content) told ends = told_over words before now status content told ends
-
--- the same of a run whose words are those of `blank`
-pub told_run : (words : List (List ℕ)) (before now : Outside) (status : Status) → command_of words ≡ Some Blank → RunEnds words before now status
-    → IfSome before.shelf.content (λ content. IsCutShort status ⊎ IsSomeAnd (told_blank content.held words) (λ answer. (status ≡ answer.status) × Puts before.sink now.sink (concatenation answer.texts)))
-told_run words before now status is ends = told_answer words before now status before.shelf.content refl (rw is at ends)
+-- a run of any command
+pub run_tells : (command : Option Command) (words : List (List ℕ)) (before now : Outside) (status : Status) → IsOutcome (form_for command) (meaning_for command) words before now status → TellsBlankBy command words before now status
+run_tells (Some (Blank part tools)) words before now status outcome = over_shelf part tools words before now status before.shelf.content refl outcome
+run_tells None words before now status outcome = tt
+run_tells (Some (Plan part tools machine cert budget)) words before now status outcome = tt
+run_tells (Some (Check cert)) words before now status outcome = tt
+run_tells (Some (CheckFiles cert part tools machine)) words before now status outcome = tt
+run_tells (Some (Trial n)) words before now status outcome = tt
+run_tells (Some (Why part tools machine)) words before now status outcome = tt
+run_tells (Some (Setups part tools machine setups cert)) words before now status outcome = tt
+run_tells (Some (Settle part tools machine out low high base)) words before now status outcome = tt
+run_tells (Some (Merge a b out)) words before now status outcome = tt
+run_tells (Some (Prove table)) words before now status outcome = tt

@@ -19,7 +19,7 @@ use Rattle.plan_cert.specs.declared.cert.RowHead.{RowHead}
 use Rattle.plan_cert.specs.Cert.{CertData}
 use Rattle.plan_cert.specs.WellFormed.{IsRow}
 use Rattle.plan_cert.specs.GoodCert.{worths_in, HasRow, HasNote, IsGoodCert}
-use Rattle.brake_cli.specs.Claim.{IsTrueClaim}
+use Rattle.handling_cost.specs.Claim.{IsTrueClaim}
 
 -- the row of which a key and its worth are told
 row_of : (P : RowHead → Type 0) (rows : List RowHead) (i : ℕ) (pair : Key × Worth) → All P rows → slice_get (worths_in rows) i ≡ Some pair → (row : RowHead) × P row × ((row.key, row.worth) ≡ pair)
@@ -38,7 +38,7 @@ not_full job is_job rows key worth i all is full =
     omega (arith, number, same, row.1.mask)
 
 claim_true : (job : JobData) (claim : Worth) (steps : List Step) → AreClaimed job claim steps → ((other : List Step) → IsPlan job other → IsAtMost claim (Cost (total job start other))) → IsTrueClaim job claim
-claim_true job (Cost cost) steps claimed least = record { steps = steps; plan = claimed.0; sum = claimed.1; least = least }
+claim_true job (Cost cost) steps claimed least = (steps, record { plan = claimed.0; sum = claimed.1; least = least })
 claim_true job Blocked steps claimed least = λ other plan. least other plan
 
 pub good_claim_true : (job : JobData) (cert : CertData) → IsJob job → IsGoodCert job cert → IsTrueClaim job cert.claim

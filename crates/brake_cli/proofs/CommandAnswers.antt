@@ -1,5 +1,5 @@
 -- From what a call answers to what a command answers.
-use Rattle.std.proofs.Common.{◌≡◌, ◌⊎◌, inl, inr, ℕ, List, Result, Ok, Err}
+use Rattle.std.proofs.Common.{◌≡◌, ◌⊎◌, inl, inr, ℕ, List, length, Option, Some, None, Result, Ok, Err, refl}
 use Rattle.brake_base.specs.declared.stroke.Worth.{Worth}
 use Rattle.brake_base.specs.declared.stroke.Worth.TheVariants.{Cost, Blocked}
 use Rattle.plan_cert.specs.WellFormed.{IsWorth}
@@ -10,6 +10,9 @@ use Rattle.brake_cli.specs.CheckAnswer.{IsClaim, ChecksTo}
 use Rattle.job_setup.specs.Setup.{JobData}
 use Rattle.job_setup.specs.JobOf.{FileFault}
 use Rattle.command_runner.specs.Answers.{AnswerData}
+use Rattle.command_runner.specs.Fetching.{file_words}
+use Rattle.brake_cli.specs.declared.command.Command.TheVariants.{Plan}
+use Rattle.brake_cli.specs.Forms.{kinds_of, form_of}
 use Rattle.brake_cli.specs.declared.refusal.ReadStop.{ReadStop}
 use Rattle.brake_cli.specs.declared.refusal.ReadStop.TheVariants.{Refused, NoMemory}
 use Rattle.brake_cli.specs.Stops.{StopsAt, IsRefusalAnd}
@@ -42,3 +45,8 @@ refused_is text fault (inr is) other = is
 pub checks_answer : (text : List ℕ) (checked : Result CheckedData CheckFault) → ChecksTo text checked → IsAnswer text checked
 checks_answer text (Ok checked) checks = checks.0
 checks_answer text (Err fault) checks = checks
+
+-- `plan` has three files, with a budget and without
+pub plan_files : (part tools machine cert : ℕ) (budget : Option ℕ) → length (file_words (kinds_of (form_of (Plan part tools machine cert budget)))) ≡ 3
+plan_files part tools machine cert None = refl
+plan_files part tools machine cert (Some budget) = refl

@@ -2,7 +2,7 @@ pub mod Answering
 pub mod Claims
 pub mod CertTexts
 pub mod Headlines
-pub mod CountWords
+pub mod Confirming
 pub mod Searching
 pub mod PlanAnswers
 pub mod Complete

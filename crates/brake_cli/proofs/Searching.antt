@@ -6,6 +6,7 @@ use Rattle.job_setup.specs.ValidJob.{IsJob}
 use Rattle.handling_cost.specs.Reach.{nodes, ReachIsAbove}
 use Rattle.handling_cost.proofs.Nodes.{reach_within_nodes}
 use Rattle.plan_cert.specs.Cert.{CertData}
+use Rattle.plan_cert.specs.GoodCert.{IsWithinBudget}
 use Rattle.bb_search.specs.declared.outcome.Outcome.{Outcome}
 use Rattle.bb_search.specs.declared.outcome.Outcome.TheVariants.{Best, Blocked, Spent}
 use Rattle.bb_search.specs.Outcomes.{IsAnswer}
@@ -35,6 +36,9 @@ has_answer job search outcome not_spent is same answer =
 
 pub is_plan_cert : (job : JobData) (search : SearchData) (cert : CertData) → job ≡ search.job → IsCertificateOf search cert → IsPlanCert job cert
 is_plan_cert job search cert same is = subst (λ (j : JobData). IsPlanCert j cert) (sym same) (record { proves = is.proves; gauges = is.gauges })
+
+pub is_within : (job : JobData) (search : SearchData) (cert : CertData) (budget : ℕ) → job ≡ search.job → search.budget ≡ budget → IsCertificateOf search cert → IsWithinBudget job budget cert
+is_within job search cert budget same given is = subst (λ (j : JobData). IsWithinBudget j budget cert) (sym same) (subst (λ (n : ℕ). IsWithinBudget search.job n cert) given is.few)
 
 -- a budget of as many keys as a job can have is enough
 pub enough : (job : JobData) → IsJob job → (most : ℕ) → nodes job ≤ most → ReachIsAbove job most → ⊥

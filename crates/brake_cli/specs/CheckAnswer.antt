@@ -1,8 +1,7 @@
 -- What `check` answers.
-use Rattle.std.specs.Prelude.{◌≡◌, ◌≢◌, ℕ, ◌≤◌, List, ◌++◌, codes, bytes_eq, Result, Ok, Err, if◌then◌else◌}
+use Rattle.std.specs.Prelude.{◌≡◌, ◌≢◌, ◌⊎◌, ℕ, ◌≤◌, List, ◌++◌, codes, Result, Ok, Err}
 use Rattle.job_setup.specs.Setup.{JobData}
 use Rattle.plan_cert.specs.Lines.{number, spaced, text_line}
-use Rattle.plan_cert.specs.JobText.{job_text}
 use Rattle.cert_check.specs.declared.verdict.Verdict.{Verdict}
 use Rattle.cert_check.specs.declared.verdict.Verdict.TheVariants.{Optimal, NoPlan}
 use Rattle.cert_check.specs.declared.fault.CheckFault.{CheckFault}
@@ -31,7 +30,8 @@ verdict_answer NoPlan = one_text status.NoPlan no_plan_line
 
 -- the answer of a refused one: the words of its first fault
 abbrev pub cert_refused : CheckFault → AnswerData
-cert_refused fault = one_text status.CertRefused (text_line (codes "certificate refused") (check_fault_words fault))
+cert_refused fault =
+    one_text status.CertRefused (text_line (codes "certificate refused") (check_fault_words fault))
 
 -- the answer is that of a certificate refused for this, which isn't want of memory
 abbrev pub IsCertRefusal : CheckFault → AnswerData → Type 0
@@ -56,20 +56,27 @@ ChecksTo text (Err fault) = IsAnswer text (Err fault)
 
 -- the answer to a certificate's text
 abbrev pub IsTextAnswer : List ℕ → AnswerData → Type 0
-IsTextAnswer text answer = (checked : Result CheckedData CheckFault) × ChecksTo text checked × (answer ≡ answer_of checked)
+IsTextAnswer text answer =
+    (checked : Result CheckedData CheckFault) × ChecksTo text checked × (answer ≡ answer_of checked)
 
 -- the answer to the content of the certificate's file
 abbrev pub IsCheckAnswer : List (List ℕ) → AnswerData → Type 0
 IsCheckAnswer contents answer = IsTextAnswer (word_at contents 0) answer
 
--- the same of a certificate that is to be of this job; jobs are compared by their texts
-abbrev pub answer_for : JobData → Result CheckedData CheckFault → AnswerData
-answer_for job (Ok checked) = if bytes_eq (job_text checked.job) (job_text job) then verdict_answer checked.verdict else other_job
-answer_for job (Err fault) = cert_refused fault
+-- the answer to a certificate that is to be of this job: its claim where its job is this one, else
+-- that it is another's
+abbrev pub IsAnswerOf : JobData → Result CheckedData CheckFault → AnswerData → Type 0
+IsAnswerOf job (Ok checked) answer =
+    ((checked.job ≡ job) × (answer ≡ verdict_answer checked.verdict))
+    ⊎ ((checked.job ≢ job) × (answer ≡ other_job))
+IsAnswerOf job (Err fault) answer = answer ≡ cert_refused fault
 
 abbrev pub IsAnswerFor : List ℕ → JobData → AnswerData → Type 0
-IsAnswerFor text job answer = (checked : Result CheckedData CheckFault) × ChecksTo text checked × (answer ≡ answer_for job checked)
+IsAnswerFor text job answer =
+    (checked : Result CheckedData CheckFault) × ChecksTo text checked × IsAnswerOf job checked answer
 
--- the answer to the contents of a certificate's file and of the three files of a job; a refusal of the files comes first
+-- the answer to the contents of a certificate's file and of the three files of a job; a refusal of the
+-- files comes first
 abbrev pub IsCheckFilesAnswer : List (List ℕ) → AnswerData → Type 0
-IsCheckFilesAnswer contents answer = AnswersJob (IsAnswerFor (word_at contents 0)) (job_of_files 1 contents) answer
+IsCheckFilesAnswer contents answer =
+    AnswersJob (IsAnswerFor (word_at contents 0)) (job_of_files 1 contents) answer

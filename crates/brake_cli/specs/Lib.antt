@@ -2,11 +2,13 @@ pub mod FaultNumbers
 pub mod Stops
 pub mod BlankAnswer
 pub mod JobAnswer
-pub mod Claim
 pub mod PlanAnswer
 pub mod CheckAnswer
 pub mod TrialAnswer
+pub mod Forms
 pub mod Commands
 pub mod Run
 pub mod Headline
+pub mod Complete
+pub mod Confirmed
 pub mod Words

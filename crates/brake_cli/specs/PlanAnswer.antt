@@ -1,5 +1,5 @@
 -- What `plan` answers.
-use Rattle.std.specs.Prelude.{◌≡◌, ℕ, List, [], ◌∷◌, ◌++◌, codes, Option, Some, None, Ok}
+use Rattle.std.specs.Prelude.{◌≡◌, ℕ, ◌<◌, ◌≤◌, List, [], ◌∷◌, ◌++◌, length, codes, Option, Some, None, Ok}
 use Rattle.brake_base.specs.declared.stroke.Worth.{Worth}
 use Rattle.brake_base.specs.declared.stroke.Worth.TheVariants.{Cost, Blocked}
 use Rattle.brake_base.specs.declared.stroke.Step.{Step}
@@ -15,7 +15,7 @@ use Rattle.plan_cert.specs.declared.cert.Cert.{Cert}
 use Rattle.plan_cert.specs.Lines.{number, spaced}
 use Rattle.plan_cert.specs.Cert.{CertData, cert_data}
 use Rattle.plan_cert.specs.CertText.{cert_text2}
-use Rattle.plan_cert.specs.GoodCert.{IsThriftyCert}
+use Rattle.plan_cert.specs.GoodCert.{IsThriftyCert, IsWithinBudget}
 use Rattle.bb_search.specs.Outcomes.{HaveFirstGauges}
 use Rattle.command_runner.specs.declared.status.Status.{Status}
 use Rattle.command_runner.specs.declared.status.Status.TheVariants as status
@@ -40,7 +40,8 @@ abbrev pub last_text : JobData → Worth → List Step → List ℕ
 last_text job (Cost cost) steps = order_text job steps
 last_text job Blocked steps = no_plan_line
 
--- the answer by a certificate: its text is stored under the name, and the sheets are put, the first of which is given
+-- the answer by a certificate: its text is stored under the name, and the sheets are put, the first of
+-- which is given
 abbrev pub cert_answer : List ℕ → JobData → List ℕ → CertData → AnswerData
 cert_answer name job sheet cert = record {
   stored = record { name = name; text = cert_text2 job cert } ∷ [];
@@ -48,34 +49,46 @@ cert_answer name job sheet cert = record {
   texts = sheet ∷ setup_text job ∷ last_text job cert.claim cert.steps ∷ [];
 }
 
--- a certificate that `plan` may store: it proves its claim with rows that were all asked for, and the gauge of each step is the
--- first that is legal
+-- a certificate that `plan` may store: it proves its claim with rows that were all asked for, and the
+-- gauge of each step is the first that is legal
 pub record IsPlanCert (job : JobData) (cert : CertData) : Type 0 where
   pub proves : IsThriftyCert job cert
   pub gauges : HaveFirstGauges job start cert.steps
+
+-- it has at most as many rows as the budget that was given, and no more than there are keys that are
+-- reached
+pub record HasFewRows (budget : Option ℕ) (job : JobData) (cert : CertData) : Type 0 where
+  pub within : (most : ℕ) → budget ≡ Some most → length cert.rows ≤ most
+  pub reach : (count : ℕ) → count < length cert.rows → ReachIsAbove job count
 
 -- the blank of a job, which folded at every bend is the designed part
 pub record IsBlankOf (job : JobData) (blank : BlankData) : Type 0 where
   pub value : blank_of_part job.part job.q ≡ Ok blank
   pub folds_back : FoldsBack job.part job.q blank
 
--- the answer is that by such a certificate and the job's blank; the job is valid
-pub record IsCertAnswer (name : List ℕ) (job : JobData) (answer : AnswerData) : Type 0 where
+-- the answer is that by such a certificate, with rows within the budget, and the job's blank; the job
+-- is valid
+pub record IsCertAnswer (name : List ℕ) (budget : Option ℕ) (job : JobData) (answer : AnswerData)
+    : Type 0 where
   pub valid : IsJob job
   pub blank : BlankData
   pub cert : CertData
   pub unfolds : IsBlankOf job blank
   pub proves : IsPlanCert job cert
+  pub few_rows : HasFewRows budget job cert
   pub is_answer : answer ≡ cert_answer name job (blank_text job.part blank) cert
 
 -- what `plan` answers to a job: that by a certificate, or that a budget that was given isn't enough
-pub data IsPlanned (name : List ℕ) (budget : Option ℕ) (job : JobData) (answer : AnswerData) : Type 0 where
-  by_cert : IsCertAnswer name job answer → IsPlanned name budget job answer
-  spent : (most : ℕ) → budget ≡ Some most → ReachIsAbove job most → answer ≡ one_text status.Spent (spent_line most) → IsPlanned name budget job answer
+pub data IsPlanned (name : List ℕ) (budget : Option ℕ) (job : JobData) (answer : AnswerData)
+    : Type 0 where
+  by_cert : IsCertAnswer name budget job answer → IsPlanned name budget job answer
+  spent : (most : ℕ) → budget ≡ Some most → ReachIsAbove job most
+      → answer ≡ one_text status.Spent (spent_line most) → IsPlanned name budget job answer
 
--- what a search within a budget finds: a certificate, or that the budget isn't enough
+-- what a search within a budget finds: a certificate with rows within it, or that it isn't enough
 abbrev pub Finds : JobData → ℕ → Option Cert → Type 0
-Finds job budget (Some cert) = IsPlanCert job (cert_data cert)
+Finds job budget (Some cert) =
+    IsPlanCert job (cert_data cert) × IsWithinBudget job budget (cert_data cert)
 Finds job budget None = ReachIsAbove job budget
 
 -- the text is the blank sheet of the job
@@ -84,4 +97,5 @@ IsBlankSheet job text = (blank : BlankData) × IsBlankOf job blank × (text ≡ 
 
 -- the answer to the contents of the part's file, the tools file and the machine file
 abbrev pub IsPlanAnswer : List ℕ → Option ℕ → List (List ℕ) → AnswerData → Type 0
-IsPlanAnswer name budget contents answer = AnswersJob (IsPlanned name budget) (job_of_files 0 contents) answer
+IsPlanAnswer name budget contents answer =
+    AnswersJob (IsPlanned name budget) (job_of_files 0 contents) answer

@@ -5,7 +5,7 @@ use Rattle.job_setup.specs.Setup.{bend_count}
 use Rattle.plan_cert.specs.Lines.{number, spaced, worth_word}
 use Rattle.part_gen.specs.Generator.{generated_job}
 use Rattle.command_runner.specs.Answers.{AnswerData, one_text}
-use Rattle.brake_cli.specs.Claim.{IsTrueClaim}
+use Rattle.handling_cost.specs.Claim.{IsTrueClaim}
 use Rattle.brake_cli.specs.PlanAnswer.{claim_status}
 
 -- `trial N bends B cost C checked`, with `none` where there is no plan

@@ -157,6 +157,18 @@ fn files_of_a_mebibyte_and_longer(rt: HostRuntime) -> Result<(), Fail> {
 }
 
 #[test]
+fn no_file_is_fetched_behind_a_long_one(rt: HostRuntime) -> Result<(), Fail> {
+    let alloc = rt.alloc();
+    let mut shelf = MemShelf::new(alloc);
+    shelf.add("part", padded(alloc, L_SECTION, 1_048_577)?.as_bytes())?;
+    let mut out = MemSink::new(alloc);
+    // The tools file isn't held, so a fetch of it is a fault.
+    assert_eq!(rt; run(alloc, WORDS, &mut shelf, &mut out)?, Status::Refused);
+    assert_eq!(rt; out.bytes(), b"refused long 1\n".as_slice());
+    Ok(())
+}
+
+#[test]
 fn each_call_failing_in_turn(rt: HostRuntime) -> Result<(), Fail> {
     for (words, call, put, status, text) in [
         (OF_NO_FILE, 0, 0, Status::Fault, ""),

@@ -1,15 +1,14 @@
 //! The top call.
-ghost use Rattle.std.specs.Prelude.{◌≡◌, ◌⊎◌, List, ℕ, [], map, string_bytes, Some, None, IfSome, IsSomeAnd};
-ghost use Rattle.brake_io.specs.Meanings.{Puts};
-ghost use Rattle.command_runner.specs.Answers.{concatenation};
-ghost use Rattle.command_runner.specs.Delivery.{IsCutShort, Outside};
-ghost use Rattle.command_runner.specs.Ends.{Ends, CountsFault, MayFault};
-ghost use Rattle.brake_cli.specs.declared.command.Command.TheVariants.{Blank};
-ghost use Rattle.brake_cli.specs.Commands.{command_of};
-ghost use Rattle.brake_cli.specs.Run.{form_for, meaning_for, RunEnds, told_blank};
-ghost use Rattle.brake_cli.specs.Headline.{HasHeadline, IsComplete};
+ghost use Rattle.std.specs.Prelude.{◌≡◌, List, ℕ, [], map, string_bytes};
+ghost use Rattle.command_runner.specs.Delivery.{Outside};
+ghost use Rattle.command_runner.specs.Ends.{Ends, IsOutcome, CountsFault, MayFault};
+ghost use Rattle.brake_cli.specs.Forms.{run_of};
+ghost use Rattle.brake_cli.specs.Run.{form_for, meaning_for, RunEnds, RunOutcome, TellsBlank};
+ghost use Rattle.brake_cli.specs.Headline.{HasHeadline};
+ghost use Rattle.brake_cli.specs.Complete.{IsComplete};
+ghost use Rattle.brake_cli.specs.Confirmed.{ConfirmsHeld};
 
-use crate::command::read_words;
+use crate::command::command_to_run;
 use crate::usage::usage;
 use brake_io::{Shelf, Sink};
 use command_runner::{Status, deliver, run};
@@ -37,7 +36,7 @@ fn put_usage<H: Shelf, K: Sink>(alloc: Global, shelf: &mut H, out: &mut K) -> St
 /// TOOLS MACHINE CERT` stores the certificate of a plan of least cost and puts the sheets; `check
 /// CERT`, with the files of a job or without, puts what the certificate proves; `trial N` plans a
 /// generated job and checks the certificate. Words of no form, and those of a command that isn't
-/// built yet, are answered by the usage text.
+/// built, are answered by the usage text before anything is fetched.
 pub fn brake<H: Shelf, K: Sink>(
     alloc: Global,
     words: &[String],
@@ -48,28 +47,37 @@ pub fn brake<H: Shelf, K: Sink>(
     ensures ends { RunEnds (map string_bytes words.now)
         (record { shelf = H.state shelf.old; sink = K.state out.old })
         (record { shelf = H.state shelf.new; sink = K.state out.new }) result }
+    // As it shows from outside: a file is refused for its length only where the count of long files
+    // rose, and where that rose nothing else is answered, unless the run is cut short.
+    ensures outcome { RunOutcome (map string_bytes words.now)
+        (record { shelf = H.state shelf.old; sink = K.state out.old })
+        (record { shelf = H.state shelf.new; sink = K.state out.new }) result }
     // A fault is answered only where the shelf or the sink has counted one, and for its cause.
     ensures fault { result ≡ Status.Fault → CountsFault
         (record { shelf = H.state shelf.old; sink = K.state out.old })
         (record { shelf = H.state shelf.new; sink = K.state out.new }) }
     ensures cause { result ≡ Status.Fault →
-        MayFault (form_for (command_of (map string_bytes words.now))) (map string_bytes words.now)
+        MayFault (form_for (run_of (map string_bytes words.now))) (map string_bytes words.now)
         (record { shelf = H.state shelf.old; sink = K.state out.old })
         (record { shelf = H.state shelf.new; sink = K.state out.new }) }
     // Where the shelf tells what it holds, that determines what `blank` answers.
-    ensures told { command_of (map string_bytes words.now) ≡ Some Blank →
-        IfSome (H.state shelf.old).content (λ content. IsCutShort result
-        ⊎ IsSomeAnd (told_blank content.held (map string_bytes words.now)) (λ answer.
-        (result ≡ answer.status) × Puts (K.state out.old) (K.state out.new) (concatenation answer.texts))) }
-    // Where the shelf tells what it holds, a run of `plan` that ends with a claim has the headline;
-    // and with budget enough it ends with one, unless it is cut short.
+    ensures told { TellsBlank (map string_bytes words.now)
+        (record { shelf = H.state shelf.old; sink = K.state out.old })
+        (record { shelf = H.state shelf.new; sink = K.state out.new }) result }
+    // A run of `plan` that ends with a claim has the headline, over any shelf; and it ends with one,
+    // unless it is cut short, a file is refused, or a budget that was given isn't enough.
     ensures headline { HasHeadline (map string_bytes words.now)
         (record { shelf = H.state shelf.old; sink = K.state out.old })
         (record { shelf = H.state shelf.new; sink = K.state out.new }) result }
     ensures complete { IsComplete (map string_bytes words.now)
-        (record { shelf = H.state shelf.old; sink = K.state out.old }) result }
+        (record { shelf = H.state shelf.old; sink = K.state out.old })
+        (record { shelf = H.state shelf.new; sink = K.state out.new }) result }
+    // Where the shelf tells that it holds a good certificate, `check` answers its claim.
+    ensures confirms { ConfirmsHeld (map string_bytes words.now)
+        (record { shelf = H.state shelf.old; sink = K.state out.old })
+        (record { shelf = H.state shelf.new; sink = K.state out.new }) result }
 {
-    match read_words(words) {
+    match command_to_run(words) {
         Some(command) => run(alloc, &command, words, shelf, out),
         None => put_usage(alloc, shelf, out),
     }

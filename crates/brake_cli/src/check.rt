@@ -1,13 +1,12 @@
 //! What `check` answers.
-ghost use Rattle.std.specs.Prelude.{◌≡◌, ◌≤◌, length, map, codes, bytes_eq, Ok, IfOk};
+ghost use Rattle.std.specs.Prelude.{◌≡◌, ◌↔◌, ◌≤◌, length, map, codes, Ok, IfOk, IsTrue};
 ghost use Rattle.std.specs.Vec.{vec_items};
 ghost use Rattle.plan_cert.specs.Lines.{text_line};
-ghost use Rattle.plan_cert.specs.JobText.{job_text};
 ghost use Rattle.cert_check.specs.FaultWords.{check_fault_words};
 ghost use Rattle.cert_check.specs.Checking.{checked_data};
 ghost use Rattle.command_runner.specs.Answers.{answer_data};
 ghost use Rattle.command_runner.specs.Delivery.{IsCutShort};
-ghost use Rattle.brake_cli.specs.CheckAnswer.{optimal_line, IsClaim, verdict_answer, IsCertRefusal, other_job, other_job_line, answer_for, IsTextAnswer, IsCheckAnswer, IsAnswerFor, IsCheckFilesAnswer};
+ghost use Rattle.brake_cli.specs.CheckAnswer.{optimal_line, IsClaim, verdict_answer, IsCertRefusal, other_job, other_job_line, IsAnswerOf, IsTextAnswer, IsCheckAnswer, IsAnswerFor, IsCheckFilesAnswer};
 
 use crate::job_files::{content_at, job_at};
 use crate::refusal::stopped;
@@ -103,23 +102,24 @@ pub fn answer(alloc: Global, contents: &[Vec<u8>]) -> Result<Answer, AllocError>
     answer_of_text(alloc, content_at(contents, 0))
 }
 
-/// Whether two jobs have one text.
-fn have_one_text(alloc: Global, job: &Job, other: &Job) -> Result<bool, AllocError>
-    ensures { IfOk result (λ same. same ≡ bytes_eq (job_text job.now) (job_text other.now)) }
+/// Whether two jobs are one, as they are where they have one text.
+fn is_one_job(alloc: Global, job: &Job, other: &Job) -> Result<bool, AllocError>
+    ensures { IfOk result (λ same. IsTrue same ↔ (job.now ≡ other.now)) }
 {
+    let _ = other.setup();
     let text = write_job(alloc, job)?;
-    let other = write_job(alloc, other)?;
-    Ok(text.as_slice() == other.as_slice())
+    let other_text = write_job(alloc, other)?;
+    Ok(text.as_slice() == other_text.as_slice())
 }
 
 /// The answer of an accepted certificate, which is to be of this job.
 fn accepted(alloc: Global, checked: &Checked, job: &Job) -> Result<Answer, AllocError>
     requires { IsClaim checked.now.verdict }
     ensures answer { IfOk result (λ answer.
-        answer_data answer ≡ answer_for job.now (Ok (checked_data checked.now))) }
+        IsAnswerOf job.now (Ok (checked_data checked.now)) (answer_data answer)) }
     ensures status { IfOk result (λ answer. ¬ IsCutShort answer.status) }
 {
-    let same = have_one_text(alloc, &checked.job, job)?;
+    let same = is_one_job(alloc, &checked.job, job)?;
     if same {
         verdict_answer(alloc, checked.verdict)
     } else {

@@ -9,6 +9,7 @@ mod check;
 #[cfg(test)]
 mod check_tests;
 mod command;
+mod form;
 mod job_files;
 mod plan;
 #[cfg(test)]
@@ -19,16 +20,18 @@ mod test_runs;
 mod trial;
 mod usage;
 mod words;
+#[cfg(test)]
+mod words_tests;
 
 use brake_io::{DirShelf, StdSink};
 use std::env;
 use std::process::ExitCode;
-use words::run_program;
+use words::{exit_code, run_program};
 
 /// Runs the command over the files of the current folder and standard output, and ends with the
 /// status's number.
 fn main(rt: HostRuntime) -> ExitCode {
     let mut shelf = DirShelf::new(&rt);
     let mut out = StdSink::new(&rt);
-    ExitCode::from(run_program(rt.alloc(), env::args(&rt), &mut shelf, &mut out) as u8)
+    exit_code(run_program(rt.alloc(), env::args(&rt), &mut shelf, &mut out))
 }

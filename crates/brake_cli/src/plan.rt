@@ -1,11 +1,11 @@
 //! What `plan` answers.
-ghost use Rattle.std.specs.Prelude.{◌≡◌, Some, length, map, IfOk};
+ghost use Rattle.std.specs.Prelude.{◌≡◌, Some, None, length, map, IfOk};
 ghost use Rattle.std.specs.Vec.{vec_items};
 ghost use Rattle.job_setup.specs.ValidJob.{IsJob};
 ghost use Rattle.plan_cert.specs.Cert.{cert_data};
 ghost use Rattle.command_runner.specs.Answers.{answer_data};
 ghost use Rattle.command_runner.specs.Delivery.{IsCutShort};
-ghost use Rattle.brake_cli.specs.PlanAnswer.{spent_line, claim_status, last_text, cert_answer, IsPlanCert, IsPlanned, Finds, IsBlankSheet, IsPlanAnswer};
+ghost use Rattle.brake_cli.specs.PlanAnswer.{spent_line, claim_status, last_text, cert_answer, IsPlanCert, HasFewRows, IsPlanned, Finds, IsBlankSheet, IsPlanAnswer};
 
 use crate::job_files::job_at;
 use crate::refusal::stopped;
@@ -34,7 +34,8 @@ fn find_cert(alloc: Global, job: &Job, budget: u32) -> Result<Option<Cert>, Allo
 /// The certificate of the least cost or of there being no plan.
 pub fn least_cert(alloc: Global, job: &Job) -> Result<Cert, AllocError>
     requires { IsJob job.now }
-    ensures { IfOk result (λ cert. IsPlanCert job.now (cert_data cert)) }
+    ensures proves { IfOk result (λ cert. IsPlanCert job.now (cert_data cert)) }
+    ensures few { IfOk result (λ cert. HasFewRows None job.now (cert_data cert)) }
 {
     let found = find_cert(alloc, job, nodes(job).max(1))?;
     match found {

@@ -68,6 +68,10 @@ const WITH_BUDGET: &[&str] = &["plan", "part", "tools", "machine", "cert", "--bu
 /// The words of `plan` with a budget that is spent.
 const WITH_LITTLE: &[&str] = &["plan", "part", "tools", "machine", "cert", "--budget", "1"];
 
+const CHECK: &[&str] = &["check", "cert"];
+
+const CHECK_FILES: &[&str] = &["check", "cert", "part", "tools", "machine"];
+
 #[test]
 fn plans(rt: HostRuntime) -> Result<(), Fail> {
     let alloc = rt.alloc();
@@ -93,6 +97,26 @@ fn plans(rt: HostRuntime) -> Result<(), Fail> {
         assert_eq!(rt; out.bytes(), text.as_bytes());
         let is_stored = status == Status::Done || status == Status::NoPlan;
         assert_eq!(rt; shelf.bytes_of("cert").is_some(), is_stored);
+    }
+    Ok(())
+}
+
+#[test]
+fn a_stored_certificate_is_confirmed(rt: HostRuntime) -> Result<(), Fail> {
+    let alloc = rt.alloc();
+    for (part, stage, status, line) in [
+        (L_SECTION, STAGE, Status::Done, "optimal 100\n"),
+        (U_CHANNEL, STAGE, Status::Done, "optimal 200\n"),
+        (L_SECTION, SHORT_STAGE, Status::NoPlan, "no plan\n"),
+    ] {
+        let mut shelf = shelf_with(alloc, part, stage)?;
+        let mut sheets = MemSink::new(alloc);
+        assert_eq!(rt; run(alloc, WORDS, &mut shelf, &mut sheets)?, status);
+        for words in [CHECK, CHECK_FILES] {
+            let mut out = MemSink::new(alloc);
+            assert_eq!(rt; run(alloc, words, &mut shelf, &mut out)?, status);
+            assert_eq!(rt; out.bytes(), line.as_bytes());
+        }
     }
     Ok(())
 }

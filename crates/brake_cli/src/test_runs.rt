@@ -23,6 +23,15 @@ pub fn certificate(alloc: Global, job: &[&str]) -> Result<String, AllocError> {
     format!(in alloc; "{job}{STEPS}{ROWS}")
 }
 
+/// The words as a list.
+pub fn words_of(alloc: Global, words: &[&str]) -> Result<Vec<String>, AllocError> {
+    let mut list = Vec::new(alloc);
+    for word in words {
+        list.push(String::from_str(alloc, word)?)?;
+    }
+    Ok(list)
+}
+
 /// Runs the command of these words.
 pub fn run(
     alloc: Global,
@@ -30,9 +39,6 @@ pub fn run(
     shelf: &mut MemShelf,
     out: &mut MemSink,
 ) -> Result<Status, AllocError> {
-    let mut list = Vec::new(alloc);
-    for word in words {
-        list.push(String::from_str(alloc, word)?)?;
-    }
+    let list = words_of(alloc, words)?;
     Ok(brake(alloc, &list, shelf, out))
 }

@@ -1,10 +1,15 @@
-//! The program's words.
+//! The program's words, and the number with which its process ends.
 ghost use Rattle.std.specs.Prelude.{◌≡◌, drop, IfOk};
+ghost use Rattle.std.specs.Process.{exit_status};
 ghost use Rattle.std.specs.Vec.Iter.{into_iter_items};
 ghost use Rattle.command_runner.specs.Delivery.{Outside};
-ghost use Rattle.command_runner.specs.Ends.{CountsFault};
-ghost use Rattle.brake_cli.specs.Run.{RunEnds};
-ghost use Rattle.brake_cli.specs.Words.{arguments_of, words_of};
+ghost use Rattle.command_runner.specs.Ends.{CountsFault, MayFault};
+ghost use Rattle.brake_cli.specs.Forms.{run_of};
+ghost use Rattle.brake_cli.specs.Run.{form_for, RunEnds, RunOutcome, TellsBlank};
+ghost use Rattle.brake_cli.specs.Headline.{HasHeadline};
+ghost use Rattle.brake_cli.specs.Complete.{IsComplete};
+ghost use Rattle.brake_cli.specs.Confirmed.{ConfirmsHeld};
+ghost use Rattle.brake_cli.specs.Words.{arguments_of, words_of, status_number};
 
 use crate::brake::brake;
 use brake_io::{Shelf, Sink};
@@ -13,6 +18,7 @@ use std::alloc::{AllocError, Global};
 use std::env::Args;
 use std::io;
 use std::io::ErrorKind;
+use std::process::ExitCode;
 
 /// All arguments, in order.
 fn all_of(alloc: Global, args: Args) -> Result<Vec<String>, AllocError>
@@ -56,15 +62,42 @@ pub fn run_program<H: Shelf, K: Sink>(
     shelf: &mut H,
     out: &mut K,
 ) -> Status
+    // All that `brake` promises of these words.
     ensures ends { RunEnds (words_of args)
+        (record { shelf = H.state shelf.old; sink = K.state out.old })
+        (record { shelf = H.state shelf.new; sink = K.state out.new }) result }
+    ensures outcome { RunOutcome (words_of args)
         (record { shelf = H.state shelf.old; sink = K.state out.old })
         (record { shelf = H.state shelf.new; sink = K.state out.new }) result }
     ensures fault { result ≡ Status.Fault → CountsFault
         (record { shelf = H.state shelf.old; sink = K.state out.old })
         (record { shelf = H.state shelf.new; sink = K.state out.new }) }
+    ensures cause { result ≡ Status.Fault →
+        MayFault (form_for (run_of (words_of args))) (words_of args)
+        (record { shelf = H.state shelf.old; sink = K.state out.old })
+        (record { shelf = H.state shelf.new; sink = K.state out.new }) }
+    ensures told { TellsBlank (words_of args)
+        (record { shelf = H.state shelf.old; sink = K.state out.old })
+        (record { shelf = H.state shelf.new; sink = K.state out.new }) result }
+    ensures headline { HasHeadline (words_of args)
+        (record { shelf = H.state shelf.old; sink = K.state out.old })
+        (record { shelf = H.state shelf.new; sink = K.state out.new }) result }
+    ensures complete { IsComplete (words_of args)
+        (record { shelf = H.state shelf.old; sink = K.state out.old })
+        (record { shelf = H.state shelf.new; sink = K.state out.new }) result }
+    ensures confirms { ConfirmsHeld (words_of args)
+        (record { shelf = H.state shelf.old; sink = K.state out.old })
+        (record { shelf = H.state shelf.new; sink = K.state out.new }) result }
 {
     match arguments_of(alloc, args) {
         Ok(all) => brake(alloc, behind_name(all.as_slice()), shelf, out),
         Err(_) => Status::NoMemory,
     }
+}
+
+/// How the process ends after a run that ended so: with the number of its status.
+pub fn exit_code(status: Status) -> ExitCode
+    ensures { exit_status result ≡ status_number status }
+{
+    ExitCode::from(status as u8)
 }

@@ -1,5 +1,5 @@
 -- A text is that of one job and one certificate, and a good text has one answer.
-use Rattle.std.proofs.Common.{◌≡◌, List, ℕ, Result, Ok, Err, sym, ◌∙◌, ap, subst}
+use Rattle.std.proofs.Common.{◌≡◌, inl, inr, List, ℕ, Result, Ok, Err, sym, ◌∙◌, ap, subst}
 use Rattle.std.proofs.lemmas.Option.{same_Some}
 use Rattle.std.specs.Result.{result_ok}
 use Rattle.job_setup.specs.Setup.{JobData}
@@ -10,7 +10,8 @@ use Rattle.plan_cert.proofs.Exactly.{text_gives}
 use Rattle.cert_check.specs.declared.fault.CheckFault.{CheckFault}
 use Rattle.cert_check.specs.declared.fault.CheckFault.TheVariants.{Cert, BadStep, BadCost, BadReason, NotClosed, TooLow, NoMemory, Unfinished}
 use Rattle.cert_check.specs.Texts.{IsTextOfCert}
-use Rattle.cert_check.specs.Checking.{CheckedData, verdict_of, IsGoodText, IsFaulty, IsAnswer}
+use Rattle.cert_check.specs.declared.verdict.Checked.{Checked}
+use Rattle.cert_check.specs.Checking.{CheckedData, checked_data, verdict_of, IsGoodText, IsFaulty, IsAnswer, Answers, AcceptsGood}
 use Rattle.cert_check.proofs.Truth.{fault_is_not_good}
 
 same_file : (text : List ℕ) (f g : CertFileData) → cert_file_of text ≡ Ok f → cert_file_of text ≡ Ok g → f ≡ g
@@ -46,10 +47,7 @@ good_text_accepted text job cert (Ok checked) good is =
     let same = one_text text checked.job job is.cert cert is.good.written good.written in
     let verdict = is.verdict ∙ ap (λ (c : CertData). verdict_of c.claim) same.1 in
     λ i. Ok (record { verdict = verdict i; job = same.0 i })
-good_text_accepted text job cert (Err (Cert fault)) good is = absurd (refused (sym (text_reads text job cert good.written) ∙ is))
-  where
-    refused : {f : CertFileData} → Ok f ≡ Err fault → ⊥
-    refused same = cc
+good_text_accepted text job cert (Err (Cert fault)) good is = absurd (is.no_text job cert good.written)
 good_text_accepted text job cert (Err (BadStep index fault)) good is = absurd (no_fault text job cert _ good is)
 good_text_accepted text job cert (Err BadCost) good is = absurd (no_fault text job cert _ good is)
 good_text_accepted text job cert (Err (BadReason row action)) good is = absurd (no_fault text job cert _ good is)
@@ -57,3 +55,13 @@ good_text_accepted text job cert (Err (NotClosed row action)) good is = absurd (
 good_text_accepted text job cert (Err TooLow) good is = absurd (no_fault text job cert _ good is)
 good_text_accepted text job cert (Err NoMemory) good is = absurd (no_fault text job cert _ good is)
 good_text_accepted text job cert (Err Unfinished) good is = absurd (no_fault text job cert _ good is)
+
+not_accepted : (fault : CheckFault) (checked : CheckedData) → Err fault ≡ Ok checked → ⊥
+not_accepted fault checked same = cc
+
+-- so what answers the text accepts it, unless memory ran out
+pub accepts_good : (text : List ℕ) (result : Result Checked CheckFault) → Answers text result → AcceptsGood text result
+accepts_good text (Ok checked) answer job cert good =
+    same_Some (checked_data checked) (record { verdict = verdict_of cert.claim; job = job }) (ap result_ok (good_text_accepted text job cert (Ok (checked_data checked)) good answer))
+accepts_good text (Err fault) (inl memory) job cert good = memory
+accepts_good text (Err fault) (inr is) job cert good = absurd (not_accepted fault _ (good_text_accepted text job cert (Err fault) good is))

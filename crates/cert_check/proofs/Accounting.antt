@@ -15,13 +15,13 @@ use Rattle.std.proofs.lemmas.Nat.{mul-le}
 use Rattle.job_setup.specs.ValidJob.{IsJob}
 use Rattle.handling_cost.proofs.Actions.{few_bends}
 use Rattle.plan_cert.specs.WellFormed.{IsWellFormed}
-use Rattle.cert_check.proofs.RowOrder.{few_stages, few_rows}
-use Rattle.cert_check.proofs.Conditions.{rows_of}
+use Rattle.plan_cert.proofs.RowOrder.{few_stages, few_rows}
+use Rattle.plan_cert.proofs.Conditions.{rows_of}
 use Rattle.plan_cert.specs.Cert.{CertData}
 use Rattle.plan_cert.specs.CertReading.{no_cert, with_item, cert_of}
 use Rattle.cert_check.specs.declared.fault.CheckFault.{CheckFault}
 use Rattle.cert_check.specs.declared.fault.CheckFault.TheVariants.{BadReason, NotClosed}
-use Rattle.cert_check.specs.RowFaults.{IsNoted, IsUnnoted, IsTried, IsAccounted, AreAccounted, RowsAreAccounted}
+use Rattle.plan_cert.specs.RowFaults.{IsNoted, IsUnnoted, IsTried, IsAccounted, AreAccounted, RowsAreAccounted}
 use Rattle.cert_check.specs.Rows.{IsActionMet, IsActionUnmet, AreMet, IsRowFault, noted_of}
 use Rattle.cert_check.specs.Notes.{last_row, HoldsNotes, HasRowAhead, NotesAnswer, RowsAnswer}
 use Rattle.cert_check.proofs.NoteLemmas.{grows, holds_next, holds_first}
@@ -55,24 +55,24 @@ module _ (job : JobData) (cert : CertData) (row : ℕ) (reasons : List (Option R
   ]
 
   -- what is kept of an action is what the certificate notes
-  pub some_noted : (action : ℕ) (reason : Reason) → noted_of reasons action ≡ Some reason → IsNoted cert row action reason
+  pub some_noted : (action : ℕ) (reason : Reason) → noted_of reasons action ≡ Some reason → IsNoted cert.notes row action reason
   some_noted action reason some =
       kept (record { row = row; action = action; reason = reason })
       (subst (λ (n : ℕ). Contains is.read.notes (record { row = n; action = action; reason = reason })) is_last (is.holds.sound action reason some))
 
-  pub none_noted_at : (action : ℕ) → action < 144 → noted_of reasons action ≡ None → IsUnnoted cert row action
+  pub none_noted_at : (action : ℕ) → action < 144 → noted_of reasons action ≡ None → IsUnnoted cert.notes row action
   none_noted_at action small none reason noted =
       is.holds.whole (record { row = row; action = action; reason = reason }) (read_before (record { row = row; action = action; reason = reason }) noted refl) (sym is_last) small none
 
   module _ (head : RowHead) (small : 2 * bend_count job * stage_count job ≤ 144) where
-    accounted_by : (action : ℕ) (noted : Option Reason) → action < 144 → noted_of reasons action ≡ noted → IsActionMet job cert.rows head action noted → IsAccounted job cert row head action
+    accounted_by : (action : ℕ) (noted : Option Reason) → action < 144 → noted_of reasons action ≡ noted → IsActionMet job cert.rows head action noted → IsAccounted job cert.rows cert.notes row head action
     accounted_by action (Some reason) low is_noted met = inl (reason, some_noted action reason is_noted, met)
     accounted_by action None low is_noted met = inr (none_noted_at action low is_noted, met)
 
-    pub row_accounted : (count : ℕ) → count ≤ 144 → AreMet job cert.rows head reasons count → AreAccounted job cert row head count
+    pub row_accounted : (count : ℕ) → count ≤ 144 → AreMet job cert.rows head reasons count → AreAccounted job cert.rows cert.notes row head count
     row_accounted count low met action less tried = accounted_by action (noted_of reasons action) (omega (arith, less, low)) refl (met action less tried)
 
-    first_by : (number : ℕ) (noted : Option Reason) (fault : CheckFault) → number < 144 → slice_get cert.rows row ≡ Some head → RowsAreAccounted job cert row → IsTried job head number → AreMet job cert.rows head reasons number
+    first_by : (number : ℕ) (noted : Option Reason) (fault : CheckFault) → number < 144 → slice_get cert.rows row ≡ Some head → RowsAreAccounted job cert.rows cert.notes row → IsTried job head number → AreMet job cert.rows head reasons number
         → noted_of reasons number ≡ noted → IsActionUnmet job cert.rows row head number noted fault → RowsAnswer job cert (Err fault)
     first_by number (Some reason) (BadReason r n) low at rows tried before is_noted cause =
         subst (λ (k : ℕ). RowsAnswer job cert (Err (BadReason k n))) (sym cause.0)
@@ -84,18 +84,18 @@ module _ (job : JobData) (cert : CertData) (row : ℕ) (reasons : List (Option R
         (record { head = head; at = at; tried = tried; rows = rows; actions = row_accounted number (omega (arith, low)) before; cause = (none_noted_at number low is_noted, cause.2) }))
     first_by number _ _ low at rows tried before is_noted cause = absurd cause
 
-    pub row_fault : (fault : CheckFault) → slice_get cert.rows row ≡ Some head → RowsAreAccounted job cert row → IsRowFault job cert.rows row head reasons fault → RowsAnswer job cert (Err fault)
+    pub row_fault : (fault : CheckFault) → slice_get cert.rows row ≡ Some head → RowsAreAccounted job cert.rows cert.notes row → IsRowFault job cert.rows row head reasons fault → RowsAnswer job cert (Err fault)
     row_fault fault at rows first =
         let below = first.tried.0 in
         first_by first.number (noted_of reasons first.number) fault (omega (arith, below, small)) at rows first.tried first.before refl first.cause
 
     -- a row more
-    pub rows_on : slice_get cert.rows row ≡ Some head → RowsAreAccounted job cert row → AreMet job cert.rows head reasons (2 * bend_count job * stage_count job) → RowsAreAccounted job cert (row + 1)
+    pub rows_on : slice_get cert.rows row ≡ Some head → RowsAreAccounted job cert.rows cert.notes row → AreMet job cert.rows head reasons (2 * bend_count job * stage_count job) → RowsAreAccounted job cert.rows cert.notes (row + 1)
     rows_on at rows met other its less its_at = elim (eqb_tells other row) [
       | inl same ↦
           let heads : head ≡ its = same_Some head its (sym at ∙ (ap (slice_get cert.rows) (sym same.1) ∙ its_at)) in
-          subst (λ (k : ℕ). AreAccounted job cert k its (2 * bend_count job * stage_count job)) (sym same.1)
-          (subst (λ (h : RowHead). AreAccounted job cert row h (2 * bend_count job * stage_count job)) heads (row_accounted (2 * bend_count job * stage_count job) small met))
+          subst (λ (k : ℕ). AreAccounted job cert.rows cert.notes k its (2 * bend_count job * stage_count job)) (sym same.1)
+          (subst (λ (h : RowHead). AreAccounted job cert.rows cert.notes row h (2 * bend_count job * stage_count job)) heads (row_accounted (2 * bend_count job * stage_count job) small met))
       | inr before ↦ rows other its (let no = before.1 in omega (arith, less, no)) its_at
     ]
 
@@ -158,4 +158,4 @@ most_actions job is_job =
 
 -- a certificate has fewer rows than a number of 32 bits can tell
 pub fewer_rows : (job : JobData) (cert : CertData) → IsJob job → IsWellFormed job cert → length cert.rows < 2 ^ 32
-fewer_rows job cert is_job form = let few = few_rows job is_job cert.rows (rows_of job is_job cert form) in omega (arith, few)
+fewer_rows job cert is_job form = let few = few_rows job is_job cert.rows (rows_of job is_job cert.rows cert.notes form.rows) in omega (arith, few)

@@ -14,12 +14,12 @@ use Rattle.handling_cost.specs.Plan.{IsReasonFor}
 use Rattle.plan_cert.specs.declared.cert.RowHead.{RowHead}
 use Rattle.plan_cert.specs.Lines.{action_at}
 use Rattle.cert_check.specs.declared.fault.CheckFault.{CheckFault}
-use Rattle.cert_check.specs.RowFaults.{IsTried}
+use Rattle.plan_cert.specs.RowFaults.{IsTried}
 use Rattle.cert_check.specs.Rows.{ActionAnswer, NumberAnswer}
 use Rattle.cert_check.specs.declared.set_actions.NextKey.{NextKey}
 use Rattle.cert_check.specs.declared.set_actions.SetActions.{SetActions}
 use Rattle.cert_check.specs.SetActions.{IsNext, IsNextOf, AreActionsOf}
-use Rattle.cert_check.proofs.Numbers.{bend_of_number}
+use Rattle.plan_cert.proofs.ActionNumbers.{bend_of_number}
 
 -- where the actions below a number lead
 abbrev pub AreNextBelow : JobData → Mask → ℕ → List (Option NextKey) → Type 0

@@ -15,7 +15,8 @@ use Rattle.cert_check.specs.declared.fault.CheckFault.TheVariants.{Cert, BadStep
 use Rattle.cert_check.specs.Texts.{IsTextOfCert}
 use Rattle.cert_check.specs.Heads.{HeadsAnswer}
 use Rattle.cert_check.specs.Steps.{AreFaulty}
-use Rattle.cert_check.specs.RowFaults.{RowsAreAccounted, IsProved}
+use Rattle.plan_cert.specs.RowFaults.{RowsAreAccounted}
+use Rattle.cert_check.specs.Checking.{IsProved}
 use Rattle.cert_check.specs.Rows.{ProvesAfter, ProvesAnswer}
 use Rattle.cert_check.specs.Notes.{RowsAnswer}
 use Rattle.cert_check.specs.Checking.{CheckedData, IsFault, IsRefused, IsAnswer, IsRowsFault, RowsVerdict, CertAnswer, verdict_of}
@@ -37,7 +38,7 @@ module _ (job : JobData) (cert : CertData) where
   proved_back : IsProved job cert → ProvesAfter job cert.rows start 0 cert.claim
   proved_back (worth, stands, enough) = (worth, stands, subst (IsAtMost cert.claim) (sym (same_worth worth)) enough)
 
-  pub claim_answer : (result : Result (Unit {0}) CheckFault) → RowsAreAccounted job cert (length cert.rows) → ProvesAnswer job cert.rows cert.claim result → RowsVerdict job cert result
+  pub claim_answer : (result : Result (Unit {0}) CheckFault) → RowsAreAccounted job cert.rows cert.notes (length cert.rows) → ProvesAnswer job cert.rows cert.claim result → RowsVerdict job cert result
   claim_answer (Ok done) rows answer = (rows, proved_from answer)
   claim_answer (Err TooLow) rows answer = inr (rows, λ proved. answer (proved_back proved))
   claim_answer (Err _) rows answer = absurd answer

@@ -14,6 +14,7 @@ use Rattle.cert_check.specs.declared.fault.CheckFault.{CheckFault}
 use Rattle.cert_check.specs.declared.fault.CheckFault.TheVariants.{Cert, NoMemory}
 use Rattle.cert_check.specs.declared.heads.Heads.{Heads}
 use Rattle.cert_check.specs.Heads.{HasHeads, HeadsAnswer, ItemAnswer}
+use Rattle.cert_check.proofs.Refusing.{refused_for}
 use Rattle.cert_check.proofs.ItemLemmas.{file_of, file_fault}
 
 -- the text begins with the job, and what stands behind it comes to the same as what is left behind what was read
@@ -55,6 +56,6 @@ module _ (text : List ℕ) (heads : Heads) (reader : Reading) (reads : Reads tex
 
   -- a refusal
   pub refused_on : (after : Heads) (next : Reading) (fault : CheckFault) → ItemAnswer (Err fault) reads.read (answers_left reader) after (answers_left next) → HeadsAnswer text (Err fault)
-  refused_on after next (Cert fault) answer = file_fault text heads.job reads.behind_job fault reads.starts (reads.same ∙ answer)
+  refused_on after next (Cert fault) answer = refused_for text fault (file_fault text heads.job reads.behind_job fault reads.starts (reads.same ∙ answer))
   refused_on after next NoMemory answer = tt
   refused_on after next _ answer = answer

@@ -7,8 +7,11 @@ use Rattle.job_setup.specs.Setup.{JobData}
 use Rattle.job_setup.specs.ValidJob.{IsJob}
 use Rattle.handling_cost.specs.StepCost.{IsKeyOf}
 use Rattle.plan_cert.specs.declared.cert.RowHead.{RowHead}
-use Rattle.cert_check.specs.RowTable.{key_place, key_count, AreRowsOf, IsIndexed, IsRowTable, IsWorthAt, HaveRow}
-use Rattle.cert_check.proofs.RowOrder.{no_row, same_key, few_stages, same_row, number_within, row_of, have_row, one_row}
+use Rattle.plan_cert.specs.KeyPlaces.{key_place, key_count}
+use Rattle.plan_cert.specs.WellFormed.{AreRowsOf}
+use Rattle.plan_cert.specs.GoodCert.{HaveRow}
+use Rattle.cert_check.specs.RowTable.{IsIndexed, IsRowTable, IsWorthAt}
+use Rattle.plan_cert.proofs.RowOrder.{no_row, same_key, few_stages, same_row, number_within, row_of, have_row, one_row}
 
 zeros : (n i : ℕ) → get_or (replicate n zero) i zero ≡ zero
 zeros zero i = refl

@@ -19,6 +19,7 @@ use Rattle.plan_cert.specs.CertReading.{CertFileData, version_in, no_cert, with_
 use Rattle.plan_cert.proofs.Collecting.{goes_on}
 use Rattle.cert_check.specs.declared.heads.Heads.{Heads}
 use Rattle.cert_check.specs.Heads.{HasHeads, ItemAnswer, JobAnswer, behind}
+use Rattle.cert_check.proofs.Refusing.{refused_for}
 
 answers : Reading → List (Result Item CertFault)
 answers r = items r.kind r.text
@@ -37,9 +38,6 @@ some_left r within = let rest = length-drop r.answered (items r.kind r.text) in 
 
 pub left_some : (r : Reading) → 0 < length (answers_left r) → r.answered < length (items r.kind r.text)
 left_some r some = let rest = length-drop r.answered (items r.kind r.text) in omega (arith, rest, some)
-
-pub less_left : (r : Reading) (answer : Result Item CertFault) → slice_get (items r.kind r.text) r.answered ≡ Some answer → length (answers_left r) ≡ suc (length (answers_left (behind r)))
-less_left r answer given = ap length (left_on r answer given)
 
 -- ---- what a certificate is made of
 module _ (before : CertData) (more : List (Result Item CertFault)) where
@@ -126,7 +124,7 @@ answer_behind r item given goes = some_left (behind r) (goes_on r.kind r.text r.
 pub job_first : (r : Reading) (answer : Result JobData CertFault) → r.kind ≡ Certificate → r.answered ≡ 0 → slice_get (items r.kind r.text) r.answered ≡ Some (job_answer answer)
     → JobAnswer r.text answer (answers_left (behind r))
 job_first r (Ok job) kind first is = begins r (Ok (given.Job job)) kind first is
-job_first r (Err fault) kind first is = first_fault r.text (answers_left (behind r)) fault (begins r (Err fault) kind first is)
+job_first r (Err fault) kind first is = refused_for r.text fault (first_fault r.text (answers_left (behind r)) fault (begins r (Err fault) kind first is))
 
 pub job_behind : (r : Reading) (answer : Result JobData CertFault) → slice_get (items r.kind r.text) r.answered ≡ Some (job_answer answer) → IfOk answer (λ _. r.answered + 1 < length (items r.kind r.text))
 job_behind r (Ok job) is = goes_on r.kind r.text r.answered (given.Job job) is refl

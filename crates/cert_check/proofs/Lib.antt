@@ -1,12 +1,10 @@
 pub mod Texts
-pub mod RowOrder
 pub mod Indexes
 pub mod StepLemmas
-pub mod Numbers
 pub mod ActionLemmas
-pub mod Conditions
 pub mod Truth
 pub mod Accepting
+pub mod Refusing
 pub mod ItemLemmas
 pub mod NoteLemmas
 pub mod HeadLemmas

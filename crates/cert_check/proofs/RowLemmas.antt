@@ -16,7 +16,7 @@ use Rattle.handling_cost.specs.Bound.{bound_of}
 use Rattle.plan_cert.specs.declared.cert.RowHead.{RowHead}
 use Rattle.plan_cert.specs.WellFormed.{IsRow}
 use Rattle.cert_check.specs.RowTable.{IsWorthAt}
-use Rattle.cert_check.specs.RowFaults.{IsTried}
+use Rattle.plan_cert.specs.RowFaults.{IsTried}
 use Rattle.cert_check.specs.Rows.{ProvesAfter, IsActionMet, AreMet, noted_of}
 
 module _ (job : JobData) (rows : List RowHead) (key : Key) (cost : ℕ) (worth : Worth) where

@@ -1,18 +1,14 @@
 -- What a good certificate's claim says of its job, and that a certificate with a fault isn't good.
-use Rattle.std.proofs.Common.{◌≡◌, inl, inr, ℕ, ◌+◌, ◌^◌, ◌<◌, List, get_or, arith, refl, sym, ap, subst}
-use Rattle.brake_base.specs.declared.stroke.Key.{Key}
+use Rattle.std.proofs.Common.{◌≡◌, inl, inr, ℕ, List, refl, sym, subst}
 use Rattle.brake_base.specs.declared.stroke.Step.{Step}
 use Rattle.brake_base.specs.declared.stroke.Worth.{Worth}
 use Rattle.brake_base.specs.declared.stroke.Worth.TheVariants.{Cost, Blocked}
 use Rattle.brake_base.specs.Worths.{IsAtMost}
-use Rattle.job_setup.specs.Setup.{JobData, bend_count, stage_count}
+use Rattle.job_setup.specs.Setup.{JobData}
 use Rattle.job_setup.specs.ValidJob.{IsJob}
-use Rattle.handling_cost.specs.StepCost.{IsFull}
 use Rattle.handling_cost.specs.Plan.{total, start}
 use Rattle.handling_cost.specs.Good.{AreClaimed}
-use Rattle.handling_cost.proofs.Keys.{number_of_full}
 use Rattle.handling_cost.proofs.Least.{good_is_least}
-use Rattle.plan_cert.specs.declared.cert.RowHead.{RowHead}
 use Rattle.plan_cert.specs.Cert.{CertData}
 use Rattle.plan_cert.specs.WellFormed.{IsWellFormed, HasSteps}
 use Rattle.plan_cert.specs.GoodCert.{HasRow, HasNote, IsGoodCert}
@@ -20,25 +16,13 @@ use Rattle.cert_check.specs.declared.fault.CheckFault.{CheckFault}
 use Rattle.cert_check.specs.declared.fault.CheckFault.TheVariants.{Cert, BadStep, BadCost, BadReason, NotClosed, TooLow, NoMemory, Unfinished}
 use Rattle.cert_check.specs.declared.fault.StepFault.{StepFault}
 use Rattle.cert_check.specs.StepFaults.{IsFirstBadStep, AreUnfinished, IsBadCost}
-use Rattle.cert_check.specs.RowFaults.{HoldsAt, IsFirstFault, IsBadReason, IsNotClosed, IsProved}
+use Rattle.plan_cert.specs.RowFaults.{HoldsAt, IsFirstFault, IsBadReason, IsNotClosed}
+use Rattle.cert_check.specs.Checking.{IsProved}
 use Rattle.cert_check.specs.Checking.{verdict_of, HasGoodRows, IsFault, IsTrueOf}
-use Rattle.cert_check.proofs.RowOrder.{no_row, row_of}
-use Rattle.cert_check.proofs.Conditions.{rows_of, condition_met, accounted, one_note}
+use Rattle.plan_cert.proofs.Conditions.{condition_met, accounted, one_note, no_full}
 use Rattle.cert_check.proofs.StepLemmas.{rest_has_no_fault, rest_is_full}
 
 module _ (job : JobData) (is_job : IsJob job) (cert : CertData) (form : IsWellFormed job cert) where
-  -- at a row's key a bend is unfolded
-  no_full : (key : Key) (worth : Worth) → HasRow cert key worth → IsFull job key → ⊥
-  no_full key worth row full =
-      let of = row_of job is_job cert.rows (rows_of job is_job cert form) key worth row in
-      let its = form.rows.each_row of.0 no_row of.1 in
-      let same : (get_or cert.rows of.0 no_row).key ≡ key = ap (λ (row : RowHead). row.key) (of.2 no_row) in
-      let mask : key.mask.0 + 1 < 2 ^ bend_count job = subst (λ (k : Key). k.mask.0 + 1 < 2 ^ bend_count job) same its.mask in
-      let attitude : key.attitude < 24 = subst (λ (k : Key). k.attitude < 24) same its.attitude in
-      let stage : key.stage < stage_count job = subst (λ (k : Key). k.stage < stage_count job) same its.stage in
-      let number = number_of_full job is_job key (record { mask = omega (arith, mask); attitude = attitude; stage = stage }) full in
-      omega (arith, mask, number)
-
   -- good implies least: the claim is the least cost of a plan, or there is no plan
   pub claim_is_true : IsGoodCert job cert → IsTrueOf job (verdict_of cert.claim)
   claim_is_true good = by_claim cert.claim refl
@@ -46,20 +30,24 @@ module _ (job : JobData) (is_job : IsJob job) (cert : CertData) (form : IsWellFo
       by_claim : (claim : Worth) → claim ≡ cert.claim → IsTrueOf job (verdict_of claim)
       by_claim (Cost cost) is =
           let claimed : AreClaimed job (Cost cost) cert.steps = subst (λ (w : Worth). AreClaimed job w cert.steps) (sym is) good.good.claimed in (
-            (cert.steps, claimed.0, claimed.1),
-            λ steps plan.
-                subst (λ (w : Worth). IsAtMost w (Cost (total job start steps))) (sym is)
-                (good_is_least job is_job (HasRow cert) (HasNote job cert) no_full cert.claim cert.steps good.good steps plan),
+            cert.steps,
+            record {
+              plan = claimed.0;
+              sum = claimed.1;
+              least = λ steps plan.
+                  subst (λ (w : Worth). IsAtMost w (Cost (total job start steps))) (sym is)
+                  (good_is_least job is_job (HasRow cert) (HasNote job cert) (no_full job is_job cert.rows cert.notes form.rows) cert.claim cert.steps good.good steps plan);
+            },
           )
       by_claim Blocked is = λ steps plan.
           subst (λ (w : Worth). IsAtMost w (Cost (total job start steps))) (sym is)
-          (good_is_least job is_job (HasRow cert) (HasNote job cert) no_full cert.claim cert.steps good.good steps plan)
+          (good_is_least job is_job (HasRow cert) (HasNote job cert) (no_full job is_job cert.rows cert.notes form.rows) cert.claim cert.steps good.good steps plan)
 
   -- with the steps as claimed, the rows accounted for and the claim proved, it is good
   pub is_good : HasGoodRows job cert → IsProved job cert → IsGoodCert job cert
   is_good rows proved = record {
     form = form;
-    good = record { claimed = rows.claimed; rows = condition_met job is_job cert form rows.rows; proved = proved };
+    good = record { claimed = rows.claimed; rows = condition_met job is_job cert.rows cert.notes form.rows rows.rows; proved = proved };
   }
 
   no_bad_step : (claim : Worth) (steps : List Step) → HasSteps job claim steps → AreClaimed job claim steps → (index : ℕ) (fault : StepFault) → IsFirstBadStep job start steps index fault → ⊥
@@ -74,18 +62,18 @@ module _ (job : JobData) (is_job : IsJob job) (cert : CertData) (form : IsWellFo
   no_bad_cost (Cost cost) steps claimed bad = bad.1 claimed.1
   no_bad_cost Blocked steps claimed bad = bad
 
-  no_bad_reason : IsGoodCert job cert → (row action : ℕ) → IsFirstFault job cert row action (IsBadReason job cert row action) → ⊥
+  no_bad_reason : IsGoodCert job cert → (row action : ℕ) → IsFirstFault job cert.rows cert.notes row action (IsBadReason job cert.notes row action) → ⊥
   no_bad_reason good row action first =
       let cause = first.cause in
-      elim (accounted job is_job cert form good.good.rows row action first.head first.at first.tried) [
-        | inl note ↦ cause.2 (subst (HoldsAt job first.head action) (one_note job is_job cert form row action note.0 cause.0 note.1 cause.1) note.2)
+      elim (accounted job is_job cert.rows cert.notes form.rows good.good.rows row action first.head first.at first.tried) [
+        | inl note ↦ cause.2 (subst (HoldsAt job first.head action) (one_note job is_job cert.rows cert.notes form.rows row action note.0 cause.0 note.1 cause.1) note.2)
         | inr free ↦ free.0 cause.0 cause.1
       ]
 
-  no_open_action : IsGoodCert job cert → (row action : ℕ) → IsFirstFault job cert row action (IsNotClosed job cert row action) → ⊥
+  no_open_action : IsGoodCert job cert → (row action : ℕ) → IsFirstFault job cert.rows cert.notes row action (IsNotClosed job cert.rows cert.notes row action) → ⊥
   no_open_action good row action first =
       let cause = first.cause in
-      elim (accounted job is_job cert form good.good.rows row action first.head first.at first.tried) [
+      elim (accounted job is_job cert.rows cert.notes form.rows good.good.rows row action first.head first.at first.tried) [
         | inl note ↦ cause.0 note.0 note.1
         | inr free ↦ cause.1 free.1
       ]

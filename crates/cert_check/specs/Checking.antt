@@ -1,21 +1,23 @@
 -- What checking a text comes to.
-use Rattle.std.specs.Prelude.{◌≡◌, ◌⊎◌, ◌≤◌, ℕ, List, length, Result, Ok, Err}
+use Rattle.std.specs.Prelude.{◌≡◌, ◌⊎◌, ℕ, List, length, Result, Ok, Err}
 use Rattle.brake_base.specs.declared.stroke.Step.{Step}
 use Rattle.brake_base.specs.declared.stroke.Worth.{Worth}
 use Rattle.brake_base.specs.declared.stroke.Worth.TheVariants.{Cost, Blocked}
+use Rattle.brake_base.specs.Worths.{IsAtMost}
 use Rattle.job_setup.specs.Setup.{JobData}
-use Rattle.handling_cost.specs.Plan.{IsPlan, total, start}
-use Rattle.handling_cost.specs.Good.{AreClaimed}
+use Rattle.handling_cost.specs.Plan.{start}
+use Rattle.handling_cost.specs.Claim.{HasNoPlan, IsLeastCost}
+use Rattle.handling_cost.specs.Good.{AreClaimed, Proves}
 use Rattle.plan_cert.specs.declared.cert.RowHead.{RowHead}
 use Rattle.plan_cert.specs.Cert.{CertData}
-use Rattle.plan_cert.specs.GoodCert.{IsGoodCert}
+use Rattle.plan_cert.specs.GoodCert.{HasRow, IsGoodCert}
 use Rattle.cert_check.specs.declared.verdict.Verdict.{Verdict}
 use Rattle.cert_check.specs.declared.verdict.Verdict.TheVariants.{Optimal, NoPlan}
 use Rattle.cert_check.specs.declared.verdict.Checked.{Checked}
 use Rattle.cert_check.specs.declared.fault.CheckFault.{CheckFault}
 use Rattle.cert_check.specs.declared.fault.CheckFault.TheVariants.{Cert, BadStep, BadCost, BadReason, NotClosed, TooLow, NoMemory, Unfinished}
 use Rattle.cert_check.specs.StepFaults.{IsFirstBadStep, AreUnfinished, IsBadCost}
-use Rattle.cert_check.specs.RowFaults.{RowsAreAccounted, IsFirstFault, IsBadReason, IsNotClosed, IsProved}
+use Rattle.plan_cert.specs.RowFaults.{RowsAreAccounted, IsFirstFault, IsBadReason, IsNotClosed}
 use Rattle.cert_check.specs.Texts.{IsTextOfCert, IsRefusedFor}
 
 -- an accepted claim, and the job of which it is proved
@@ -30,6 +32,11 @@ abbrev pub verdict_of : Worth → Verdict
 verdict_of (Cost cost) = Optimal cost
 verdict_of Blocked = NoPlan
 
+-- a worth that stands for the start is at least what is claimed
+abbrev pub IsProved : JobData → CertData → Type 0
+IsProved job cert =
+    (worth : Worth) × Proves job (HasRow cert) start worth × IsAtMost cert.claim worth
+
 -- the text is that of a certificate that is good for a valid job
 pub record IsGoodText (text : List ℕ) (job : JobData) (cert : CertData) : Type 0 where
   pub written : IsTextOfCert text job cert
@@ -38,7 +45,7 @@ pub record IsGoodText (text : List ℕ) (job : JobData) (cert : CertData) : Type
 -- the steps are as claimed, and each action at each row is accounted for
 pub record HasGoodRows (job : JobData) (cert : CertData) : Type 0 where
   pub claimed : AreClaimed job cert.claim cert.steps
-  pub rows : RowsAreAccounted job cert (length cert.rows)
+  pub rows : RowsAreAccounted job cert.rows cert.notes (length cert.rows)
 
 -- the first cause for which a certificate of a job isn't good
 abbrev pub IsFault : JobData → CertData → CheckFault → Type 0
@@ -46,8 +53,13 @@ IsFault job cert (Cert fault) = ⊥
 IsFault job cert (BadStep index fault) = IsFirstBadStep job start cert.steps index fault
 IsFault job cert Unfinished = AreUnfinished job cert.claim cert.steps
 IsFault job cert BadCost = IsBadCost job cert.claim cert.steps
-IsFault job cert (BadReason row action) = AreClaimed job cert.claim cert.steps × IsFirstFault job cert row action (IsBadReason job cert row action)
-IsFault job cert (NotClosed row action) = AreClaimed job cert.claim cert.steps × IsFirstFault job cert row action (IsNotClosed job cert row action)
+IsFault job cert (BadReason row action) =
+    AreClaimed job cert.claim cert.steps
+    × IsFirstFault job cert.rows cert.notes row action (IsBadReason job cert.notes row action)
+IsFault job cert (NotClosed row action) =
+    AreClaimed job cert.claim cert.steps
+    × IsFirstFault job cert.rows cert.notes row action
+    (IsNotClosed job cert.rows cert.notes row action)
 IsFault job cert TooLow = HasGoodRows job cert × (IsProved job cert → ⊥)
 IsFault job cert NoMemory = ⊥
 
@@ -64,7 +76,8 @@ pub record IsFaulty (text : List ℕ) (fault : CheckFault) : Type 0 where
   pub written : IsTextOfCert text job cert
   pub cause : IsFault job cert fault
 
--- the text is refused for this as the first cause: it is no certificate's text, or its certificate isn't good
+-- the text is refused for this as the first cause: it is no certificate's text, or its certificate
+-- isn't good
 abbrev pub IsRefused : List ℕ → CheckFault → Type 0
 IsRefused text (Cert fault) = IsRefusedFor text fault
 IsRefused text fault = IsFaulty text fault
@@ -79,21 +92,40 @@ abbrev pub Answers : List ℕ → Result Checked CheckFault → Type 0
 Answers text (Ok checked) = IsAnswer text (Ok (checked_data checked))
 Answers text (Err fault) = (fault ≡ NoMemory) ⊎ IsAnswer text (Err fault)
 
+-- what was answered to the text of this good certificate: its claim and its job, unless memory ran
+-- out
+abbrev pub IsAcceptedAs : JobData → CertData → Result Checked CheckFault → Type 0
+IsAcceptedAs job cert (Ok checked) = checked_data checked ≡ record {
+  verdict = verdict_of cert.claim;
+  job = job;
+}
+IsAcceptedAs job cert (Err fault) = fault ≡ NoMemory
+
+-- a text that is a good certificate's is accepted as this
+abbrev pub AcceptsGood : List ℕ → Result Checked CheckFault → Type 0
+AcceptsGood text result =
+    (job : JobData) (cert : CertData) → IsGoodText text job cert → IsAcceptedAs job cert result
+
 -- the verdict is true of the job: its cost is the least cost of a plan, or there is no plan
 abbrev pub IsTrueOf : JobData → Verdict → Type 0
-IsTrueOf job (Optimal cost) =
-    ((steps : List Step) × IsPlan job steps × (total job start steps ≡ cost)) × ((steps : List Step) → IsPlan job steps → cost ≤ total job start steps)
-IsTrueOf job NoPlan = (steps : List Step) → IsPlan job steps → ⊥
+IsTrueOf job (Optimal cost) = IsLeastCost job cost
+IsTrueOf job NoPlan = HasNoPlan job
 
--- what the rows of a certificate come to: each action is accounted for and the claim is proved, or the first cause for which it isn't so
+-- what the rows of a certificate come to: each action is accounted for and the claim is proved, or
+-- the first cause for which it isn't so
 abbrev pub IsRowsFault : JobData → CertData → CheckFault → Type 0
-IsRowsFault job cert (BadReason row action) = IsFirstFault job cert row action (IsBadReason job cert row action)
-IsRowsFault job cert (NotClosed row action) = IsFirstFault job cert row action (IsNotClosed job cert row action)
-IsRowsFault job cert TooLow = RowsAreAccounted job cert (length cert.rows) × (IsProved job cert → ⊥)
+IsRowsFault job cert (BadReason row action) =
+    IsFirstFault job cert.rows cert.notes row action (IsBadReason job cert.notes row action)
+IsRowsFault job cert (NotClosed row action) =
+    IsFirstFault job cert.rows cert.notes row action
+    (IsNotClosed job cert.rows cert.notes row action)
+IsRowsFault job cert TooLow =
+    RowsAreAccounted job cert.rows cert.notes (length cert.rows) × (IsProved job cert → ⊥)
 IsRowsFault job cert _ = ⊥
 
 abbrev pub RowsVerdict : JobData → CertData → Result (Unit {0}) CheckFault → Type 0
-RowsVerdict job cert (Ok _) = RowsAreAccounted job cert (length cert.rows) × IsProved job cert
+RowsVerdict job cert (Ok _) =
+    RowsAreAccounted job cert.rows cert.notes (length cert.rows) × IsProved job cert
 RowsVerdict job cert (Err fault) = (fault ≡ NoMemory) ⊎ IsRowsFault job cert fault
 
 -- what a certificate comes to: it is good, or the first cause for which it isn't
@@ -102,7 +134,8 @@ CertAnswer job cert (Ok _) = HasGoodRows job cert × IsProved job cert
 CertAnswer job cert (Err fault) = (fault ≡ NoMemory) ⊎ IsFault job cert fault
 
 -- the text is that of the job's certificate, of which these are all parts but the notes
-pub record AreParts (text : List ℕ) (job : JobData) (claim : Worth) (steps : List Step) (rows : List RowHead) : Type 0 where
+pub record AreParts (text : List ℕ) (job : JobData) (claim : Worth) (steps : List Step)
+    (rows : List RowHead) : Type 0 where
   pub cert : CertData
   pub written : IsTextOfCert text job cert
   pub claim_is : claim ≡ cert.claim

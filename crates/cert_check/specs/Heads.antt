@@ -30,16 +30,21 @@ pub record IsTextOfRows (text : List ℕ) (job : JobData) (rows : List RowHead) 
 
 -- all of the text's certificate but its notes, or the refusal of the text, unless memory ran out
 abbrev pub HeadsAnswer : List ℕ → Result Heads CheckFault → Type 0
-HeadsAnswer text (Ok heads) = (cert : CertData) × IsTextOfCert text heads.job cert × HasHeads heads cert
+HeadsAnswer text (Ok heads) =
+    (cert : CertData) × IsTextOfCert text heads.job cert × HasHeads heads cert
 HeadsAnswer text (Err (Cert fault)) = IsRefusedFor text fault
 HeadsAnswer text (Err NoMemory) = Unit {0}
 HeadsAnswer text (Err _) = ⊥
 
--- An item was read behind what was read before it: another follows, or it was the end, or the reading refuses.
-abbrev pub ItemAnswer : Result Bool CheckFault → CertData → List (Result Item CertFault) → Heads → List (Result Item CertFault) → Type 0
+-- An item was read behind what was read before it: another follows, or it was the end, or the
+-- reading refuses.
+abbrev pub ItemAnswer : Result Bool CheckFault → CertData → List (Result Item CertFault) → Heads
+    → List (Result Item CertFault) → Type 0
 ItemAnswer (Ok true) before left heads behind =
-    (read : CertData) × HasHeads heads read × (cert_of before left ≡ cert_of read behind) × (0 < length behind)
-ItemAnswer (Ok false) before left heads behind = (cert : CertData) × HasHeads heads cert × (cert_of before left ≡ Ok cert)
+    (read : CertData) × HasHeads heads read × (cert_of before left ≡ cert_of read behind)
+    × (0 < length behind)
+ItemAnswer (Ok false) before left heads behind =
+    (cert : CertData) × HasHeads heads cert × (cert_of before left ≡ Ok cert)
 ItemAnswer (Err (Cert fault)) before left heads behind = cert_of before left ≡ Err fault
 ItemAnswer (Err NoMemory) before left heads behind = Unit {0}
 ItemAnswer (Err _) before left heads behind = ⊥
@@ -54,7 +59,8 @@ JobAnswer text (Ok job) left = items Certificate text ≡ Ok (given.Job job) ∷
 JobAnswer text (Err fault) left = IsRefusedFor text fault
 
 -- the text is that of the job's certificate, of which these are the claim and the rows
-pub record AreRowParts (text : List ℕ) (job : JobData) (claim : Worth) (rows : List RowHead) : Type 0 where
+pub record AreRowParts (text : List ℕ) (job : JobData) (claim : Worth)
+    (rows : List RowHead) : Type 0 where
   pub cert : CertData
   pub written : IsTextOfCert text job cert
   pub claim_is : claim ≡ cert.claim

@@ -2,7 +2,6 @@ pub mod FaultWords
 pub mod Texts
 pub mod StepFaults
 pub mod Steps
-pub mod RowFaults
 pub mod Standing
 pub mod SetActions
 pub mod RowTable

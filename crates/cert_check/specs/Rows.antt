@@ -12,12 +12,13 @@ use Rattle.plan_cert.specs.declared.cert.RowHead.{RowHead}
 use Rattle.plan_cert.specs.Lines.{action_at}
 use Rattle.cert_check.specs.declared.fault.CheckFault.{CheckFault}
 use Rattle.cert_check.specs.declared.fault.CheckFault.TheVariants.{BadReason, NotClosed, TooLow}
-use Rattle.cert_check.specs.RowTable.{HaveRow}
-use Rattle.cert_check.specs.RowFaults.{HoldsAt, IsTried}
+use Rattle.plan_cert.specs.GoodCert.{HaveRow}
+use Rattle.plan_cert.specs.RowFaults.{HoldsAt, IsTried}
 
 -- a cost and what a worth that stands for the key says are at least a worth
 abbrev pub ProvesAfter : JobData → List RowHead → Key → ℕ → Worth → Type 0
-ProvesAfter job rows key cost worth = (next : Worth) × Proves job (HaveRow rows) key next × IsAtMost worth (plus cost next)
+ProvesAfter job rows key cost worth =
+    (next : Worth) × Proves job (HaveRow rows) key next × IsAtMost worth (plus cost next)
 
 -- an action is closed at a row
 abbrev pub ClosesAt : JobData → List RowHead → RowHead → Action → Type 0
@@ -29,20 +30,28 @@ IsActionMet job rows head number (Some reason) = HoldsAt job head number reason
 IsActionMet job rows head number None = ClosesAt job rows head (action_at (stage_count job) number)
 
 -- the cause for which it isn't so, with the numbers of the row and the action
-abbrev pub IsActionUnmet : JobData → List RowHead → ℕ → RowHead → ℕ → Option Reason → CheckFault → Type 0
-IsActionUnmet job rows row head number (Some reason) (BadReason r n) = (r ≡ row) × (n ≡ number) × (HoldsAt job head number reason → ⊥)
+abbrev pub IsActionUnmet : JobData → List RowHead → ℕ → RowHead → ℕ → Option Reason → CheckFault
+    → Type 0
+IsActionUnmet job rows row head number (Some reason) (BadReason r n) =
+    (r ≡ row) × (n ≡ number) × (HoldsAt job head number reason → ⊥)
 IsActionUnmet job rows row head number None (NotClosed r n) =
     (r ≡ row) × (n ≡ number) × (ClosesAt job rows head (action_at (stage_count job) number) → ⊥)
 IsActionUnmet job rows row head number noted fault = ⊥
 
-abbrev pub ActionAnswer : JobData → List RowHead → ℕ → RowHead → ℕ → Option Reason → Result (Unit {0}) CheckFault → Type 0
+abbrev pub ActionAnswer : JobData → List RowHead → ℕ → RowHead → ℕ → Option Reason
+    → Result (Unit {0}) CheckFault → Type 0
 ActionAnswer job rows row head number noted (Ok _) = IsActionMet job rows head number noted
-ActionAnswer job rows row head number noted (Err fault) = IsActionUnmet job rows row head number noted fault
+ActionAnswer job rows row head number noted (Err fault) =
+    IsActionUnmet job rows row head number noted fault
 
--- the action of a number is accounted for where it can be tried, or it can and isn't, for this cause
-abbrev pub NumberAnswer : JobData → List RowHead → ℕ → RowHead → ℕ → Option Reason → Result (Unit {0}) CheckFault → Type 0
-NumberAnswer job rows row head number noted (Ok _) = IsTried job head number → IsActionMet job rows head number noted
-NumberAnswer job rows row head number noted (Err fault) = IsTried job head number × IsActionUnmet job rows row head number noted fault
+-- the action of a number is accounted for where it can be tried, or it can and isn't, for this
+-- cause
+abbrev pub NumberAnswer : JobData → List RowHead → ℕ → RowHead → ℕ → Option Reason
+    → Result (Unit {0}) CheckFault → Type 0
+NumberAnswer job rows row head number noted (Ok _) =
+    IsTried job head number → IsActionMet job rows head number noted
+NumberAnswer job rows row head number noted (Err fault) =
+    IsTried job head number × IsActionUnmet job rows row head number noted fault
 
 -- what is noted of the action of a number
 abbrev pub noted_of : List (Option Reason) → ℕ → Option Reason
@@ -50,23 +59,31 @@ noted_of reasons number = slice_index_or reasons number None
 
 -- each action below a number is accounted for
 abbrev pub AreMet : JobData → List RowHead → RowHead → List (Option Reason) → ℕ → Type 0
-AreMet job rows head reasons count = (number : ℕ) → number < count → IsTried job head number → IsActionMet job rows head number (noted_of reasons number)
+AreMet job rows head reasons count =
+    (number : ℕ) → number < count → IsTried job head number
+    → IsActionMet job rows head number (noted_of reasons number)
 
 -- some action isn't, for this cause, and all before it are
-pub record IsRowFault (job : JobData) (rows : List RowHead) (row : ℕ) (head : RowHead) (reasons : List (Option Reason)) (fault : CheckFault) : Type 0 where
+pub record IsRowFault (job : JobData) (rows : List RowHead) (row : ℕ) (head : RowHead)
+    (reasons : List (Option Reason)) (fault : CheckFault) : Type 0 where
   pub number : ℕ
   pub tried : IsTried job head number
   pub before : AreMet job rows head reasons number
   pub cause : IsActionUnmet job rows row head number (noted_of reasons number) fault
 
 -- each action of a row is accounted for, or the first that isn't
-abbrev pub HeadAnswer : JobData → List RowHead → ℕ → RowHead → List (Option Reason) → Result (Unit {0}) CheckFault → Type 0
-HeadAnswer job rows row head reasons (Ok _) = AreMet job rows head reasons (2 * bend_count job * stage_count job)
+abbrev pub HeadAnswer : JobData → List RowHead → ℕ → RowHead → List (Option Reason)
+    → Result (Unit {0}) CheckFault → Type 0
+HeadAnswer job rows row head reasons (Ok _) =
+    AreMet job rows head reasons (2 * bend_count job * stage_count job)
 HeadAnswer job rows row head reasons (Err fault) = IsRowFault job rows row head reasons fault
 
 -- so for the row of a number
-abbrev pub RowAnswer : JobData → List RowHead → ℕ → List (Option Reason) → Result (Unit {0}) CheckFault → Type 0
-RowAnswer job rows row reasons result = (head : RowHead) × (slice_get rows row ≡ Some head) × HeadAnswer job rows row head reasons result
+abbrev pub RowAnswer : JobData → List RowHead → ℕ → List (Option Reason)
+    → Result (Unit {0}) CheckFault → Type 0
+RowAnswer job rows row reasons result =
+    (head : RowHead) × (slice_get rows row ≡ Some head)
+    × HeadAnswer job rows row head reasons result
 
 -- the claim is proved of the start, or it is too high
 abbrev pub ProvesAnswer : JobData → List RowHead → Worth → Result (Unit {0}) CheckFault → Type 0

@@ -29,6 +29,7 @@ IsNextOf job mask action None = is_lead job mask action.bend ≡ false
 -- where each action leads, and reasons that hold against some of them
 pub record AreActionsOf (job : JobData) (actions : SetActions) : Type 0 where
   pub next : (number : ℕ) → number < 2 * bend_count job * stage_count job
-      → IsNextOf job actions.mask (action_at (stage_count job) number) (slice_index_or actions.next number None)
+      → IsNextOf job actions.mask (action_at (stage_count job) number)
+      (slice_index_or actions.next number None)
   pub held : (number : ℕ) (reason : Reason) → slice_index_or actions.held number None ≡ Some reason
       → IsReasonFor job actions.mask (action_at (stage_count job) number) reason

@@ -11,25 +11,26 @@ use Rattle.job_setup.specs.Setup.{JobData}
 use Rattle.job_setup.specs.StrokeGroup.{group_of, is_lead}
 use Rattle.job_setup.specs.Reasons.{IsFirstReason}
 use Rattle.handling_cost.specs.StepCost.{IsActionAt, IsFull, key_after}
-use Rattle.handling_cost.specs.Plan.{IsReasonFor, IsGaugeFor, IsLegal, IsPlan, total, start}
+use Rattle.handling_cost.specs.Plan.{IsGaugeFor, IsUnopposed, IsLegal, IsPlan, total, start}
 use Rattle.cert_check.specs.declared.fault.StepFault.{StepFault}
 use Rattle.cert_check.specs.declared.fault.StepFault.TheVariants.{AlreadyFolded, NotLead, Hit, BadGauge}
 
 -- the first reason against the step's stroke is of another kind than that no gauge is legal
 abbrev pub IsFirstHit : JobData → Key → Step → Reason → Type 0
 IsFirstHit job key step reason = (reason ≢ NoGauge)
-    × IsFirstReason job key.mask (group_of job key.mask step.action.bend) step.action.back step.action.stage reason
-
--- no reason holds against it but that no gauge may be legal
-abbrev pub HasNoHit : JobData → Key → Step → Type 0
-HasNoHit job key step = (reason : Reason) → reason ≢ NoGauge → IsReasonFor job key.mask step.action reason → ⊥
+    × IsFirstReason job key.mask (group_of job key.mask step.action.bend) step.action.back
+    step.action.stage reason
 
 -- the first cause for which a step isn't legal at a key
 abbrev pub IsStepFault : JobData → Key → Step → StepFault → Type 0
 IsStepFault job key step AlreadyFolded = IsTrue (has key.mask step.action.bend)
-IsStepFault job key step NotLead = (has key.mask step.action.bend ≡ false) × (is_lead job key.mask step.action.bend ≡ false)
-IsStepFault job key step (Hit reason) = IsActionAt job key step.action × IsFirstHit job key step reason
-IsStepFault job key step BadGauge = IsActionAt job key step.action × HasNoHit job key step × (IsGaugeFor job key.mask step.action step.gauge → ⊥)
+IsStepFault job key step NotLead =
+    (has key.mask step.action.bend ≡ false) × (is_lead job key.mask step.action.bend ≡ false)
+IsStepFault job key step (Hit reason) =
+    IsActionAt job key step.action × IsFirstHit job key step reason
+IsStepFault job key step BadGauge =
+    IsActionAt job key step.action × IsUnopposed job key.mask step.action
+    × (IsGaugeFor job key.mask step.action step.gauge → ⊥)
 
 -- the step of the index isn't legal for this cause, and all before it are legal
 abbrev pub IsFirstBadStep : JobData → Key → List Step → ℕ → StepFault → Type 0
@@ -41,11 +42,13 @@ IsFirstBadStep job key (step ∷ steps) (suc index) fault =
 -- steps, each legal at the key to which those before it lead, and the last leads to this key
 abbrev pub AreLegal : JobData → Key → List Step → Key → Type 0
 AreLegal job key [] last = last ≡ key
-AreLegal job key (step ∷ steps) last = IsLegal job key step × AreLegal job (key_after job key step.action) steps last
+AreLegal job key (step ∷ steps) last =
+    IsLegal job key step × AreLegal job (key_after job key step.action) steps last
 
 -- legal steps that leave a bend unfolded, where a cost is claimed
 abbrev pub AreUnfinished : JobData → Worth → List Step → Type 0
-AreUnfinished job (Cost cost) steps = (last : Key) × AreLegal job start steps last × (IsFull job last → ⊥)
+AreUnfinished job (Cost cost) steps =
+    (last : Key) × AreLegal job start steps last × (IsFull job last → ⊥)
 AreUnfinished job Blocked steps = ⊥
 
 -- a plan of another cost than is claimed

@@ -3,7 +3,9 @@ ghost use Rattle.std.specs.Prelude.{◌≡◌, ◌<◌, IfOk, Some, length, repl
 ghost use Rattle.job_setup.specs.ValidJob.{IsJob};
 ghost use Rattle.handling_cost.specs.StepCost.{IsKeyOf};
 ghost use Rattle.plan_cert.specs.WellFormed.{IsRow};
-ghost use Rattle.cert_check.specs.RowTable.{AreRowsOf, IsIndexed, IsRowTable, IsWorthAt, key_place, key_count};
+ghost use Rattle.plan_cert.specs.KeyPlaces.{key_place, key_count};
+ghost use Rattle.plan_cert.specs.WellFormed.{AreRowsOf};
+ghost use Rattle.cert_check.specs.RowTable.{IsIndexed, IsRowTable, IsWorthAt};
 
 use brake_base::{Key, Worth};
 use job_setup::Job;

@@ -1,12 +1,5 @@
 //! The steps of a certificate: a plan that costs what is claimed.
-ghost use Rattle.std.specs.Prelude.{◌≡◌, ◌<◌, ◌≤◌, ◌<ℤ◌, All, IfNone, IfSome, IfOk, length};
-ghost use Rattle.unfolder.specs.Near.{IsWithin as IsNear};
-ghost use Rattle.fold_boxes.specs.Pose.{pose_data};
-ghost use Rattle.fold_boxes.specs.Posing.{IsNearPoseBox};
-ghost use Rattle.job_setup.specs.ValidJob.{IsJob};
-ghost use Rattle.job_setup.specs.StageOf.{stage_of};
-ghost use Rattle.job_setup.specs.StrokeGroup.{group_of};
-ghost use Rattle.job_setup.specs.Reasons.{pose_at};
+ghost use Rattle.std.specs.Prelude.{◌≡◌, ◌≤◌, All, IfNone, IfSome, IfOk, length};
 ghost use Rattle.handling_cost.specs.StepCost.{IsKeyOf, IsActionAt};
 ghost use Rattle.handling_cost.specs.Plan.{IsLegal, start};
 ghost use Rattle.plan_cert.specs.WellFormed.{IsStep, HasSteps};
@@ -14,11 +7,10 @@ ghost use Rattle.cert_check.specs.StepFaults.{IsStepFault};
 ghost use Rattle.cert_check.specs.Steps.{FollowAnswer, CostAnswer, StepsAnswer};
 
 use crate::fault::{CheckFault, StepFault};
-use brake_base::{Action, Key, Step, Worth};
-use fold_boxes::{Pose, pose};
+use brake_base::{Key, Step, Worth};
 use gauge_rules::legal;
-use handling_cost::{is_full, is_lead, next_key, start_key, step_cost};
-use job_setup::{Job, group};
+use handling_cost::{is_full, is_lead, next_key, pose_before, start_key, step_cost};
+use job_setup::Job;
 use sweep_check::first_reason;
 
 /// Refuses steps that aren't a plan of the claimed cost. A claim that there is no plan has no step.
@@ -95,7 +87,7 @@ fn stroke_fault(job: &Job, key: &Key, step: Step) -> Option<StepFault>
     ensures legal { IfNone result (IsLegal job.now key.now step) }
     ensures fault { IfSome result (λ fault. IsStepFault job.now key.now step fault) }
 {
-    let pose = pose_of(job, key, step.action);
+    let pose = pose_before(job, key, step.action);
     match first_reason(job, &pose, step.action.stage) {
         Some(reason) => Some(StepFault::Hit(reason)),
         None => {
@@ -106,30 +98,4 @@ fn stroke_fault(job: &Job, key: &Key, step: Step) -> Option<StepFault>
             }
         }
     }
-}
-
-/// The part on the machine before the stroke of an action.
-fn pose_of(job: &Job, key: &Key, action: Action) -> Pose
-    requires action { IsActionAt job.now key.now action }
-    ensures value { pose_data result ≡ pose_at job.now key.now.mask
-        (group_of job.now key.now.mask action.bend) action.back action.stage }
-    ensures near { All IsNearPoseBox result.boxes.items }
-    ensures valid { IsJob job.now }
-{
-    let group = group(job, key.mask, action.bend);
-    let (x0, x1) = stage_range(job, action.stage);
-    pose(job.shape(), key.mask, group, action.back, x0, x1)
-}
-
-/// The range of a stage along the bed.
-fn stage_range(job: &Job, stage: u8) -> (i64, i64)
-    requires { stage < length job.now.setup.stages }
-    ensures from { result.0 ≡ (stage_of job.now stage).x0 }
-    ensures to { result.1 ≡ (stage_of job.now stage).x1 }
-    ensures range { result.0 <ℤ result.1 }
-    ensures near_from { IsNear 1000000000 result.0 }
-    ensures near_to { IsNear 1000000000 result.1 }
-{
-    let stage = &job.setup().stages.as_slice()[usize::from(stage)];
-    (stage.x0, stage.x1)
 }

@@ -3,7 +3,7 @@ ghost use Rattle.std.specs.Prelude.{◌≡◌, IfOk};
 ghost use Rattle.plan_cert.specs.Cert.{CertData};
 ghost use Rattle.cert_check.specs.Texts.{IsTextOfCert};
 ghost use Rattle.cert_check.specs.Heads.{AreRowParts};
-ghost use Rattle.cert_check.specs.Checking.{Answers, AreParts, CertAnswer, IsTrueOf, RowsVerdict, verdict_of};
+ghost use Rattle.cert_check.specs.Checking.{Answers, AcceptsGood, AreParts, CertAnswer, IsTrueOf, RowsVerdict, verdict_of};
 ghost use Rattle.cert_check.specs.Rows.{ProvesAnswer};
 
 use crate::check_table::CheckTable;
@@ -38,6 +38,9 @@ pub struct Checked {
 /// which it isn't.
 pub fn check(alloc: Global, text: &[u8]) -> Result<Checked, CheckFault>
     ensures answer { Answers text.now result }
+
+    // The text of each good certificate is accepted, with its claim and its job.
+    ensures accepts { AcceptsGood text.now result }
 
     // The verdict is the least cost of a plan of the job, or there is no plan.
     ensures truth { IfOk result (λ checked. IsTrueOf checked.job checked.verdict) }

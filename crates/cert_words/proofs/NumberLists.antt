@@ -2,7 +2,7 @@
 use Rattle.std.proofs.Common.{◌≡◌, ◌↔◌, ℕ, zero, suc, ◌+◌, ◌-◌, ◌<◌, ◌≤◌, ◌==◌, Bool, true, false, not, IsTrue, ℤ, List, [], ◌∷◌, ◌++◌, length, Option, Some, None, refl, sym, ◌∙◌, ap, subst, arith, append_assoc}
 use Rattle.std.proofs.lemmas.Grind.{common_steps}
 use Rattle.std.proofs.lemmas.Bool.{both_ways}
-use Rattle.std.proofs.lemmas.List.{append-nil, length-append}
+use Rattle.std.proofs.lemmas.List.{length-append}
 use Rattle.cert_words.specs.LineWords.{◌>>=◌, signed_at}
 use Rattle.cert_words.specs.JobWords.{numbers_in}
 
@@ -13,10 +13,6 @@ in_front front read = read >>= λ numbers. Some (front ++ numbers)
 pub none_yet : (read : Option (List ℤ)) → in_front [] read ≡ read
 none_yet None = refl
 none_yet (Some numbers) = refl
-
-pub all_read : (front : List ℤ) (most : ℕ) (rest : List ℕ) → rest ≡ [] → in_front front (numbers_in most rest) ≡ Some front
-all_read front most [] e = ap Some (append-nil front)
-all_read front most (byte ∷ text) e = absurd (cc)
 
 joined : (front : List ℤ) (n : ℤ) (read : Option (List ℤ)) → in_front (front ++ n ∷ []) read ≡ in_front front (read >>= λ numbers. Some (n ∷ numbers))
 joined front n None = refl

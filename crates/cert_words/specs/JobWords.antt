@@ -2,6 +2,7 @@
 use Rattle.std.specs.Prelude.{ℕ, zero, suc, ◌==◌, ℤ, pos, Bool, true, false, nat_lt, int_le, unsigned_abs, List, [], ◌∷◌, length, Option, Some, None, if◌then◌else◌}
 use Rattle.std.specs.Ordering.{int_eq}
 use Rattle.toml_fields.specs.Fields.{checked_name}
+use Rattle.toml_fields.specs.Ranges.{is_within}
 use Rattle.brake_base.specs.declared.plane.Rect.{Rect}
 use Rattle.part_file.specs.declared.part.Side.{Side}
 use Rattle.part_file.specs.declared.part.Dir.{Dir}
@@ -144,6 +145,10 @@ costs_of pairs = do
 -- whether there are gangs: 1 is yes and 0 is no
 abbrev pub gang_of : ℤ → Option Bool
 gang_of n = if int_eq n (pos 0) then Some false else if int_eq n (pos 1) then Some true else None
+
+-- how often in a row a piece may be halved: 1 to 12, since 0 has no line
+abbrev pub fine_of : ℤ → Option ℕ
+fine_of n = if is_within (pos 1) (pos 12) n then Some (unsigned_abs n) else None
 
 -- a die: its name, its height and its opening, and the shortest flange
 unfoldable pub die_in : List ℕ → Option DieData

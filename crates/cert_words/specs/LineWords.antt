@@ -1,4 +1,5 @@
--- The words of a line from the front, each behind a space: a value by its one spelling and its range, and the text behind it.
+-- The words of a line from the front, each behind a space: a value by its one spelling and its
+-- range, and the text behind it.
 use Rattle.std.specs.Prelude.{ℕ, ◌+◌, ◌-◌, ◌^◌, ◌==◌, ℤ, Bool, true, false, ◌&&◌, not, nat_le, nat_lt, List, [], ◌∷◌, take, drop, bytes_eq, codes, Option, Some, None, if◌then◌else◌, ◌≡◌}
 use Rattle.std.specs.List.{prefix_len}
 use Rattle.brake_text.specs.Numbers.{number_of, signed_of}
@@ -37,7 +38,8 @@ word_length text = prefix_len (λ byte. not (is_space byte)) text
 -- the word behind a space, which goes on to the next space or the end
 unfoldable pub word_at : List ℕ → Option (List ℕ × List ℕ)
 word_at [] = None
-word_at (byte ∷ text) = if is_space byte then Some (take (word_length text) text, drop (word_length text) text) else None
+word_at (byte ∷ text) = if is_space byte
+    then Some (take (word_length text) text, drop (word_length text) text) else None
 
 -- the value, where no word is left
 abbrev pub at_end : {A : Type 0} → A → List ℕ → Option A

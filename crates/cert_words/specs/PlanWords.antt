@@ -1,4 +1,5 @@
--- The words of the lines behind the job: of the claim, of steps, of rows and of notes, each with its range.
+-- The words of the lines behind the job: of the claim, of steps, of rows and of notes, each with
+-- its range.
 use Rattle.std.specs.Prelude.{ℕ, ◌+◌, ◌-◌, ◌^◌, ◌==◌, List, Option, Some, None, if◌then◌else◌}
 use Rattle.brake_base.specs.declared.plane.Quarter.{Quarter}
 use Rattle.brake_base.specs.declared.stroke.Action.{Action}
@@ -38,7 +39,8 @@ claim_in text = do
   claim ← kind_at worth_of text
   at_end claim.0 claim.1
 
--- the mask, the attitude and the stage of a key of a job of so many bends and stages, at which a bend isn't folded
+-- the mask, the attitude and the stage of a key of a job of so many bends and stages, at which a
+-- bend isn't folded
 unfoldable pub key_at : ℕ → ℕ → List ℕ → Option ((ℕ × ℕ × ℕ) × List ℕ)
 key_at bends stages text = do
   mask ← count_at 0 (2 ^ bends - 1) text
@@ -51,7 +53,14 @@ unfoldable pub row_in : ℕ → ℕ → List ℕ → Option (Key × Worth)
 row_in bends stages text = do
   key ← key_at bends stages text
   worth ← kind_at worth_of key.1
-  at_end (record { mask = record { 0 = key.0.0 }; attitude = key.0.1; stage = key.0.2 }, worth.0) worth.1
+  at_end (
+    record {
+      mask = record { 0 = key.0.0 };
+      attitude = key.0.1;
+      stage = key.0.2;
+    },
+    worth.0,
+  ) worth.1
 
 -- a half alone
 unfoldable pub half_in : List ℕ → Option Reason

@@ -4,13 +4,14 @@ ghost use Rattle.toml_fields.specs.Fields.{checked_name};
 ghost use Rattle.part_file.specs.Part.{face_data, part_data};
 ghost use Rattle.tool_library.specs.Tools.{punch_data, die_data};
 ghost use Rattle.cert_words.specs.LineWords.{Reads};
-ghost use Rattle.cert_words.specs.JobWords.{number_in, pair_in, rect_in, fixed_in, named_pair_in, named_triple_in, part_in, root_in, parent_at, standing_in, child_in, gauge_in, costs_in, natural, naturals, costs_of, gang_of, die_in, punch_in, numbers_in, pieces_in};
+ghost use Rattle.cert_words.specs.JobWords.{number_in, pair_in, rect_in, fixed_in, named_pair_in, named_triple_in, part_in, root_in, parent_at, standing_in, child_in, gauge_in, costs_in, natural, naturals, costs_of, gang_of, fine_of, die_in, punch_in, numbers_in, pieces_in};
 
 use crate::line_words::{dir, is_end, name_of, pair, rect, side, signed_number, small, word};
 use arrayvec::ArrayVec;
 use brake_base::{Name, Rect};
 use machine_file::{Costs, Fixed, GaugeRule};
 use part_file::{Dir, Face, Joint, Part, Side};
+use toml_fields::is_within;
 use tool_library::{Die, Punch};
 
 /// One number alone.
@@ -221,6 +222,18 @@ pub fn gang_of(n: i64) -> Option<bool>
         0 => Some(false),
         1 => Some(true),
         _ => None,
+    }
+}
+
+/// How often in a row a piece may be halved, where the number is 1 to 12.
+#[tactic(auto, using(crate::proofs::Numbers::signed))]
+pub fn fine_of(n: i64) -> Option<u8>
+    ensures { result ≡ fine_of n }
+{
+    if is_within(n, 1, 12) {
+        Some(n as u8)
+    } else {
+        None
     }
 }
 

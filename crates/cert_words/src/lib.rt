@@ -7,8 +7,8 @@ mod line_words;
 mod plan_words;
 
 pub use job_words::{
-    child, cost_numbers, costs_of, die, fixed, gang_of, gauge, number, pair_alone, part, pieces,
-    punch, rect_alone, root,
+    child, cost_numbers, costs_of, die, fine_of, fixed, gang_of, gauge, number, pair_alone, part,
+    pieces, punch, rect_alone, root,
 };
 pub use line_words::split_word;
 pub use plan_words::{claim, note, row, step};

@@ -3,7 +3,7 @@
 use crate::first_stage::{key, step};
 use bb_search::{Outcome, Search, nodes};
 use brake_base::{Back, Quarter, Reason, Worth};
-use common_files::{L_SECTION, MACHINE, STAGE, TOOLS, U_CHANNEL};
+use common_files::{L_SECTION, LID, MACHINE, STAGE, TOOLS, U_CHANNEL};
 use job_setup::Job;
 use part_gen::made_job;
 use plan_cert::{Cert, Note, RowHead};
@@ -157,6 +157,34 @@ fn outcomes_of_the_worked_parts(rt: HostRuntime) -> Result<(), Fail> {
     );
     assert_eq!(rt; outcome_of(alloc, &high_channel, 49)?, Outcome::Blocked);
     assert_eq!(rt; outcome_of(alloc, &four, 8)?, Outcome::Best { cost: 400 });
+    Ok(())
+}
+
+/// At least nine keys are reached: the start and eight after one bend.
+#[test]
+fn four_keys_settle_the_four_flanges(rt: HostRuntime) -> Result<(), Fail> {
+    let alloc = rt.alloc();
+    let job = job_with(alloc, FOUR_FLANGES, "[45000]")?;
+    assert_eq!(rt; outcome_of(alloc, &job, 3)?, Outcome::Spent);
+    assert_eq!(rt; outcome_of(alloc, &job, 4)?, Outcome::Best { cost: 400 });
+    let cert = certificate_of(alloc, &job)?.expect(&rt, "a certificate");
+    assert!(rt; cert.rows.len() == 4 && cert.steps.len() == 4);
+    let steps = cert.steps.as_slice();
+    let order = [steps[0], steps[1], steps[2], steps[3]].map(|step| step.action.bend);
+    assert!(rt; order == [1, 2, 3, 4]);
+    Ok(())
+}
+
+#[test]
+fn a_lid_has_a_plan_where_its_walls_are_halved(rt: HostRuntime) -> Result<(), Fail> {
+    let alloc = rt.alloc();
+    let whole = job_with(alloc, LID, "[100000]")?;
+    let machine = format!(in alloc; "fine = 1\n{MACHINE}{STAGE}")?;
+    let halved = job_of(alloc, LID, TOOLS, &machine)?;
+    let budget = nodes(&whole);
+    assert_eq!(rt; outcome_of(alloc, &whole, budget)?, Outcome::Blocked);
+    let best = Outcome::Best { cost: 420 };
+    assert_eq!(rt; outcome_of(alloc, &halved, budget)?, best);
     Ok(())
 }
 

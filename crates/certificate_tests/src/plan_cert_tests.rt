@@ -2,7 +2,7 @@
 
 use arrayvec::ArrayVec;
 use brake_base::Worth;
-use certificate_texts::{ROWS, STEPS, VERSION_1_JOB, VERSION_2_JOB};
+use certificate_texts::{FINE_JOB, ROWS, STEPS, VERSION_1_JOB, VERSION_2_JOB};
 use common_files::{MACHINE, STAGE, TOOLS, U_CHANNEL};
 use plan_cert::{Cert, CertFault, CertReader, Item, read_cert, write_cert};
 use std::alloc::{AllocError, Global};
@@ -71,10 +71,39 @@ fn whole_texts_are_read(rt: HostRuntime) -> Result<(), Fail> {
     let alloc = rt.alloc();
     let old = certificate(alloc, &VERSION_1_JOB)?;
     let new = certificate(alloc, &VERSION_2_JOB)?;
-    for text in [&old, &new] {
+    let fine = certificate(alloc, &FINE_JOB)?;
+    for (text, wanted) in [(&old, &new), (&new, &new), (&fine, &fine)] {
         let text = rewritten(alloc, text)?;
-        assert_eq!(rt; text.as_slice(), new.as_bytes());
+        assert_eq!(rt; text.as_slice(), wanted.as_bytes());
     }
+    Ok(())
+}
+
+/// The number of a line of the certificate of depth 10, counted from 1, another line in its place, and
+/// the fault that this brings.
+const FINE_FAULTS: [(usize, &str, CertFault); 8] = [
+    (14, "fine 0\n", CertFault::BadJob),
+    (14, "fine 13\n", CertFault::BadJob),
+    (14, "fine -1\n", CertFault::BadJob),
+    (14, "fine 010\n", CertFault::BadLine { line: 14 }),
+    (14, "fine 1 0\n", CertFault::BadLine { line: 14 }),
+    (14, "fine 10\nfine 10\n", CertFault::BadLine { line: 15 }),
+    (13, "fine 10\n", CertFault::BadLine { line: 13 }),
+    (1, "brake-cert 1\n", CertFault::BadLine { line: 12 }),
+];
+
+#[test]
+fn depths(rt: HostRuntime) -> Result<(), Fail> {
+    let alloc = rt.alloc();
+    let whole = certificate(alloc, &FINE_JOB)?;
+    for (number, line, fault) in FINE_FAULTS {
+        let text = changed(alloc, &whole, number, line)?;
+        assert_eq!(rt; read_cert(alloc, text.as_bytes()).err(), Some(fault));
+    }
+    let old = certificate(alloc, &VERSION_1_JOB)?;
+    let text = changed(alloc, &old, 11, "cost 100 20 30 60 80 40\nfine 10\n")?;
+    let fault = CertFault::BadLine { line: 12 };
+    assert_eq!(rt; read_cert(alloc, text.as_bytes()).err(), Some(fault));
     Ok(())
 }
 

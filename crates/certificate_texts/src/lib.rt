@@ -48,6 +48,16 @@ pub const VERSION_2_JOB: [&str; 6] = [
     "load 0 0\n",
 ];
 
+/// The same where a piece may be halved ten times in a row.
+pub const FINE_JOB: [&str; 6] = [
+    "brake-cert 2\n",
+    U_CHANNEL,
+    MACHINE,
+    "gang 0\nforce 0\nfine 10\n",
+    STAGE,
+    "load 0 0\n",
+];
+
 /// The lines of the job of two flanges that are bent in one stroke, in version 2.
 pub const GANG_JOB: [&str; 6] = [
     "brake-cert 2\n",

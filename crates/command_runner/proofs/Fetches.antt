@@ -1,21 +1,24 @@
 -- What fetching files comes to, from what each fetch says.
-use Rattle.std.proofs.Common.{◌≡◌, ◌⊎◌, inl, inr, ℕ, suc, ◌+◌, ◌<◌, ◌≤◌, List, [], ◌∷◌, ◌++◌, length, get_or, map, take, drop, Option, Some, None, Result, Ok, Err, Vec, Global, refl, sym, ap, ◌∙◌, drop-cons, arith}
-use Rattle.std.specs.Prelude.{nat_lt, option_map, IfSome, IsSomeAnd, Any, if◌then◌else◌}
+use Rattle.std.proofs.Common.{◌≡◌, ◌⊎◌, inl, inr, ℕ, suc, ◌+◌, ◌<◌, ◌≤◌, List, [], ◌∷◌, ◌++◌, length, get_or, map, take, drop, Option, Some, None, Ok, Err, Vec, Global, refl, sym, ap, ◌∙◌, drop-cons, arith}
+use Rattle.std.specs.Prelude.{IfSome, Any}
 use Rattle.std.specs.List.{AllZip, slice_index_or}
 use Rattle.std.specs.Vec.{vec_items}
-use Rattle.std.proofs.lemmas.Bool.{lt-ltb, le-ltb}
-use Rattle.std.proofs.lemmas.List.{length-map, get_or-map, map-append, map_more, map_push, take-append-drop, take_all}
+use Rattle.std.proofs.lemmas.List.{length-map, get_or-map, get_or_past, map-append, map_more, map_push, take-append-drop, take_all}
 use Rattle.std.proofs.lemmas.Slice.Zip.{all_zipped_more}
-use Rattle.brake_io.specs.Meanings.{Names, Content, ShelfState, IsDue, MayFailAt}
+use Rattle.brake_io.specs.Meanings.{Content, ShelfState, IsDue, MayFailAt}
 use Rattle.command_runner.specs.declared.fetching.FileWord.{FileWord}
 use Rattle.command_runner.specs.declared.fetching.FetchStop.{FetchStop}
 use Rattle.command_runner.specs.declared.fetching.FetchStop.TheVariants.{TooLong, Fault, NoMemory}
 use Rattle.command_runner.specs.Stops.{OnTooLong}
-use Rattle.command_runner.specs.Fetching.{NamedFile, names_of, word_at, file_of, IsContent, IsTooLong, IsFetched, all_fetched, one_too_long, content_over, fetched_over, IsDueBetween, HasCause}
+use Rattle.command_runner.specs.Fetching.{NamedFile, names_of, word_at, file_of, IsContent, IsTooLong, IsFetched, all_fetched, one_too_long, IsDueBetween, HasCause}
 
 -- an item of a list by its place, as its view
 pub seen_at : {X : Type 0} (view : X → List ℕ) (xs : List X) (place : ℕ) (x : X) (seen : List ℕ) → place < length xs → x ≡ get_or xs place x → seen ≡ view x → seen ≡ slice_index_or (map view xs) place []
 seen_at view xs place x seen within here same = same ∙ ap view here ∙ sym (get_or-map view xs place x [] within)
+
+-- nothing is read past the last item
+pub none_seen : {X : Type 0} (view : X → List ℕ) (xs : List X) (place : ℕ) → length xs ≤ place → slice_index_or (map view xs) place [] ≡ []
+none_seen view xs place past = get_or_past (map view xs) place [] (rw length-map past)
 
 -- the contents of the files so far, and of one more
 pub contents_more : (shelf : ShelfState) (words : List (List ℕ)) (files : List FileWord) (i : ℕ) (file : FileWord) (contents : List (Vec ℕ Global)) (bytes : Vec ℕ Global) → i < length files

@@ -4,3 +4,4 @@ pub mod Putting
 pub mod Fetches
 pub mod Forms
 pub mod Told
+pub mod Outcomes

@@ -1,5 +1,5 @@
 -- What storing texts one after another comes to.
-use Rattle.std.proofs.Common.{◌≡◌, ◌≢◌, ℕ, suc, ◌+◌, ◌<◌, ◌≤◌, List, [], ◌∷◌, ◌++◌, length, length-append, map, get_or, take, drop, string_bytes, Option, Some, None, Result, Ok, Err, refl, sym, ap, ◌∙◌, drop-cons, arith}
+use Rattle.std.proofs.Common.{◌≡◌, ◌≢◌, ℕ, suc, ◌+◌, ◌<◌, ◌≤◌, List, [], ◌∷◌, ◌++◌, length, length-append, map, get_or, take, drop, string_bytes, Option, Some, None, Result, Err, refl, sym, ap, ◌∙◌, drop-cons, arith}
 use Rattle.std.specs.Prelude.{IfSome, IsErrOf}
 use Rattle.std.proofs.Math.Path.{fun_ext}
 use Rattle.std.proofs.lemmas.Grind.{common_steps}
@@ -10,7 +10,7 @@ use Rattle.brake_io.specs.Meanings.{Names, Content, ShelfState, NoCountFalls, Is
 use Rattle.command_runner.specs.declared.answer.StoredText.{StoredText}
 use Rattle.command_runner.specs.Answers.{StoredData, stored_data}
 use Rattle.command_runner.specs.Fetching.{IsDueBetween, HasDueCall}
-use Rattle.command_runner.specs.Delivery.{held_after, HoldsAll, AreStored, IsPartlyStored, AreStoredUpTo}
+use Rattle.command_runner.specs.Delivery.{held_after, HoldsAll, AreStored, AreStoredUpTo}
 
 held_after-append : (xs ys : List StoredData) (names : Names) → held_after (xs ++ ys) names ≡ held_after ys (held_after xs names)
 held_after-append [] ys names = refl
@@ -44,13 +44,13 @@ stored_none None = tt
 stored_none (Some c) = refl
 
 pub nothing_stored : (s : ShelfState) → AreStored [] s s
-nothing_stored s = record { holds = stored_none s.content; calls = omega arith }
+nothing_stored s = record { holds = stored_none s.content; calls = omega arith; longs = refl }
 
 -- one text more
 pub stored_more : (stored : List StoredText) (i : ℕ) (one : StoredText) (name text : List ℕ) (a b c : ShelfState) → i < length stored → one ≡ get_or stored i one
     → name ≡ string_bytes one.name → text ≡ one.text.items → AreStored (map stored_data (take i stored)) a b → WhereTold b c (ChangesOnly name) → WhereTold b c (HoldsNow name text)
-    → c.calls ≡ raised b.calls → AreStored (map stored_data (take (i + 1) stored)) a c
-stored_more stored i one name text a b c within here name_is text_is first only holds calls =
+    → c.calls ≡ raised b.calls → c.longs ≡ b.longs → AreStored (map stored_data (take (i + 1) stored)) a c
+stored_more stored i one name text a b c within here name_is text_is first only holds calls longs =
     let next : map stored_data (take (i + 1) stored) ≡ map stored_data (take i stored) ++ stored_data one ∷ [] =
     map_more stored_data stored i one within ∙ ap (λ (s : StoredText). map stored_data (take i stored) ++ stored_data s ∷ []) (sym here) in
     let only_one : WhereTold b c (ChangesOnly (string_bytes one.name)) = rw name_is at only in
@@ -58,6 +58,7 @@ stored_more stored i one name text a b c within here name_is text_is first only 
     rw next (record {
       holds = stored_both (map stored_data (take i stored)) (stored_data one ∷ []) a.content b.content c.content first.holds (stored_one (stored_data one) b.content c.content only_one holds_one);
       calls = rw length-append (omega (arith, first.calls, calls));
+      longs = longs ∙ first.longs;
     })
 
 -- the texts around one of them
@@ -71,8 +72,8 @@ around stored i one within here =
 -- a text that isn't stored, where those before it are
 pub stored_up_to : (stored : List StoredText) (i : ℕ) (one : StoredText) (name text : List ℕ) (a b c : ShelfState) → i < length stored → one ≡ get_or stored i one
     → name ≡ string_bytes one.name → text ≡ one.text.items → AreStored (map stored_data (take i stored)) a b → WhereTold b c (ChangesOnly name) → WhereTold b c (HoldsPart name text)
-    → c.calls ≡ raised b.calls → AreStoredUpTo (map stored_data stored) a c
-stored_up_to stored i one name text a b c within here name_is text_is first only part calls =
+    → c.calls ≡ raised b.calls → c.longs ≡ b.longs → AreStoredUpTo (map stored_data stored) a c
+stored_up_to stored i one name text a b c within here name_is text_is first only part calls longs =
     let only_one : WhereTold b c (ChangesOnly (string_bytes one.name)) = rw name_is at only in
     let part_of_one : WhereTold b c (HoldsPart (string_bytes one.name) one.text.items) = rw (name_is, text_is) at part in
     record {
@@ -82,7 +83,7 @@ stored_up_to stored i one name text a b c within here name_is text_is first only
       split = around stored i one within here;
       between = b;
       first = first;
-      last = record { others = only_one; part = part_of_one; calls = omega (arith, calls) };
+      last = record { others = only_one; part = part_of_one; calls = omega (arith, calls); longs = longs };
     }
 
 due_among : (stored : List StoredData) (first before now : ℕ) (a b : Option Content) → WhereBothTold a b (HoldsAll stored) → first ≤ before

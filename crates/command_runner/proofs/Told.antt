@@ -16,7 +16,7 @@ too_long_bytes : (o : Option (List ℕ)) (file : NamedFile) → IsSomeAnd o (λ 
 too_long_bytes None file longer = absurd longer
 too_long_bytes (Some bytes) file longer = rw (lt-ltb file.limit (length bytes) longer) refl
 
-all_over : (shelf : ShelfState) (content : Content) (files : List NamedFile) (contents : List (List ℕ)) → shelf.content ≡ Some content → AllZip (IsContent shelf) files contents → fetched_over content.held files ≡ Some (Ok contents)
+pub all_over : (shelf : ShelfState) (content : Content) (files : List NamedFile) (contents : List (List ℕ)) → shelf.content ≡ Some content → AllZip (IsContent shelf) files contents → fetched_over content.held files ≡ Some (Ok contents)
 all_over shelf content [] [] told all = refl
 all_over shelf content [] (bytes ∷ contents) told all = absurd all
 all_over shelf content (file ∷ files) [] told all = absurd all

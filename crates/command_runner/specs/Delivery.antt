@@ -1,5 +1,5 @@
 -- What storing and putting an answer comes to.
-use Rattle.std.specs.Prelude.{◌≡◌, ◌⊎◌, ℕ, ◌+◌, ◌≤◌, List, [], ◌∷◌, ◌++◌, length}
+use Rattle.std.specs.Prelude.{◌≡◌, ◌⊎◌, ◌+◌, ◌≤◌, List, [], ◌∷◌, ◌++◌, length}
 use Rattle.brake_io.specs.Meanings.{Names, Content, ShelfState, SinkState, WhereTold, ChangesOnly, HoldsPart, Puts, PutsPart, with_bytes}
 use Rattle.command_runner.specs.declared.status.Status.{Status}
 use Rattle.command_runner.specs.declared.status.Status.TheVariants.{Fault, NoMemory}
@@ -23,16 +23,20 @@ held_after (one ∷ rest) names = held_after rest (with_bytes one.name one.text 
 abbrev pub HoldsAll : List StoredData → Content → Content → Type 0
 HoldsAll stored before now = now ≡ record before { held = held_after stored before.held }
 
--- all of these texts are stored, with a call each, and where the content is told nothing else has changed
+-- all of these texts are stored, with a call each, and where the content is told nothing else has
+-- changed; the count of long files stands
 pub record AreStored (stored : List StoredData) (before now : ShelfState) : Type 0 where
   pub holds : WhereTold before now (HoldsAll stored)
   pub calls : now.calls ≤ before.calls + length stored
+  pub longs : now.longs ≡ before.longs
 
--- the name of the text holds what it held or a beginning of the text, and where the content is told nothing else has changed
+-- the name of the text holds what it held or a beginning of the text, and where the content is told
+-- nothing else has changed; the count of long files stands
 pub record IsPartlyStored (one : StoredData) (before now : ShelfState) : Type 0 where
   pub others : WhereTold before now (ChangesOnly one.name)
   pub part : WhereTold before now (HoldsPart one.name one.text)
   pub calls : now.calls ≤ before.calls + 1
+  pub longs : now.longs ≡ before.longs
 
 -- a beginning of these texts is stored, the last of them perhaps in part
 pub record AreStoredUpTo (stored : List StoredData) (before now : ShelfState) : Type 0 where

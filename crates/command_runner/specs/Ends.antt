@@ -1,12 +1,13 @@
 -- How the run of a command ends.
 use Rattle.std.specs.Prelude.{◌≡◌, ◌⊎◌, ℕ, List, length, Result, Ok, Err}
-use Rattle.brake_io.specs.Rose.{Rose}
-use Rattle.brake_io.specs.Meanings.{ShelfState}
+use Rattle.std.specs.List.{AllZip}
+use Rattle.brake_io.specs.Rose.{raised, Rose}
+use Rattle.brake_io.specs.Meanings.{ShelfState, WhereTold, Puts}
 use Rattle.command_runner.specs.declared.word_kind.WordKind.{WordKind}
 use Rattle.command_runner.specs.declared.status.Status.{Status}
-use Rattle.command_runner.specs.Answers.{AnswerData, long_refused}
-use Rattle.command_runner.specs.Fetching.{files_of, names_of, IsFetched, OnlyFetches, HasCause}
-use Rattle.command_runner.specs.Delivery.{IsCutShort, Outside, Delivers}
+use Rattle.command_runner.specs.Answers.{AnswerData, concatenation, long_refused}
+use Rattle.command_runner.specs.Fetching.{files_of, names_of, IsContent, IsFetched, OnlyFetches, HasCause}
+use Rattle.command_runner.specs.Delivery.{IsCutShort, Outside, HoldsAll, Delivers}
 
 -- what a command answers to its words and the contents of its files, in order; it may have several answers
 abbrev pub Meaning : Type 1
@@ -38,3 +39,38 @@ CountsFault before now = Rose before.shelf.faults now.shelf.faults ⊎ Rose befo
 abbrev pub MayFault : List WordKind → List (List ℕ) → Outside → Outside → Type 0
 MayFault form words before now =
     Rose before.sink.faults now.sink.faults ⊎ HasCause (names_of (files_of form words)) before.shelf now.shelf
+
+-- the whole answer is left: the run ends as it has it, its texts are stored, and its text is put
+pub record Leaves (answer : AnswerData) (before now : Outside) (status : Status) : Type 0 where
+  pub ends : status ≡ answer.status
+  pub stores : WhereTold before.shelf now.shelf (HoldsAll answer.stored)
+  pub puts : Puts before.sink now.sink (concatenation answer.texts)
+
+-- all files were fetched, and an answer to their contents is left; the count of long files stands
+pub record AnswersContents (form : List WordKind) (meaning : Meaning) (words : List (List ℕ))
+    (before now : Outside) (status : Status) : Type 0 where
+  pub contents : List (List ℕ)
+  pub are_fetched : AllZip (IsContent before.shelf) (files_of form words) contents
+  pub longs : now.shelf.longs ≡ before.shelf.longs
+  pub answer : AnswerData
+  pub is_answer : meaning words contents answer
+  pub leaves : Leaves answer before now status
+
+-- a file was too long, and its refusal is left; the count of long files rose
+pub record RefusesLong (form : List WordKind) (words : List (List ℕ)) (before now : Outside)
+    (status : Status) : Type 0 where
+  pub number : ℕ
+  pub is_fetched : IsFetched before.shelf now.shelf (files_of form words) (Err number)
+  pub longs : now.shelf.longs ≡ raised before.shelf.longs
+  pub leaves : Leaves (long_refused number) before now status
+
+-- What a run comes to, as it shows from outside: it was cut short, or it left its answer to the
+-- contents of all files, or the refusal of one that was too long. So a file is refused for its length
+-- only where the count of long files rose, and where that rose nothing else is answered.
+pub data IsOutcome (form : List WordKind) (meaning : Meaning) (words : List (List ℕ))
+    (before now : Outside) (status : Status) : Type 0 where
+  cut_short : IsCutShort status → IsOutcome form meaning words before now status
+  answered : AnswersContents form meaning words before now status
+      → IsOutcome form meaning words before now status
+  refused_long : RefusesLong form words before now status
+      → IsOutcome form meaning words before now status

@@ -1,5 +1,5 @@
 -- The words of a command: each form is a list of kinds of words.
-use Rattle.std.specs.Prelude.{ℕ, ◌+◌, List, [], ◌∷◌, ◌++◌, length, drop, codes, Bool, true, false, not, ◌&&◌, ◌||◌, ◌==◌, nat_eq, nat_le, bytes_eq, Option, Some, None, is_some, option_and_then, if◌then◌else◌}
+use Rattle.std.specs.Prelude.{ℕ, List, [], ◌∷◌, length, drop, codes, Bool, true, false, not, ◌&&◌, ◌||◌, ◌==◌, nat_eq, nat_le, bytes_eq, Option, Some, None, is_some, option_and_then, if◌then◌else◌}
 use Rattle.std.specs.List.{starts_with}
 use Rattle.brake_text.specs.Numbers.{number_of}
 use Rattle.command_runner.specs.declared.word_kind.Keyword.{Keyword}
@@ -28,10 +28,10 @@ is_file_word word = not (length word == 0) && not (starts_with nat_eq word (code
 abbrev pub number_in : ℕ → ℕ → List ℕ → Option ℕ
 number_in least most word = option_and_then (λ n. if nat_le least n && nat_le n most then Some n else None) (number_of word)
 
--- the word is of this kind
+-- the word is of this kind; any may stand where a number is to be, which the command reads
 abbrev pub is_of_kind : WordKind → List ℕ → Bool
 is_of_kind (Literal keyword) word = bytes_eq word (spelling keyword)
-is_of_kind (Number least most) word = is_some (number_in least most word)
+is_of_kind Number word = true
 is_of_kind Input word = is_file_word word
 is_of_kind Certificate word = is_file_word word
 is_of_kind Table word = is_file_word word
@@ -48,7 +48,7 @@ limit_of _ = None
 -- the word names a file, fetched or stored
 abbrev pub is_file : WordKind → Bool
 is_file (Literal keyword) = false
-is_file (Number least most) = false
+is_file Number = false
 is_file _ = true
 
 -- a full stop, whose byte is 46, and a number from 0 to 15

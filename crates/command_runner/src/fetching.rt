@@ -97,12 +97,14 @@ pub fn file_words(alloc: Global, kinds: &[WordKind]) -> Result<Vec<FileWord>, Al
     Ok(files)
 }
 
-/// The word at a place.
-fn word_at(words: &[String], place: usize) -> &str
-    requires { place < length words.now }
+/// The word at a place, and an empty one behind the last.
+pub fn word_at(words: &[String], place: usize) -> &str
     ensures { result.now ≡ word_at (map string_bytes words.now) place }
 {
-    words[place].as_str()
+    match words.get(place) {
+        Some(word) => word.as_str(),
+        None => "",
+    }
 }
 
 /// The content of the file that a word names.
@@ -112,7 +114,6 @@ fn fetch<H: Shelf>(
     file: FileWord,
     shelf: &mut H,
 ) -> Result<Vec<u8>, FetchStop>
-    requires { file.place < length words.now }
     ensures content { (H.state shelf.new).content ≡ (H.state shelf.old).content }
     ensures calls { (H.state shelf.new).calls ≡ raised (H.state shelf.old).calls }
     ensures never_falls { NoCountFalls (H.state shelf.old) (H.state shelf.new) }
@@ -144,7 +145,6 @@ pub fn fetch_all<H: Shelf>(
     files: &[FileWord],
     shelf: &mut H,
 ) -> Result<Vec<Vec<u8>>, FetchStop>
-    requires { All (λ file. file.place < length words.now) files.now }
     ensures only { OnlyFetches (length files.now) (H.state shelf.old) (H.state shelf.new) }
     ensures never_falls { NoCountFalls (H.state shelf.old) (H.state shelf.new) }
     ensures fetched { OnFetched result (IsFetched (H.state shelf.old) (H.state shelf.new)

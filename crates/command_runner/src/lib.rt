@@ -12,6 +12,7 @@ mod word_kind;
 
 pub use answer::{Answer, StoredText, refusal};
 pub use delivery::deliver;
+pub use fetching::word_at;
 pub use form::is_form;
 pub use running::{Command, run};
 pub use status::Status;

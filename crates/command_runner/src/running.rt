@@ -8,7 +8,7 @@ ghost use Rattle.command_runner.specs.Kinds.{is_form};
 ghost use Rattle.command_runner.specs.Answers.{answer_data, long_refused};
 ghost use Rattle.command_runner.specs.Fetching.{file_words, files_of, names_of, OnlyFetches, HasCause};
 ghost use Rattle.command_runner.specs.Delivery.{IsCutShort, Outside};
-ghost use Rattle.command_runner.specs.Ends.{Meaning, IsAnswer, Ends, CountsFault, MayFault};
+ghost use Rattle.command_runner.specs.Ends.{Meaning, IsAnswer, Ends, IsOutcome, CountsFault, MayFault};
 
 use crate::answer::{Answer, refusal};
 use crate::delivery::deliver;
@@ -110,6 +110,9 @@ pub fn run<C: Command, H: Shelf, K: Sink>(
 ) -> Status
     requires { IsTrue (is_form (C.form command.now) (map string_bytes words.now)) }
     ensures ends { Ends (C.form command.now) (C.meaning command.now) (map string_bytes words.now)
+        (record { shelf = H.state shelf.old; sink = K.state out.old })
+        (record { shelf = H.state shelf.new; sink = K.state out.new }) result }
+    ensures outcome { IsOutcome (C.form command.now) (C.meaning command.now) (map string_bytes words.now)
         (record { shelf = H.state shelf.old; sink = K.state out.old })
         (record { shelf = H.state shelf.new; sink = K.state out.new }) result }
     ensures fault { result ≡ Status.Fault → CountsFault

@@ -40,8 +40,8 @@ pub enum WordKind {
     Output,
     /// The name under which texts are stored, with a full stop and a number from 0 to 15.
     NumberedOutput,
-    /// A number in this range.
-    Number { least: u32, most: u32 },
+    /// A number. The command reads it, and knows its range.
+    Number,
 }
 
 impl Keyword {
@@ -103,13 +103,13 @@ fn is_numbered_name(name: &str, word: &str) -> bool
 }
 
 impl WordKind {
-    /// Whether the word is of this kind.
+    /// Whether the word is of this kind. Every word may stand for a number.
     pub fn is_of(self, word: &str) -> bool
         ensures { result ≡ is_of_kind self word.now }
     {
         match self {
             WordKind::Literal(keyword) => word == keyword.spelling(),
-            WordKind::Number { least, most } => number_in(word.as_bytes(), least, most).is_some(),
+            WordKind::Number => true,
             _ => is_file_word(word),
         }
     }
@@ -130,7 +130,7 @@ impl WordKind {
     pub fn is_file(self) -> bool
         ensures { result ≡ is_file self }
     {
-        !matches!(self, WordKind::Literal(_) | WordKind::Number { .. })
+        !matches!(self, WordKind::Literal(_) | WordKind::Number)
     }
 
     /// Whether nothing that is stored for the word of this kind has the other word's name.

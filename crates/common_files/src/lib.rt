@@ -88,6 +88,48 @@ length = 25000
 dir = \"up\"
 ";
 
+/// A lid of 105,000 by 105,000 with walls of 25,000 on its four sides.
+pub const LID: &str = "material = \"S235\"
+thickness = 2000
+radius = 2000
+[[face]]
+name = \"pan\"
+width = 105000
+length = 105000
+[[face]]
+name = \"n\"
+on = \"pan\"
+side = \"N\"
+at = 2000
+width = 101000
+length = 25000
+dir = \"up\"
+[[face]]
+name = \"s\"
+on = \"pan\"
+side = \"S\"
+at = 2000
+width = 101000
+length = 25000
+dir = \"up\"
+[[face]]
+name = \"e\"
+on = \"pan\"
+side = \"E\"
+at = 2000
+width = 101000
+length = 25000
+dir = \"up\"
+[[face]]
+name = \"w\"
+on = \"pan\"
+side = \"W\"
+at = 2000
+width = 101000
+length = 25000
+dir = \"up\"
+";
+
 /// A part whose faces 1 and 4 overlap in the blank.
 pub const FLAT_OVERLAP: &str = "material = \"S235\"
 thickness = 2000

@@ -42,6 +42,10 @@ none_yet test (suc f) h = rw (le-ltb (suc f) 1 (omega arith)) refl
 pub found_earlier : (test : ℕ → Bool) (f n : ℕ) → f < n → (nat_lt f n && test f) ≡ test f
 found_earlier test f n low = rw (lt-ltb f n low) refl
 
+-- nothing is found of a later one
+pub none_later : (test : ℕ → Bool) (f n : ℕ) → n ≤ f → (nat_lt f n && test f) ≡ false
+none_later test f n past = rw (le-ltb f n past) refl
+
 -- a face lies beyond some bend of the set exactly where it lies beyond one of them
 found_beyond : (p : PartData) → IsPart p → (set : ℕ → Bool) → (n f : ℕ) → f ≤ n → f < length p.faces → is_beyond_some p.faces set f ≡ true → (b : ℕ) × IsTrue (set b) × IsBeyond p.faces b f
 found_beyond p part set n zero few inside h = absurd (let none = beyond-root p.faces set in cc)

@@ -86,10 +86,6 @@ places_listed shape mask xs count are =
         let first : Place = record { at = origin; turn = 0 } in
         get_or-map map_of xs k first stay inside ∙ (are k first inside).map
 
--- a place is within the bound of all coordinates
-pub place_near : (shape : ShapeData) (mask : Mask) (f : ℕ) (place : Place) → f < 13 → IsPlaceOf shape mask f place → IsWithin 1000000000 place.at
-place_near shape mask f place few is = within_more (f * 21000000) 1000000000 place.at (omega arith) is.near
-
 -- the boxes of a place
 pub box_at : (shape : ShapeData) (mask : Mask) (f : ℕ) (place : Place) (b c r : Box3) → IsPlaceOf shape mask f place → b ≡ c → r ≡ image (map_of place) b → r ≡ image (place_of shape mask f) c
 box_at shape mask f place b c r is same image_is = image_is ∙ (λ i. image (is.map i) (same i))

@@ -104,13 +104,3 @@ group_by_mates shape mask group mates rest b least inside mates_are rest_is =
       }),
       λ is c member. rest_is c ∙ both_hold (has mates c) (has mask c) (mates_are c ∙ ap (λ l. is_mate shape l c) (sym lead) ∙ is.mates c member) (is.flat c member),
     )
-
--- a set with another least bend, or with none, is no group
-pub no_group_past : (shape : ShapeData) (mask group : Mask) (b : ℕ) → IsLeast group b → length shape.part.faces ≤ b → IsGroup shape mask group → ⊥
-no_group_past shape mask group b least past is =
-    let lead = lead_is shape group is.some in
-    let same = least_is_lead shape group b is.some least in
-    omega (arith, same, lead.inside, past)
-
-pub no_group_of_none : (shape : ShapeData) (mask group : Mask) → IsEmpty group → IsGroup shape mask group → ⊥
-no_group_of_none shape mask group none is = let here = is.some in let empty = none (lead_of shape group) in cc

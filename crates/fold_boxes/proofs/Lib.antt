@@ -18,3 +18,4 @@ pub mod PosedBoxes
 pub mod Locality
 pub mod Halving
 pub mod Corners
+pub mod SolePose

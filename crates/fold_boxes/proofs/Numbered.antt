@@ -46,7 +46,7 @@ transpose_first m h =
     subst (λ (t : Matrix). multiply (transpose t) t ≡ identity) h.is
     (ap (λ (t : Matrix). multiply t (turn_of h.number)) (sym (inverse_turn h.number h.below)) ∙ inverse-turn h.number h.below)
 
-transpose_last : (m : Matrix) → IsNumbered m → multiply m (transpose m) ≡ identity
+pub transpose_last : (m : Matrix) → IsNumbered m → multiply m (transpose m) ≡ identity
 transpose_last m h =
     subst (λ (t : Matrix). multiply t (transpose t) ≡ identity) h.is
     (ap (multiply (turn_of h.number)) (sym (inverse_turn h.number h.below)) ∙ turn-inverse h.number h.below)

@@ -37,12 +37,6 @@ map_picked_alike f g p a (suc n) same =
     by_test true here rest = λ i. here i ∷ rest i
     by_test false here rest = rest
 
--- one element more of a list that is mapped one by one
-pub mapped_next : {X Y : Type 0} (g : X → Y) (xs : List X) (x : X) (i : ℕ) (front ys : List Y) (y : Y) → i < length xs → x ≡ get_or xs i x → y ≡ g x → front ≡ map g (take i xs) → ys ≡ front ++ y ∷ []
-    → ys ≡ map g (take (i + 1) xs)
-mapped_next g xs x i front ys y inside here is so_far pushed =
-    pushed ∙ (λ j. so_far j ++ (is ∙ ap g here) j ∷ []) ∙ sym (map_more g xs i x inside)
-
 -- the half of a box is that of its face
 half_alike : (set other : ℕ → Bool) (back : Back) (id f : ℕ) → face_of_box id ≡ f → set f ≡ other f → half_by set back id ≡ half_by other back id
 half_alike set other back id f at same =

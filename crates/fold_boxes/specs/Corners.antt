@@ -15,5 +15,10 @@ Touch a b = (p : V3) × IsIn a p × IsIn b p
 
 -- the corner of each folded bend touches the cores of both faces that the bend joins
 pub record CornersTouch (shape : ShapeData) (mask : Mask) : Type 0 where
-  pub parent : (b : ℕ) → 0 < b → b < length shape.part.faces → IsTrue (has mask b) → Touch (corner_box shape mask b).body (face_box shape mask (joint_of shape.part.faces b).on).body
-  pub child : (b : ℕ) → 0 < b → b < length shape.part.faces → IsTrue (has mask b) → Touch (corner_box shape mask b).body (face_box shape mask b).body
+  pub parent :
+      (b : ℕ) → 0 < b → b < length shape.part.faces → IsTrue (has mask b)
+      → Touch (corner_box shape mask b).body
+      (face_box shape mask (joint_of shape.part.faces b).on).body
+  pub child :
+      (b : ℕ) → 0 < b → b < length shape.part.faces → IsTrue (has mask b)
+      → Touch (corner_box shape mask b).body (face_box shape mask b).body

@@ -33,8 +33,10 @@ corner_column shape b =
     let joint = joint_of shape.part.faces b in
     let s = fold_sign joint.dir in
     box_of
-    (plus (line_start shape.part.faces shape.q b) (times (s *ℤ neg_ℤ (half_thickness shape.part)) z_axis))
-    (plus (plus (line_end shape.part.faces shape.q b) (times shape.q (outward joint.side))) (times (s *ℤ mould_distance shape) z_axis))
+    (plus (line_start shape.part.faces shape.q b)
+    (times (s *ℤ neg_ℤ (half_thickness shape.part)) z_axis))
+    (plus (plus (line_end shape.part.faces shape.q b) (times shape.q (outward joint.side)))
+    (times (s *ℤ mould_distance shape) z_axis))
 
 -- the box of face f
 abbrev pub face_box : ShapeData → Mask → ℕ → PartBox
@@ -42,7 +44,10 @@ face_box shape mask f = record { id = f; body = image (place_of shape mask f) (c
 
 -- the box of the corner of bend b, where it is folded
 abbrev pub corner_box : ShapeData → Mask → ℕ → PartBox
-corner_box shape mask b = record { id = 12 + b; body = image (place_of shape mask (joint_of shape.part.faces b).on) (corner_column shape b) }
+corner_box shape mask b = record {
+  id = 12 + b;
+  body = image (place_of shape mask (joint_of shape.part.faces b).on) (corner_column shape b);
+}
 
 -- the boxes of all faces, and those of the corners of the folded bends
 abbrev pub boxes_of : ShapeData → Mask → List PartBox

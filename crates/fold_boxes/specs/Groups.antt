@@ -22,7 +22,9 @@ same_joint a b = (b.on == a.on) && (same_side b.side a.side && same_direction b.
 
 -- bend c has the parent, the side and the direction of bend b
 abbrev pub is_mate : ShapeData → ℕ → ℕ → Bool
-is_mate shape b c = (nat_le 1 c && nat_lt c (length shape.part.faces)) && same_joint (joint_of shape.part.faces b) (joint_of shape.part.faces c)
+is_mate shape b c =
+    (nat_le 1 c && nat_lt c (length shape.part.faces))
+    && same_joint (joint_of shape.part.faces b) (joint_of shape.part.faces c)
 
 -- how far a point of its parent lies along the side of bend b, from the start of that side
 abbrev pub along_side : ShapeData → ℕ → V3 → ℤ
@@ -42,4 +44,7 @@ members shape set = filter set (bend_numbers shape.part.faces)
 
 -- the span of a group: from the least to the greatest end of its lines, along the side that they share
 abbrev pub span : ShapeData → (ℕ → Bool) → ℤ × ℤ
-span shape group = (least (map (line_from shape) (members shape group)), greatest (map (line_to shape) (members shape group)))
+span shape group = (
+  least (map (line_from shape) (members shape group)),
+  greatest (map (line_to shape) (members shape group)),
+)

@@ -19,7 +19,11 @@ use Rattle.fold_boxes.specs.Folded.{corner_column}
 
 -- the turn of a child that is folded at this side in this direction
 abbrev pub folded_matrix : Side → Dir → Matrix
-folded_matrix side dir = record { x = along side; y = times (fold_sign dir) z_axis; z = times (neg_ℤ (fold_sign dir)) (outward side) }
+folded_matrix side dir = record {
+  x = along side;
+  y = times (fold_sign dir) z_axis;
+  z = times (neg_ℤ (fold_sign dir)) (outward side);
+}
 
 -- the column over a line in the plane of the parent
 abbrev pub column_over : Side → BendLine → ℤ → ℤ → Box3
@@ -27,7 +31,8 @@ column_over side line q tau =
     let s = fold_sign line.dir in
     box_of
     (plus (vector line.from.0 line.from.1 (pos 0)) (times (s *ℤ neg_ℤ tau) z_axis))
-    (plus (plus (vector line.to.0 line.to.1 (pos 0)) (times q (outward side))) (times (s *ℤ (q -ℤ tau)) z_axis))
+    (plus (plus (vector line.to.0 line.to.1 (pos 0)) (times q (outward side)))
+    (times (s *ℤ (q -ℤ tau)) z_axis))
 
 -- what is kept of bend b: its parent, where its child stands on it flat and folded, and the column of its corner
 pub record IsHingeOf (shape : ShapeData) (b : ℕ) (hinge : Hinge) : Type 0 where
@@ -42,7 +47,9 @@ pub record IsHingeOf (shape : ShapeData) (b : ℕ) (hinge : Hinge) : Type 0 wher
 
 -- the hinges of the bends from 1 on, in order
 abbrev pub AreHinges : ShapeData → List Hinge → Type 0
-AreHinges shape hinges = (i : ℕ) (other : Hinge) → i < length hinges → IsHingeOf shape (i + 1) (slice_index_or hinges i other)
+AreHinges shape hinges =
+    (i : ℕ) (other : Hinge) → i < length hinges
+    → IsHingeOf shape (i + 1) (slice_index_or hinges i other)
 
 -- the kept cores and hinges are those of the shape
 pub record Keeps (shape : ShapeData) (cores : List FlatRect) (hinges : List Hinge) : Type 0 where

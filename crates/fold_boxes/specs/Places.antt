@@ -14,4 +14,6 @@ pub record IsPlaceOf (shape : ShapeData) (mask : Mask) (f : ℕ) (place : Place)
 
 -- the places of the first faces, in order
 abbrev pub ArePlaces : ShapeData → Mask → List Place → Type 0
-ArePlaces shape mask places = (f : ℕ) (other : Place) → f < length places → IsPlaceOf shape mask f (slice_index_or places f other)
+ArePlaces shape mask places =
+    (f : ℕ) (other : Place) → f < length places
+    → IsPlaceOf shape mask f (slice_index_or places f other)

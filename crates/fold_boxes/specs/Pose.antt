@@ -70,22 +70,45 @@ taken shape mask group m v = mapped m (mapped (parent_place shape mask (lead_of 
 -- The map of a pose, by its effect on the placed frame of the lead's parent. Its turn takes the direction in which the bends
 -- fold upwards, and that out of their side to the back or to the front. It brings the group's lines to y = 0, the parent's
 -- mid-plane half the thickness below z = 0, and the lower end of the span to the span's start.
-pub record IsPoseMap (shape : ShapeData) (mask group : Mask) (back : Back) (x0 x1 : ℤ) (m : Map) : Type 0 where
+pub record IsPoseMap (shape : ShapeData) (mask group : Mask) (back : Back) (x0 x1 : ℤ) (m : Map)
+    : Type 0 where
   pub turn : IsTurn m.turn
-  pub upwards : apply m.turn (apply (parent_place shape mask (lead_of shape group)).turn (times (fold_sign (joint_of shape.part.faces (lead_of shape group)).dir) z_axis)) ≡ z_axis
-  pub backwards : apply m.turn (apply (parent_place shape mask (lead_of shape group)).turn (outward (joint_of shape.part.faces (lead_of shape group)).side)) ≡ times (back_sign back) y_axis
-  pub line_starts : (b : ℕ) → IsTrue (has group b) → (taken shape mask group m (line_start shape.part.faces shape.q b)).y ≡ pos 0
-  pub line_ends : (b : ℕ) → IsTrue (has group b) → (taken shape mask group m (line_end shape.part.faces shape.q b)).y ≡ pos 0
-  pub level : (v : V3) → v.z ≡ pos 0 → (taken shape mask group m v).z ≡ neg_ℤ (half_thickness shape.part)
-  pub left : int_min (taken shape mask group m (span_end shape group (span shape (has group)).0)).x (taken shape mask group m (span_end shape group (span shape (has group)).1)).x ≡ span_start shape group x0 x1
+  pub upwards :
+      apply m.turn
+      (apply (parent_place shape mask (lead_of shape group)).turn
+      (times (fold_sign (joint_of shape.part.faces (lead_of shape group)).dir) z_axis))
+      ≡ z_axis
+  pub backwards :
+      apply m.turn
+      (apply (parent_place shape mask (lead_of shape group)).turn
+      (outward (joint_of shape.part.faces (lead_of shape group)).side))
+      ≡ times (back_sign back) y_axis
+  pub line_starts :
+      (b : ℕ) → IsTrue (has group b)
+      → (taken shape mask group m (line_start shape.part.faces shape.q b)).y ≡ pos 0
+  pub line_ends :
+      (b : ℕ) → IsTrue (has group b)
+      → (taken shape mask group m (line_end shape.part.faces shape.q b)).y ≡ pos 0
+  pub level :
+      (v : V3) → v.z ≡ pos 0 → (taken shape mask group m v).z ≡ neg_ℤ (half_thickness shape.part)
+  pub left :
+      int_min (taken shape mask group m (span_end shape group (span shape (has group)).0)).x
+      (taken shape mask group m (span_end shape group (span shape (has group)).1)).x
+      ≡ span_start shape group x0 x1
 
 -- where a pose points a direction of the frame of a face that is bent at this side in this direction
 abbrev pub pointed : Side → Dir → Back → V3 → V3
-pointed side dir back v = vector ((back_sign back *ℤ fold_sign dir) *ℤ dot v (along side)) (back_sign back *ℤ dot v (outward side)) (fold_sign dir *ℤ v.z)
+pointed side dir back v =
+    vector ((back_sign back *ℤ fold_sign dir) *ℤ dot v (along side))
+    (back_sign back *ℤ dot v (outward side)) (fold_sign dir *ℤ v.z)
 
 -- the turn of that frame
 abbrev pub frame_turn : Side → Dir → Back → Matrix
-frame_turn side dir back = record { x = pointed side dir back identity.x; y = pointed side dir back identity.y; z = pointed side dir back identity.z }
+frame_turn side dir back = record {
+  x = pointed side dir back identity.x;
+  y = pointed side dir back identity.y;
+  z = pointed side dir back identity.z;
+}
 
 -- Where a pose has a point of the frame of the lead's parent: as far along the bed from the span's start as it lies along
 -- the side from that end of the span which comes to the left, as far to the back or the front as it lies beyond the lines,
@@ -98,28 +121,37 @@ posed shape group back x0 x1 p =
     let k = back_sign back *ℤ s in
     let lines = span shape (has group) in
     vector
-    (span_start shape group x0 x1 +ℤ (k *ℤ along_side shape b p -ℤ int_min (k *ℤ lines.0) (k *ℤ lines.1)))
+    (span_start shape group x0 x1
+    +ℤ (k *ℤ along_side shape b p -ℤ int_min (k *ℤ lines.0) (k *ℤ lines.1)))
     (back_sign back *ℤ dot (minus p (line_start shape.part.faces shape.q b)) (outward joint.side))
     (s *ℤ p.z -ℤ half_thickness shape.part)
 
 -- where a pose has the frame of the lead's parent
 abbrev pub posed_frame : ShapeData → Mask → Back → ℤ → ℤ → Map
-posed_frame shape group back x0 x1 = let joint = joint_of shape.part.faces (lead_of shape group) in record {
-  turn = frame_turn joint.side joint.dir back;
-  shift = posed shape group back x0 x1 origin;
-}
+posed_frame shape group back x0 x1 =
+    let joint = joint_of shape.part.faces (lead_of shape group) in record {
+      turn = frame_turn joint.side joint.dir back;
+      shift = posed shape group back x0 x1 origin;
+    }
 
 -- the map that takes a thing back from where a map took it
 abbrev pub inverse_of : Map → Map
-inverse_of m = record { turn = transpose m.turn; shift = times (negsuc 0) (apply (transpose m.turn) m.shift) }
+inverse_of m = record {
+  turn = transpose m.turn;
+  shift = times (negsuc 0) (apply (transpose m.turn) m.shift);
+}
 
 -- the map of a pose, from the coordinates of face 0 to those of the machine; IsPoseMap holds of it alone
 unfoldable pub pose_map : ShapeData → Mask → Mask → Back → ℤ → ℤ → Map
-pose_map shape mask group back x0 x1 = after (posed_frame shape group back x0 x1) (inverse_of (parent_place shape mask (lead_of shape group)))
+pose_map shape mask group back x0 x1 =
+    after (posed_frame shape group back x0 x1)
+    (inverse_of (parent_place shape mask (lead_of shape group)))
 
 -- the turn of face 0 in the poses of a bend, which is that of their maps
 unfoldable pub attitude_turn : ShapeData → Mask → ℕ → Back → Matrix
-attitude_turn shape mask b back = let joint = joint_of shape.part.faces b in multiply (frame_turn joint.side joint.dir back) (transpose (parent_place shape mask b).turn)
+attitude_turn shape mask b back =
+    let joint = joint_of shape.part.faces b in
+    multiply (frame_turn joint.side joint.dir back) (transpose (parent_place shape mask b).turn)
 
 abbrev pub same_number : ℤ → ℤ → Bool
 same_number a b = int_le a b && int_le b a
@@ -142,7 +174,8 @@ attitude_of shape mask b back = turn_number (attitude_turn shape mask b back)
 abbrev pub is_on_way : List FaceData → (ℕ → Bool) → ℕ → ℕ → Bool
 is_on_way faces set n zero = false
 is_on_way faces set zero (suc f) = false
-is_on_way faces set (suc n) (suc f) = set (suc f) || is_on_way faces set n (joint_of faces (suc f)).on
+is_on_way faces set (suc n) (suc f) =
+    set (suc f) || is_on_way faces set n (joint_of faces (suc f)).on
 
 -- face f lies beyond some bend of the set
 unfoldable pub is_beyond_some : List FaceData → (ℕ → Bool) → ℕ → Bool
@@ -163,7 +196,8 @@ half_of_parent Parent = Half.Back
 
 -- the half of a box, where these faces are on the child's side
 abbrev pub half_by : (ℕ → Bool) → Back → ℕ → Half
-half_by is_on_child_side back id = if is_on_child_side (face_of_box id) then half_of_child back else half_of_parent back
+half_by is_on_child_side back id =
+    if is_on_child_side (face_of_box id) then half_of_child back else half_of_parent back
 
 -- the half of a box in a pose: what lies beyond some bend of the group is on the child's side
 abbrev pub half_of : ShapeData → Mask → Back → ℕ → Half
@@ -171,22 +205,31 @@ half_of shape group = half_by (is_beyond_some shape.part.faces (has group))
 
 -- the box of this number in the coordinates of face 0: of a face, or of a folded bend's corner
 abbrev pub part_body : ShapeData → Mask → ℕ → Box3
-part_body shape mask id = if nat_le id 12 then (face_box shape mask id).body else (corner_box shape mask (id - 12)).body
+part_body shape mask id =
+    if nat_le id 12 then (face_box shape mask id).body else (corner_box shape mask (id - 12)).body
 
 -- the box of this number in a pose
 abbrev pub body_of : ShapeData → Mask → Mask → Back → ℤ → ℤ → ℕ → Box3
-body_of shape mask group back x0 x1 id = image (pose_map shape mask group back x0 x1) (part_body shape mask id)
+body_of shape mask group back x0 x1 id =
+    image (pose_map shape mask group back x0 x1) (part_body shape mask id)
 
 abbrev pub pose_box : ShapeData → Mask → Mask → Back → ℤ → ℤ → ℕ → PoseBox
-pose_box shape mask group back x0 x1 id = record { id = id; half = half_of shape group back id; body = body_of shape mask group back x0 x1 id }
+pose_box shape mask group back x0 x1 id = record {
+  id = id;
+  half = half_of shape group back id;
+  body = body_of shape mask group back x0 x1 id;
+}
 
 -- the numbers of the boxes: those of the faces, and 12 + b for each folded bend b
 abbrev pub box_ids : ShapeData → Mask → List ℕ
-box_ids shape mask = face_numbers shape.part.faces ++ map (λ b. 12 + b) (filter (has mask) (bend_numbers shape.part.faces))
+box_ids shape mask =
+    face_numbers shape.part.faces
+    ++ map (λ b. 12 + b) (filter (has mask) (bend_numbers shape.part.faces))
 
 -- where face f lies in a pose
 abbrev pub posed_place : ShapeData → Mask → Mask → Back → ℤ → ℤ → ℕ → Map
-posed_place shape mask group back x0 x1 f = after (pose_map shape mask group back x0 x1) (place_of shape mask f)
+posed_place shape mask group back x0 x1 f =
+    after (pose_map shape mask group back x0 x1) (place_of shape mask f)
 
 -- a pose as its numbers and lists
 pub record PoseData : Type 0 where
@@ -198,7 +241,14 @@ pub record PoseData : Type 0 where
   pub x1 : ℤ
 
 abbrev pub pose_data : Pose → PoseData
-pose_data pose = record { bend = pose.bend; group = pose.group; boxes = pose.boxes.items; places = map map_of pose.places.items; x0 = pose.x0; x1 = pose.x1 }
+pose_data pose = record {
+  bend = pose.bend;
+  group = pose.group;
+  boxes = pose.boxes.items;
+  places = map map_of pose.places.items;
+  x0 = pose.x0;
+  x1 = pose.x1;
+}
 
 -- the pose of a group where the bends of the mask are folded: the part's boxes and places under the one map
 abbrev pub pose_of : ShapeData → Mask → Mask → Back → ℤ → ℤ → PoseData

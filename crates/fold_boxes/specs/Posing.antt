@@ -11,7 +11,11 @@ use Rattle.fold_boxes.specs.Pose.{half_by}
 
 -- a box of the part under the map of a pose
 abbrev pub moved_box : Map → (ℕ → Bool) → Back → PartBox → PoseBox
-moved_box m is_on_child_side back part_box = record { id = part_box.id; half = half_by is_on_child_side back part_box.id; body = image m part_box.body }
+moved_box m is_on_child_side back part_box = record {
+  id = part_box.id;
+  half = half_by is_on_child_side back part_box.id;
+  body = image m part_box.body;
+}
 
 -- the shift of the map of a pose
 pub record IsNearShift (v : V3) : Type 0 where

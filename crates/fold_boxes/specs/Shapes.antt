@@ -24,7 +24,8 @@ core_length shape f = (core shape.part.faces shape.q f).y1 -ℤ (core shape.part
 -- how far the line of bend b runs along its parent's side
 abbrev pub line_length : ShapeData → ℕ → ℤ
 line_length shape b =
-    dot (minus (line_end shape.part.faces shape.q b) (line_start shape.part.faces shape.q b)) (along (joint_of shape.part.faces b).side)
+    dot (minus (line_end shape.part.faces shape.q b) (line_start shape.part.faces shape.q b))
+    (along (joint_of shape.part.faces b).side)
 
 -- a part that meets its rules, and unfolds with this half deduction
 pub record IsShape (shape : ShapeData) : Type 0 where

@@ -13,7 +13,11 @@ enclosing_range (Some first) second = (int_min first.0 second.0, int_max first.1
 -- the range that the lines of these bends cover, where there are any
 abbrev pub range_of_lines : ShapeData → List ℕ → Option (ℤ × ℤ)
 range_of_lines shape [] = None
-range_of_lines shape (b ∷ bs) = Some (fold int_min (line_from shape b) (map (line_from shape) bs), fold int_max (line_to shape b) (map (line_to shape) bs))
+range_of_lines shape (b ∷ bs) =
+    Some (
+      fold int_min (line_from shape b) (map (line_from shape) bs),
+      fold int_max (line_to shape b) (map (line_to shape) bs),
+    )
 
 -- a range in order, both of whose ends lie within 100,000,000 micrometres of 0
 pub record IsNearRange (range : ℤ × ℤ) : Type 0 where

@@ -1,5 +1,5 @@
 //! The two halves into which a stroke divides the part.
-ghost use Rattle.std.specs.Prelude.{◌≡◌, ◌≤◌, ◌<◌, ◌||◌, ℕ, length};
+ghost use Rattle.std.specs.Prelude.{false, ◌≡◌, ◌≤◌, ◌<◌, ◌||◌, ℕ, length};
 ghost use Rattle.brake_base.specs.Masks.{has};
 ghost use Rattle.unfolder.specs.Cores.{joint_of};
 ghost use Rattle.fold_boxes.specs.Pose.{is_beyond_some, face_of_box, half_by, half_of_child, half_of_parent};
@@ -8,9 +8,11 @@ use crate::shape::Shape;
 use brake_base::{Back, Half, Mask};
 
 /// The bends whose children lie beyond some bend of the group: a child has the number of its bend.
+/// No bend past the part's last is in the set.
 pub fn faces_beyond(shape: &Shape, group: Mask) -> Mask
-    ensures { (f : ℕ) → f < length shape.now.part.faces
+    ensures faces { (f : ℕ) → f < length shape.now.part.faces
         → has result f ≡ is_beyond_some shape.now.part.faces (has group) f }
+    ensures past { (f : ℕ) → length shape.now.part.faces ≤ f → has result f ≡ false }
 {
     let mut beyond = Mask::empty();
     for bend in 1..shape.faces() {

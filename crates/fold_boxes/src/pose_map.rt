@@ -1,5 +1,7 @@
 //! How the part is turned and moved onto the machine for a stroke.
-ghost use Rattle.std.specs.Prelude.{◌≡◌, ◌<◌, ◌-ℤ◌, ◌*ℤ◌, neg_ℤ, pos, negsuc, length, if◌then◌else◌};
+ghost use Rattle.std.specs.Prelude.{◌≡◌, ◌<◌, ℤ, IsTrue, ◌-ℤ◌, ◌*ℤ◌, neg_ℤ, pos, negsuc, length, if◌then◌else◌};
+ghost use Rattle.brake_base.specs.declared.mask.Mask.{Mask};
+ghost use Rattle.brake_base.specs.Masks.{has};
 ghost use Rattle.brake_base.specs.Vectors.{IsWithin};
 ghost use Rattle.brake_base.specs.Turns.{map_of, turn_of, multiply, transpose, identity, after};
 ghost use Rattle.part_file.specs.declared.part.Side.{Side};
@@ -7,7 +9,7 @@ ghost use Rattle.unfolder.specs.Near.{IsWithin as IsNear};
 ghost use Rattle.unfolder.specs.Blank.{flat_step};
 ghost use Rattle.unfolder.specs.Design.{fold_sign};
 ghost use Rattle.fold_boxes.specs.Spans.{IsNearRange};
-ghost use Rattle.fold_boxes.specs.Pose.{lead_of, back_sign, start_of_span, frame_turn, posed, posed_frame, inverse_of, attitude_turn, attitude_of};
+ghost use Rattle.fold_boxes.specs.Pose.{lead_of, IsGroup, posed_place, back_sign, start_of_span, frame_turn, posed, posed_frame, inverse_of, attitude_turn, attitude_of};
 ghost use Rattle.fold_boxes.specs.Posing.{IsNearShift};
 
 use crate::groups::span;
@@ -25,6 +27,9 @@ pub fn attitude(shape: &Shape, mask: Mask, bend: u8, back: Back) -> Turn
     requires bend { bend < length shape.now.part.faces }
     ensures turn { turn_of result ≡ attitude_turn shape.now mask bend back }
     ensures value { result ≡ attitude_of shape.now mask bend back }
+    ensures held { (group : Mask) (x0 x1 : ℤ) → IsGroup shape.now mask group
+        → IsTrue (has group bend)
+        → (posed_place shape.now mask group back x0 x1 0).turn ≡ turn_of result }
 {
     let places = place_faces(shape, mask);
     let parent = &places.as_slice()[usize::from(shape.hinge(bend).parent)];

@@ -2,7 +2,7 @@
 ghost use Rattle.std.specs.Prelude.{◌≡◌, ℕ, ◌^◌, ◌<◌, ◌≤◌, ◌<ℤ◌, map, length, All, IsTrue};
 ghost use Rattle.brake_base.specs.Masks.{has};
 ghost use Rattle.brake_base.specs.Vectors.{IsWithin};
-ghost use Rattle.brake_base.specs.Turns.{map_of, after};
+ghost use Rattle.brake_base.specs.Turns.{Map, map_of, after};
 ghost use Rattle.unfolder.specs.Near.{IsWithin as IsNear};
 ghost use Rattle.fold_boxes.specs.Places.{ArePlaces};
 ghost use Rattle.fold_boxes.specs.Folded.{IsNearBox, IsBoxId};
@@ -28,6 +28,10 @@ pub fn pose(shape: &Shape, mask: Mask, group: Mask, back: Back, x0: i64, x1: i64
     ensures value { pose_data result ≡ pose_of shape.now mask group back x0 x1 }
     ensures effect { IsPoseMap shape.now mask group back x0 x1
         (pose_map shape.now mask group back x0 x1) }
+
+    // No other map has that effect.
+    ensures sole { (m : Map) → IsPoseMap shape.now mask group back x0 x1 m
+        → m ≡ pose_map shape.now mask group back x0 x1 }
 
     // x lies within 2^31 micrometres of 0, y and z within 600,000,000.
     ensures near { All IsNearPoseBox result.boxes.items }
@@ -62,6 +66,8 @@ pub fn pose_from(
     ensures value { pose_data result ≡ pose_of shape.now mask group back x0 x1 }
     ensures effect { IsPoseMap shape.now mask group back x0 x1
         (pose_map shape.now mask group back x0 x1) }
+    ensures sole { (m : Map) → IsPoseMap shape.now mask group back x0 x1 m
+        → m ≡ pose_map shape.now mask group back x0 x1 }
     ensures near { All IsNearPoseBox result.boxes.items }
 {
     let lead = lead_of(shape, group);

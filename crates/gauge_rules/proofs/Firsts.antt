@@ -1,25 +1,12 @@
 -- The first legal pair, from those with one left face.
-use Rattle.std.proofs.Common.{◌≡◌, ◌∙◌, inl, inr, subst, ℕ, ◌<◌, ◌≤◌, ◌+◌, List, length, Some, None, arith}
-use Rattle.std.specs.Prelude.{Any}
+use Rattle.std.proofs.Common.{◌≡◌, ◌↔◌, ◌∙◌, refl, inl, inr, subst, ℕ, ◌<◌, ◌≤◌, ◌+◌, Option, Some, None, arith}
+use Rattle.std.specs.Prelude.{IsNone}
 use Rattle.std.proofs.Math.Nat.{eq-or-lt_of_le}
 use Rattle.brake_base.specs.declared.stroke.Gauge.{Gauge}
-use Rattle.fold_boxes.specs.declared.posed_part.PoseBox.{PoseBox}
 use Rattle.fold_boxes.specs.Pose.{PoseData}
 use Rattle.job_setup.specs.Setup.{JobData}
-use Rattle.job_setup.specs.LegalGauge.{IsFlatFace, IsPair, IsLegalPair}
+use Rattle.job_setup.specs.LegalGauge.{IsLegalPair, LacksGauge}
 use Rattle.gauge_rules.specs.Pairs.{HasFlatFace, IsFirstLegal, IsFirstWith}
-
-from_some : (A B : PoseBox → Type 0) (xs : List PoseBox) (R : Type 0) → ((x : PoseBox) → A x → B x → R) → Any (λ x. A x × B x) xs → R
-from_some A B xs R f h = f h.1 h.4.0 h.4.1
-
--- the faces of a legal pair are faces of the part
-pub legal_within : (job : JobData) (pose : PoseData) (gauge : Gauge) → IsLegalPair job pose gauge → (gauge.left_face < length pose.places) × (gauge.right_face < length pose.places)
-legal_within job pose gauge legal =
-    let A = IsFlatFace job.part.thickness pose gauge.left_face in
-    let B = IsFlatFace job.part.thickness pose gauge.right_face in
-    let P = IsPair job.setup.gauge job.part.thickness pose in
-    let R = (gauge.left_face < length pose.places) × (gauge.right_face < length pose.places) in
-    from_some A (λ left. Any (λ right. B right × P left right) pose.boxes) pose.boxes R (λ left flat rest. from_some B (P left) pose.boxes R (λ right flat_right pair. (flat.within, flat_right.within)) rest) legal
 
 -- the left face of a legal pair lies in the sheet's plane
 pub legal_flat : (job : JobData) (pose : PoseData) (gauge : Gauge) → IsLegalPair job pose gauge → HasFlatFace job pose gauge.left_face
@@ -47,3 +34,8 @@ first_of job pose k gauge before first = (
     | inr rest ↦ elim rest.1 [ inl lt ↦ first.2 other (rest.0 ∙ first.0) lt legal | inr never ↦ absurd never.1 ]
   ],
 )
+
+-- there is no first legal pair exactly where none is legal
+pub none_lacks : (job : JobData) (pose : PoseData) (found : Option Gauge) → IsFirstLegal job pose found → IsNone found ↔ LacksGauge job pose
+none_lacks job pose None first = (λ none. first, λ lacks. refl)
+none_lacks job pose (Some gauge) first = (λ none. absurd cc, λ lacks. absurd (lacks gauge first.0))

@@ -4,8 +4,7 @@ ghost use Rattle.brake_base.specs.Boxes.{ShareInterior};
 ghost use Rattle.machine_file.specs.Machine.{IsGaugeRule};
 ghost use Rattle.fold_boxes.specs.Pose.{pose_data};
 ghost use Rattle.fold_boxes.specs.Posing.{IsNearPoseBox};
-ghost use Rattle.job_setup.specs.LegalGauge.{far_edge, left_finger, right_finger, finger_box, IsFingerFree, IsPair};
-ghost use Rattle.gauge_rules.specs.Pairs.{HasEdge, HasRoom, AreInReach, AreFree};
+ghost use Rattle.job_setup.specs.LegalGauge.{far_edge, left_finger, right_finger, finger_box, IsFingerFree, HasEdge, HasRoom, AreInReach, AreFree, IsPair};
 
 use brake_base::{Box3, V3, overlap};
 use fold_boxes::{Pose, PoseBox};
@@ -94,7 +93,9 @@ fn are_apart(rule: &GaugeRule, left: &PoseBox, right: &PoseBox) -> bool
 fn are_free(job: &Job, pose: &Pose, left: &PoseBox, right: &PoseBox) -> bool
     requires left { IsNearPoseBox left.now }
     requires right { IsNearPoseBox right.now }
-    ensures { IsTrue result ↔ AreFree job.now (pose_data pose.now) left.now right.now }
+    ensures { IsTrue result
+        ↔ AreFree job.now.setup.gauge job.now.part.thickness
+        (pose_data pose.now) left.now right.now }
 {
     is_left_free(job, pose, left) && is_right_free(job, pose, left, right)
 }

@@ -2,8 +2,7 @@
 ghost use Rattle.std.specs.Prelude.{◌≡◌, ◌↔◌, pos, neg_ℤ, IsTrue};
 ghost use Rattle.brake_base.specs.Turns.{turn_of};
 ghost use Rattle.fold_boxes.specs.Pose.{pose_data};
-ghost use Rattle.job_setup.specs.LegalGauge.{IsLevel, IsFlatFace};
-ghost use Rattle.gauge_rules.specs.Pairs.{IsLevelFace, FillsTheSheet};
+ghost use Rattle.job_setup.specs.LegalGauge.{IsLevel, IsLevelFace, FillsTheSheet, IsFlatFace};
 
 use brake_base::{Half, Turn};
 use fold_boxes::{Pose, PoseBox};

@@ -1,9 +1,9 @@
 //! The legal pairs of faces.
-ghost use Rattle.std.specs.Prelude.{◌≡◌, ◌↔◌, IsTrue, All, length};
+ghost use Rattle.std.specs.Prelude.{◌≡◌, ◌↔◌, IsTrue, IsNone, All, length};
 ghost use Rattle.fold_boxes.specs.Pose.{pose_data};
 ghost use Rattle.fold_boxes.specs.Posing.{IsNearPoseBox};
-ghost use Rattle.job_setup.specs.LegalGauge.{IsLegalPair};
-ghost use Rattle.gauge_rules.specs.Pairs.{HasFlatFace, IsLeft, IsFirstLegal, IsFirstWith};
+ghost use Rattle.job_setup.specs.LegalGauge.{IsLeftOfPair, IsLegalPair, LacksGauge};
+ghost use Rattle.gauge_rules.specs.Pairs.{HasFlatFace, IsFirstLegal, IsFirstWith};
 
 use crate::fingers::is_pair;
 use crate::flat_faces::is_flat_face;
@@ -27,7 +27,7 @@ pub fn legal(job: &Job, pose: &Pose, gauge: Gauge) -> bool
 fn is_left_of_pair(job: &Job, pose: &Pose, gauge: Gauge, left: &PoseBox) -> bool
     requires near { All IsNearPoseBox pose.now.boxes.items }
     requires left { IsNearPoseBox left.now }
-    ensures { IsTrue result ↔ IsLeft job.now (pose_data pose.now) gauge left.now }
+    ensures { IsTrue result ↔ IsLeftOfPair job.now (pose_data pose.now) gauge left.now }
 {
     is_flat_face(job, pose, gauge.left_face, left)
         && pose.boxes.iter().any(|right| {
@@ -36,10 +36,11 @@ fn is_left_of_pair(job: &Job, pose: &Pose, gauge: Gauge, left: &PoseBox) -> bool
 }
 
 /// The first legal pair in the order of its left face, then of its right one. None exactly where no
-/// pair is legal.
+/// pair is legal, which is the reason NoGauge.
 pub fn first_legal(job: &Job, pose: &Pose) -> Option<Gauge>
     requires near { All IsNearPoseBox pose.now.boxes.items }
-    ensures { IsFirstLegal job.now (pose_data pose.now) result }
+    ensures first { IsFirstLegal job.now (pose_data pose.now) result }
+    ensures none { IsNone result ↔ LacksGauge job.now (pose_data pose.now) }
 {
     for left_face in 0..face_count(pose) {
         if let Some(gauge) = first_with(job, pose, left_face) {

@@ -161,9 +161,6 @@ pub full_has_no_lead : (job : JobData) (key : Key) → IsFull job key → (c : �
 unfolding IsFull
 full_has_no_lead job key full c first last = false_from_ne_true (is_lead job key.mask c) (λ lead. let flat = (lead_is job key.mask c lead).flat in let folded = full c first last in cc)
 
-pub full_has_no_action : (job : JobData) (key : Key) (action : Action) → IsFull job key → IsActionAt job key action → ⊥
-full_has_no_action job key action full at = let none = full_has_no_lead job key full action.bend at.first at.last in let some = at.lead in cc
-
 pub no_leads : (job : JobData) (key : Key) → IsFull job key → filter (is_lead job key.mask) (range_with_len 1 (bend_count job)) ≡ []
 no_leads job key full = none_pass (is_lead job key.mask) 1 (bend_count job) (λ c first last. full_has_no_lead job key full c first (omega arith))
 

@@ -4,7 +4,7 @@ use Rattle.brake_base.specs.declared.stroke.Key.{Key}
 use Rattle.brake_base.specs.declared.stroke.Action.{Action}
 use Rattle.brake_base.specs.declared.stroke.Step.{Step}
 use Rattle.brake_base.specs.declared.stroke.Worth.{Worth}
-use Rattle.brake_base.specs.declared.stroke.Worth.TheVariants.{Cost}
+use Rattle.brake_base.specs.declared.stroke.Worth.TheVariants.{Cost, Blocked}
 use Rattle.brake_base.specs.declared.reason.Reason.{Reason}
 use Rattle.brake_base.specs.Worths.{IsAtMost, plus}
 use Rattle.brake_base.proofs.Worths.{at_most_through, plus_kept}
@@ -12,7 +12,8 @@ use Rattle.job_setup.specs.Setup.{JobData}
 use Rattle.job_setup.specs.ValidJob.{IsJob}
 use Rattle.handling_cost.specs.StepCost.{IsFull, key_after, cost_of}
 use Rattle.handling_cost.specs.Plan.{IsRest, IsPlan, total, start}
-use Rattle.handling_cost.specs.Good.{Proves, MeetsCondition, IsGood}
+use Rattle.handling_cost.specs.Good.{Proves, MeetsCondition, AreClaimed, IsGood}
+use Rattle.handling_cost.specs.Claim.{IsTrueClaim}
 use Rattle.handling_cost.proofs.Admissible.{bound_is_admissible}
 use Rattle.handling_cost.proofs.Legal.{reason_is_not_legal}
 
@@ -34,3 +35,13 @@ module _ (job : JobData) (is_job : IsJob job) (HasRow : Key → Worth → Type 0
   good_is_least claim steps good other plan =
       let proved = good.proved in
       at_most_through claim proved.0 (Cost (total job start other)) proved.2 (good_implies_least good.rows other start proved.0 proved.1 plan)
+
+-- what is claimed and at most the cost of each plan is a true claim
+pub claim_is_true : (job : JobData) (claim : Worth) (steps : List Step) → AreClaimed job claim steps → ((other : List Step) → IsPlan job other → IsAtMost claim (Cost (total job start other))) → IsTrueClaim job claim
+claim_is_true job (Cost cost) steps claimed least = (steps, record { plan = claimed.0; sum = claimed.1; least = least })
+claim_is_true job Blocked steps claimed least = least
+
+-- the claim of a good certificate is true
+pub good_is_true : (job : JobData) → IsJob job → (HasRow : Key → Worth → Type 0) (HasNote : Key → Action → Reason → Type 0) → ((key : Key) (worth : Worth) → HasRow key worth → IsFull job key → ⊥) →
+    (claim : Worth) (steps : List Step) → IsGood job claim steps HasRow HasNote → IsTrueClaim job claim
+good_is_true job is_job HasRow HasNote no_full claim steps good = claim_is_true job claim steps good.claimed (good_is_least job is_job HasRow HasNote no_full claim steps good)

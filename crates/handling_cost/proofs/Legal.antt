@@ -1,11 +1,14 @@
 -- What a legal step says of its stage, and that a reason makes a step illegal.
-use Rattle.std.proofs.Common.{◌≡◌, ℕ, ◌≤◌, Bool, true, false, refl, sym, ◌∙◌, ap}
+use Rattle.std.proofs.Common.{◌≡◌, ℕ, ◌<◌, ◌≤◌, Bool, true, false, length, inl, inr, refl, sym, ◌∙◌, ap, arith}
+use Rattle.std.proofs.lemmas.List.FromFn.{length-map-range_with_len}
 use Rattle.std.proofs.lemmas.Bool.{false_from_ne_true}
 use Rattle.brake_base.specs.declared.stroke.Back.{Back}
 use Rattle.brake_base.specs.declared.stroke.Back.TheVariants.{Parent, Child}
 use Rattle.brake_base.specs.declared.stroke.Half.{Half}
 use Rattle.brake_base.specs.declared.stroke.Half.TheVariants.{Back as BackHalf, Front as FrontHalf}
 use Rattle.brake_base.specs.declared.stroke.Key.{Key}
+use Rattle.brake_base.specs.declared.stroke.Action.{Action}
+use Rattle.brake_base.specs.declared.stroke.Gauge.{Gauge}
 use Rattle.brake_base.specs.declared.stroke.Step.{Step}
 use Rattle.brake_base.specs.declared.mask.Mask.{Mask}
 use Rattle.brake_base.specs.declared.reason.Reason.{Reason}
@@ -15,7 +18,10 @@ use Rattle.job_setup.specs.Setup.{StageData, JobData, bend_count}
 use Rattle.job_setup.specs.StrokeGroup.{in_group, group_of}
 use Rattle.job_setup.specs.StageOf.{stage_of}
 use Rattle.job_setup.specs.Reasons.{is_uncovered, lacks_rest, meets, side_in}
-use Rattle.handling_cost.specs.Plan.{IsReasonFor, IsGaugeFor, IsLegal}
+use Rattle.job_setup.proofs.LegalFaces.{legal_within}
+use Rattle.job_setup.proofs.ToldGauges.{gauge_told}
+use Rattle.handling_cost.specs.StepCost.{IsActionAt}
+use Rattle.handling_cost.specs.Plan.{pose_before, IsReasonFor, IsGaugeFor, IsLegal}
 use Rattle.handling_cost.proofs.Actions.{group_bends}
 
 module _ (job : JobData) (group : ℕ → Bool) (stage : StageData) where
@@ -62,3 +68,20 @@ reason_is_not_legal job key step (Lower box quarter index) holds legal = legal.f
 reason_is_not_legal job key step (SelfHit box quarter other) holds legal = legal.free (SelfHit box quarter other) (λ same. cc) holds
 reason_is_not_legal job key step Load holds legal = legal.free Load (λ same. cc) holds
 reason_is_not_legal job key step NoGauge holds legal = no_gauge job key.mask step holds legal.gauge
+
+-- the faces of a gauge that is legal before a stroke are faces of the part
+pub gauge_within : (job : JobData) (mask : Mask) (action : Action) (gauge : Gauge) → IsGaugeFor job mask action gauge → (gauge.left_face < length job.part.faces) × (gauge.right_face < length job.part.faces)
+unfolding IsGaugeFor
+gauge_within job mask action gauge legal =
+    let pose = pose_before job mask action in
+    let there = legal_within job pose gauge legal in
+    let count : length pose.places ≡ length job.part.faces = length-map-range_with_len _ 0 (length job.part.faces) in
+    (omega (arith, there.0, count), omega (arith, there.1, count))
+
+-- where no reason holds against an action, NoGauge included, some step of it is legal
+pub legal_of_none : (job : JobData) (key : Key) (action : Action) → IsActionAt job key action → ((reason : Reason) → IsReasonFor job key.mask action reason → ⊥) → (gauge : Gauge) × IsLegal job key (record { action = action; gauge = gauge })
+unfolding IsReasonFor IsGaugeFor
+legal_of_none job key action at none = elim (gauge_told job (pose_before job key.mask action)) [
+  | inl some ↦ (some.0, record { action = at; free = λ reason other. none reason; gauge = some.1 })
+  | inr lacks ↦ absurd (none NoGauge lacks)
+]

@@ -3,15 +3,16 @@ pub mod Ways
 pub mod Mates
 pub mod Actions
 pub mod ActionGroups
-pub mod StageRanges
 pub mod Legal
 pub mod Admissible
 pub mod Least
 pub mod Tables
+pub mod Proved
 pub mod Pigeonhole
 pub mod Keys
 pub mod Small
 pub mod Nodes
 pub mod Changes
 pub mod LeadTests
+pub mod PosedFaces
 pub mod PlanSteps

@@ -95,8 +95,3 @@ reach_within_nodes job is_job above = elim (eqb_tells (bend_count job) 0) [
   | inl none ↦ let bare = rw none.0 at above in none_without_bends job none.1 bare
   | inr some ↦ let all = rw some.0 at above in reach_within job is_job all
 ]
-
--- a pool with room for the budget or for all nodes, whichever is less, is used up only where reach is above the budget
-pub above_budget : (job : JobData) → IsJob job → (budget limit : ℕ) → (limit ≡ budget) ⊎ (limit ≡ nodes job) → ReachIsAbove job limit → ReachIsAbove job budget
-above_budget job is_job budget limit (inl same) above = subst (λ (n : ℕ). ReachIsAbove job n) same above
-above_budget job is_job budget limit (inr all) above = absurd (reach_within_nodes job is_job (subst (λ (n : ℕ). ReachIsAbove job n) all above))

@@ -18,7 +18,9 @@ leads_left job mask = members (shape_of job) (is_lead job mask)
 
 -- the stages that meet the group of a bend
 abbrev pub meeting_stages : JobData → Mask → ℕ → List ℕ
-meeting_stages job mask b = filter (λ stage. meets job (in_group job (has mask) b) (stage_of job stage)) (range_with_len 0 (stage_count job))
+meeting_stages job mask b =
+    filter (λ stage. meets job (in_group job (has mask) b) (stage_of job stage))
+    (range_with_len 0 (stage_count job))
 
 -- how far the nearest of some stages is from a stage; 0 where there is none
 abbrev pub nearest : ℕ → List ℕ → ℕ
@@ -33,15 +35,18 @@ greatest (n ∷ ns) = max n (greatest ns)
 
 -- the greatest, over the leads left, of the distance from a stage to the nearest that meets the lead's group
 unfoldable pub farthest : JobData → Mask → ℕ → ℕ
-farthest job mask from = greatest (map (λ b. nearest from (meeting_stages job mask b)) (leads_left job mask))
+farthest job mask from =
+    greatest (map (λ b. nearest from (meeting_stages job mask b)) (leads_left job mask))
 
 -- so many strokes, and a way over so many stages; no way is paid where no bend is folded
 abbrev pub bound_with : JobData → Mask → ℕ → ℕ → ℕ
-bound_with job mask leads way = job.setup.cost.stroke * leads + (if mask.0 == 0 then 0 else job.setup.cost.stage * way)
+bound_with job mask leads way =
+    job.setup.cost.stroke * leads + (if mask.0 == 0 then 0 else job.setup.cost.stage * way)
 
 -- a stroke for each lead left, and the way to the stage that is farthest; 0 where every bend is folded, since no lead is left
 unfoldable pub bound_of : JobData → Key → ℕ
-bound_of job key = bound_with job key.mask (length (leads_left job key.mask)) (farthest job key.mask key.stage)
+bound_of job key =
+    bound_with job key.mask (length (leads_left job key.mask)) (farthest job key.mask key.stage)
 
 -- the sum of an action: its step cost plus the bound of its next key
 abbrev pub sum_of : JobData → Key → Action → ℕ

@@ -1,7 +1,9 @@
 pub mod StepCost
 pub mod Plan
 pub mod Bound
+pub mod Claim
 pub mod Good
+pub mod Proved
 pub mod Reach
 pub mod Thrifty
 pub mod Nearest

@@ -10,7 +10,8 @@ use Rattle.handling_cost.specs.Plan.{IsLegal, start}
 abbrev pub Leads : JobData → List Step → Key → Type 0
 Leads job [] key = key ≡ start
 Leads job (step ∷ earlier) key =
-    (before : Key) × Leads job earlier before × IsLegal job before step × (key ≡ key_after job before step.action)
+    (before : Key) × Leads job earlier before × IsLegal job before step
+    × (key ≡ key_after job before step.action)
 
 abbrev pub IsReached : JobData → Key → Type 0
 IsReached job key = (steps : List Step) × Leads job steps key
@@ -22,7 +23,8 @@ pub record IsNode (job : JobData) (key : Key) : Type 0 where
 
 -- reach is above a number: that many different keys and more are reached and not full
 abbrev pub ReachIsAbove : JobData → ℕ → Type 0
-ReachIsAbove job count = (keys : List Key) × (count < length keys) × AllPairs (λ a b. a ≢ b) keys × All (IsNode job) keys
+ReachIsAbove job count =
+    (keys : List Key) × (count < length keys) × AllPairs (λ a b. a ≢ b) keys × All (IsNode job) keys
 
 -- the start, and for each other mask that isn't full one key for each attitude and stage; none where there is no bend
 abbrev pub nodes : JobData → ℕ

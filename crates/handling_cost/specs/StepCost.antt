@@ -4,6 +4,7 @@ use Rattle.std.specs.Ordering.{int_eq}
 use Rattle.brake_base.specs.declared.mask.Mask.{Mask}
 use Rattle.brake_base.specs.declared.stroke.Key.{Key}
 use Rattle.brake_base.specs.declared.stroke.Action.{Action}
+use Rattle.brake_base.specs.Actions.{IsActionAmong}
 use Rattle.brake_base.specs.Masks.{has, union}
 use Rattle.brake_base.specs.Turns.{Matrix, turn_of, multiply, transpose}
 use Rattle.machine_file.specs.declared.machine.Costs.{Costs}
@@ -20,11 +21,9 @@ pub record IsKeyOf (job : JobData) (key : Key) : Type 0 where
   pub attitude : key.attitude < 24
   pub stage : key.stage < stage_count job
 
--- the bend and the stage of an action are the job's
-pub record IsInRange (job : JobData) (action : Action) : Type 0 where
-  pub first : 1 ≤ action.bend
-  pub last : action.bend ≤ bend_count job
-  pub stage : action.stage < stage_count job
+-- an action of the job: its bend and its stage are the job's
+abbrev pub IsActionOf : JobData → Action → Type 0
+IsActionOf job action = IsActionAmong (bend_count job) (stage_count job) action
 
 -- an action on such a bend, at any stage
 pub record IsActionAt (job : JobData) (key : Key) (action : Action) : Type 0 where
@@ -61,7 +60,8 @@ change from to = multiply (turn_of to) (transpose (turn_of from))
 -- turn, as the x axis stays, points back or points aside; where it comes to point down the part is flipped; else it is rolled.
 abbrev pub kind_of_change : Matrix → Change
 kind_of_change m =
-    if int_eq m.z.z (pos 1) then (if int_eq m.x.x (pos 1) then Same else if int_eq m.x.x (negsuc 0) then Half else Quarter)
+    if int_eq m.z.z (pos 1)
+    then (if int_eq m.x.x (pos 1) then Same else if int_eq m.x.x (negsuc 0) then Half else Quarter)
     else if int_eq m.z.z (negsuc 0) then Flip
     else Roll
 
@@ -87,7 +87,9 @@ stage_cost job mask from to = if mask.0 == 0 then 0 else job.setup.cost.stage * 
 
 -- what a stroke in an attitude, at a stage, costs from a key
 unfoldable pub cost_to : JobData → Key → ℕ → ℕ → ℕ
-cost_to job key attitude stage = job.setup.cost.stroke + change_cost job.setup.cost (change key.attitude attitude) + stage_cost job key.mask key.stage stage
+cost_to job key attitude stage =
+    job.setup.cost.stroke + change_cost job.setup.cost (change key.attitude attitude)
+    + stage_cost job key.mask key.stage stage
 
 -- what an action costs from a key
 abbrev pub cost_of : JobData → Key → Action → ℕ

@@ -2,7 +2,7 @@
 ghost use Rattle.std.specs.Prelude.{◌≡◌, ◌↔◌, ◌<◌, ◌≤◌, IsTrue, length};
 ghost use Rattle.brake_base.specs.Masks.{IsLeast};
 ghost use Rattle.job_setup.specs.StrokeGroup.{is_lead};
-ghost use Rattle.handling_cost.specs.StepCost.{IsKeyOf, IsFull, IsInRange, IsActionAt};
+ghost use Rattle.handling_cost.specs.StepCost.{IsActionOf, IsActionAt, IsKeyOf, IsFull};
 
 use brake_base::{Action, Key, Mask};
 use job_setup::{Job, group};
@@ -28,7 +28,7 @@ pub fn is_action_at(job: &Job, key: &Key, action: Action) -> bool
 
 /// Whether the bend and the stage of an action are the job's.
 fn is_in_range(job: &Job, action: Action) -> bool
-    ensures value { IsTrue result ↔ IsInRange job.now action }
+    ensures value { IsTrue result ↔ IsActionOf job.now action }
     ensures few { IsTrue result → action.bend ≤ 12 }
 {
     0 < action.bend && action.bend <= job.bends() && action.stage < job.stages()

@@ -3,7 +3,10 @@ pub mod Validity
 pub mod Steps
 pub mod Near
 pub mod StageAt
+pub mod StageRanges
 pub mod GroupMasks
+pub mod LegalFaces
+pub mod ToldGauges
 pub mod ShortStock
 pub mod BoxByBox
 pub mod Solid

@@ -13,7 +13,7 @@ use Rattle.part_file.specs.Part.{PartData, IsPart, half_thickness}
 use Rattle.unfolder.specs.declared.blank.Blank.{Blank}
 use Rattle.unfolder.specs.declared.blank.UnfoldFault.{UnfoldFault}
 use Rattle.unfolder.specs.Blank.{BlankData, blank_data, blank_of_part}
-use Rattle.tool_library.specs.declared.bounds.TheConstants.{GREATEST_LIMIT}
+use Rattle.tool_library.specs.Bounds.{greatest_limit}
 use Rattle.tool_library.specs.Tools.{PunchData, DieData, LoadData, ToolsData, IsPunch, IsDie, IsLoad, IsLimit, IsTools}
 use Rattle.machine_file.specs.Machine.{StageTextData, MachineData, IsStageText, IsMachine}
 use Rattle.job_setup.specs.declared.fault.JobFault.TheVariants.{UnknownTool}
@@ -49,7 +49,7 @@ load_is part loads v all = by_found (find (is_load_for part v) loads) refl
         let fit : IsLoad row = found_has IsLoad (is_load_for part v) loads row all is in
         record { bottom = omega (arith, ints, fit.load.bottom); top = fit.load.top }
 
-limit_is : (a b : ℤ) → pos 0 ≤ℤ a → a ≤ℤ GREATEST_LIMIT → pos 0 ≤ℤ b → b ≤ℤ GREATEST_LIMIT → IsLimit (least_limit a b)
+limit_is : (a b : ℤ) → pos 0 ≤ℤ a → a ≤ℤ greatest_limit → pos 0 ≤ℤ b → b ≤ℤ greatest_limit → IsLimit (least_limit a b)
 limit_is a b a_low a_high b_low b_high = by_tests (int_eq a (pos 0)) (int_eq b (pos 0))
   where
     by_tests : (no_a no_b : Bool) → IsLimit (if no_a then b else if no_b then a else int_min a b)
@@ -114,7 +114,7 @@ job_is part q machine stages part_fit q_low q_high unfolds fit stages_fit few pl
       lower = fit.lower;
       few_lower = fit.few_lower;
     };
-    rules = record { bed = fit.bed; gauge = fit.gauge; cost = fit.cost; uncovered = fit.uncovered; force = fit.force };
+    rules = record { bed = fit.bed; gauge = fit.gauge; cost = fit.cost; uncovered = fit.uncovered; force = fit.force; fine = fit.fine };
     stages = record { each = stages_fit; few_stages = few; places = places };
   };
 }

@@ -42,10 +42,12 @@ setup_of m stages = record {
   stages = stages;
   gang = m.gang;
   force = m.force;
+  fine = m.fine;
 }
 
 -- the stages fit the bed, the stock and the load table, or the first refusal
-unfoldable pub stages_fit : PartData → ToolsData → MachineData → List StageData → Result (Unit {0}) JobFault
+unfoldable pub stages_fit :
+    PartData → ToolsData → MachineData → List StageData → Result (Unit {0}) JobFault
 stages_fit part tools machine stages = do
   placed ← places_fit machine.bed stages
   stocked ← stock_suffices tools machine.stages

@@ -10,7 +10,8 @@ use Rattle.job_setup.specs.Setup.{StageData}
 
 -- the row is for the part's material and thickness and an opening of this width
 abbrev pub is_load_for : PartData → ℤ → LoadData → Bool
-is_load_for part v row = (bytes_eq row.material part.material && int_eq row.thickness part.thickness) && int_eq row.v v
+is_load_for part v row =
+    (bytes_eq row.material part.material && int_eq row.thickness part.thickness) && int_eq row.v v
 
 -- the load of a row, and 0 where there is none
 abbrev pub load_of : Option LoadData → ℤ

@@ -38,14 +38,27 @@ half_opening stage = int_div stage.die.v (pos 2)
 
 -- A lower box that the rising sheet can't meet: not above the die's edges, and behind, before, or as deep as half the opening.
 abbrev pub is_sunk : ℤ → Rect → Bool
-is_sunk half r = int_le r.z1 (pos 0) && ((int_le half r.y0 || int_le r.y1 (neg_ℤ half)) || int_le r.z1 (neg_ℤ half))
+is_sunk half r =
+    int_le r.z1 (pos 0)
+    && ((int_le half r.y0 || int_le r.y1 (neg_ℤ half)) || int_le r.z1 (neg_ℤ half))
 
 -- where a lower box stands while the sheet is bent: below the sheet's thickness to begin with, and risen by at most half the opening
 abbrev pub swept_rect : ℤ → ℤ → Rect → Rect
-swept_rect thickness half r = record { y0 = r.y0; y1 = r.y1; z0 = r.z0 -ℤ thickness; z1 = (r.z1 -ℤ thickness) +ℤ half }
+swept_rect thickness half r = record {
+  y0 = r.y0;
+  y1 = r.y1;
+  z0 = r.z0 -ℤ thickness;
+  z1 = (r.z1 -ℤ thickness) +ℤ half;
+}
 
 abbrev pub upper_obstacle : ℕ × Fixed → Obstacle
-upper_obstacle box = record { index = box.0; x0 = box.1.x0; x1 = box.1.x1; rect = box.1.rect; group = Upper }
+upper_obstacle box = record {
+  index = box.0;
+  x0 = box.1.x0;
+  x1 = box.1.x1;
+  rect = box.1.rect;
+  group = Upper;
+}
 
 abbrev pub lower_obstacle : ℤ → ℤ → ℕ × Fixed → Obstacle
 lower_obstacle thickness half box = record {
@@ -62,7 +75,9 @@ upper_group job = map upper_obstacle (enumerate_from 0 (upper_boxes job))
 
 -- the lower group, numbered from 0, for a stroke at the stage of a number
 abbrev pub lower_group : JobData → ℕ → List Obstacle
-lower_group job stage = map (lower_obstacle job.part.thickness (half_opening (stage_of job stage))) (enumerate_from 0 (lower_boxes job))
+lower_group job stage =
+    map (lower_obstacle job.part.thickness (half_opening (stage_of job stage)))
+    (enumerate_from 0 (lower_boxes job))
 
 -- all obstacles of a stroke, in order
 abbrev pub obstacles_of : JobData → ℕ → List Obstacle

@@ -12,7 +12,6 @@ use Rattle.brake_base.specs.declared.stroke.Back.{Back}
 use Rattle.brake_base.specs.declared.stroke.Back.TheVariants.{Parent, Child}
 use Rattle.brake_base.specs.declared.stroke.Half.{Half}
 use Rattle.brake_base.specs.declared.stroke.Half.TheVariants.{Back as BackHalf, Front as FrontHalf}
-use Rattle.brake_base.specs.declared.stroke.Gauge.{Gauge}
 use Rattle.brake_base.specs.declared.reason.Reason.{Reason}
 use Rattle.brake_base.specs.declared.reason.Reason.TheVariants.{Cover, Rest, Frame, Upper, Nose, Lower, SelfHit, NoGauge, Load}
 use Rattle.brake_base.specs.Masks.{has}
@@ -28,7 +27,8 @@ use Rattle.sector_geom.specs.declared.sector.Sweep.{Sweep}
 use Rattle.sector_geom.specs.declared.sector.Sweep.TheVariants.{Eighth, Fourth}
 use Rattle.sector_geom.specs.Pieces.{widened_by, piece_of}
 use Rattle.sector_geom.specs.Covers.{cover_of}
-use Rattle.sector_geom.specs.Clear.{IsClear, IsClearOfNose}
+use Rattle.sector_geom.specs.Clear.{IsClearOfNose}
+use Rattle.sector_geom.specs.Free.{IsFree}
 use Rattle.job_setup.specs.declared.obstacle.Group.{Group}
 use Rattle.job_setup.specs.declared.obstacle.Group.TheVariants.{Upper as UpperGroup, Lower as LowerGroup}
 use Rattle.job_setup.specs.declared.obstacle.Obstacle.{Obstacle}
@@ -36,7 +36,7 @@ use Rattle.job_setup.specs.Setup.{StageData, JobData, shape_of}
 use Rattle.job_setup.specs.StageOf.{stage_of}
 use Rattle.job_setup.specs.Places.{is_overlap}
 use Rattle.job_setup.specs.Obstacles.{upper_group, lower_group}
-use Rattle.job_setup.specs.LegalGauge.{IsLegalPair}
+use Rattle.job_setup.specs.LegalGauge.{LacksGauge}
 
 -- how far the core of face f reaches from one of its sides to the opposite one
 abbrev pub core_depth : ShapeData → Side → ℕ → ℤ
@@ -47,7 +47,8 @@ core_depth shape W f = core_width shape f
 
 -- how far the core of the parent, or of the child, reaches away from the line of bend b; a child is joined at its side S
 abbrev pub reach : ShapeData → Back → ℕ → ℤ
-reach shape Parent b = let joint = joint_of shape.part.faces b in core_depth shape joint.side joint.on
+reach shape Parent b =
+    let joint = joint_of shape.part.faces b in core_depth shape joint.side joint.on
 reach shape Child b = core_depth shape S b
 
 -- Cover: the span of the group is longer than the stage and what it may leave uncovered at either end
@@ -58,11 +59,15 @@ is_uncovered job group stage =
 
 -- Rest: on the side of the parent, or on that of the child, a core at a line of the group is shorter than the die's least flange
 abbrev pub lacks_rest : JobData → (ℕ → Bool) → Back → StageData → Bool
-lacks_rest job group side stage = list_any (λ b. int_lt (reach (shape_of job) side b) stage.die.least_flange) (members (shape_of job) group)
+lacks_rest job group side stage =
+    list_any (λ b. int_lt (reach (shape_of job) side b) stage.die.least_flange)
+    (members (shape_of job) group)
 
 -- a stage meets a group where neither Cover nor Rest holds
 abbrev pub meets : JobData → (ℕ → Bool) → StageData → Bool
-meets job group stage = not (is_uncovered job group stage) && not (lacks_rest job group Parent stage || lacks_rest job group Child stage)
+meets job group stage =
+    not (is_uncovered job group stage)
+    && not (lacks_rest job group Parent stage || lacks_rest job group Child stage)
 
 -- the side that lies in a half, where this side is at the back
 abbrev pub side_in : Half → Back → Back
@@ -80,7 +85,8 @@ abbrev pub is_overloaded : JobData → (ℕ → Bool) → StageData → Bool
 is_overloaded job group stage =
     not (int_eq stage.load (pos 0))
     && ((not (int_eq stage.limit (pos 0)) && int_lt stage.limit stage.load)
-    || (not (int_eq job.setup.force (pos 0)) && int_lt (pos 1000 *ℤ job.setup.force) (stage.load *ℤ lines_total (shape_of job) group)))
+    || (not (int_eq job.setup.force (pos 0))
+    && int_lt (pos 1000 *ℤ job.setup.force) (stage.load *ℤ lines_total (shape_of job) group)))
 
 -- the range of a box along the bed, and its rectangle across it
 abbrev pub x_range : Box3 → ℤ × ℤ
@@ -114,9 +120,9 @@ piece_at job box quarter = piece_of quarter (moving_rect job box)
 abbrev pub MeetsAlong : PoseBox → ℤ × ℤ → Type 0
 MeetsAlong box range = IsTrue (is_overlap (x_range box.body) range)
 
--- the cover of the piece isn't clear of the rectangle
-abbrev pub IsSwept : Sweep → Quarter → Rect → Rect → Type 0
-IsSwept sweep quarter piece r = IsClear (cover_of quarter sweep piece) r → ⊥
+-- the piece isn't free of the rectangle at the job's depth
+abbrev pub IsSwept : JobData → Sweep → Quarter → Rect → Rect → Type 0
+IsSwept job sweep quarter piece r = IsFree job.setup.fine quarter sweep piece r → ⊥
 
 -- a piece that can't meet a sunk box: in Q1, or in Q4 and no deeper than the sheet is thick
 abbrev pub lies_high : ℤ → Quarter → Rect → Bool
@@ -130,21 +136,31 @@ is_untested thickness quarter piece UpperGroup = false
 is_untested thickness quarter piece (LowerGroup sunk) = sunk && lies_high thickness quarter piece
 
 -- The box's piece in the quarter meets the obstacle while it turns upwards.
-pub record IsHit (job : JobData) (box : PoseBox) (quarter : Quarter) (obstacle : Obstacle) : Type 0 where
+pub record IsHit (job : JobData) (box : PoseBox) (quarter : Quarter) (obstacle : Obstacle)
+    : Type 0 where
   pub along : MeetsAlong box (obstacle.x0, obstacle.x1)
-  pub across : IsSomeAnd (piece_at job box quarter) (λ piece. (is_untested job.part.thickness quarter piece obstacle.group ≡ false) × IsSwept Eighth quarter piece (seen_from box.half obstacle.rect))
+  pub across :
+      IsSomeAnd (piece_at job box quarter)
+      (λ piece. (is_untested job.part.thickness quarter piece obstacle.group ≡ false)
+      × IsSwept job Eighth quarter piece (seen_from box.half obstacle.rect))
 
 -- It meets the nose of the stage's punch.
-pub record IsNoseHit (job : JobData) (box : PoseBox) (quarter : Quarter) (stage : StageData) : Type 0 where
+pub record IsNoseHit (job : JobData) (box : PoseBox) (quarter : Quarter) (stage : StageData)
+    : Type 0 where
   pub along : MeetsAlong box (stage.x0, stage.x1)
-  pub across : IsSomeAnd (piece_at job box quarter) (λ piece. IsClearOfNose (cover_of quarter Eighth piece) stage.punch.nose → ⊥)
+  pub across :
+      IsSomeAnd (piece_at job box quarter)
+      (λ piece. IsClearOfNose (cover_of quarter Eighth piece) stage.punch.nose → ⊥)
 
 -- The piece of a box of the back half meets a box of the front half, which isn't mirrored, while the one turns against the other.
-pub record IsSelfHit (job : JobData) (box : PoseBox) (quarter : Quarter) (other : PoseBox) : Type 0 where
+pub record IsSelfHit (job : JobData) (box : PoseBox) (quarter : Quarter) (other : PoseBox)
+    : Type 0 where
   pub back : box.half ≡ BackHalf
   pub front : other.half ≡ FrontHalf
   pub along : MeetsAlong box (x_range other.body)
-  pub across : IsSomeAnd (piece_at job box quarter) (λ piece. IsSwept Fourth quarter piece (widened_by (widening job) (across other.body)))
+  pub across :
+      IsSomeAnd (piece_at job box quarter)
+      (λ piece. IsSwept job Fourth quarter piece (widened_by (widening job) (across other.body)))
 
 -- some box of the pose has the number and the property
 abbrev pub SomeBox : PoseData → ℕ → (PoseBox → Type 0) → Type 0
@@ -156,28 +172,41 @@ SomeObstacle obstacles index P = Any (λ obstacle. (obstacle.index ≡ index) ×
 
 -- what a reason says of a pose with this side at the back, at the stage of a number
 abbrev pub IsReasonOf : JobData → PoseData → Back → ℕ → Reason → Type 0
-IsReasonOf job pose back stage Cover = IsTrue (is_uncovered job (has pose.group) (stage_of job stage))
-IsReasonOf job pose back stage (Rest half) = IsTrue (lacks_rest job (has pose.group) (side_in half back) (stage_of job stage))
-IsReasonOf job pose back stage (Frame number) = SomeBox pose number (λ box. Any (MeetsAlong box) job.setup.frames)
-IsReasonOf job pose back stage (Upper number quarter index) = SomeBox pose number (λ box. SomeObstacle (upper_group job) index (IsHit job box quarter))
-IsReasonOf job pose back stage (Nose number quarter other) = (other < length job.setup.stages) × SomeBox pose number (λ box. IsNoseHit job box quarter (stage_of job other))
-IsReasonOf job pose back stage (Lower number quarter index) = SomeBox pose number (λ box. SomeObstacle (lower_group job stage) index (IsHit job box quarter))
-IsReasonOf job pose back stage (SelfHit number quarter other) = SomeBox pose number (λ box. SomeBox pose other (IsSelfHit job box quarter))
-IsReasonOf job pose back stage NoGauge = (gauge : Gauge) → IsLegalPair job pose gauge → ⊥
-IsReasonOf job pose back stage Load = IsTrue (is_overloaded job (has pose.group) (stage_of job stage))
+IsReasonOf job pose back stage Cover =
+    IsTrue (is_uncovered job (has pose.group) (stage_of job stage))
+IsReasonOf job pose back stage (Rest half) =
+    IsTrue (lacks_rest job (has pose.group) (side_in half back) (stage_of job stage))
+IsReasonOf job pose back stage (Frame number) =
+    SomeBox pose number (λ box. Any (MeetsAlong box) job.setup.frames)
+IsReasonOf job pose back stage (Upper number quarter index) =
+    SomeBox pose number (λ box. SomeObstacle (upper_group job) index (IsHit job box quarter))
+IsReasonOf job pose back stage (Nose number quarter other) =
+    (other < length job.setup.stages)
+    × SomeBox pose number (λ box. IsNoseHit job box quarter (stage_of job other))
+IsReasonOf job pose back stage (Lower number quarter index) =
+    SomeBox pose number (λ box. SomeObstacle (lower_group job stage) index (IsHit job box quarter))
+IsReasonOf job pose back stage (SelfHit number quarter other) =
+    SomeBox pose number (λ box. SomeBox pose other (IsSelfHit job box quarter))
+IsReasonOf job pose back stage NoGauge = LacksGauge job pose
+IsReasonOf job pose back stage Load =
+    IsTrue (is_overloaded job (has pose.group) (stage_of job stage))
 
 -- the job's pose before a stroke: the span of the group lies in the middle of the stage
 abbrev pub pose_at : JobData → Mask → Mask → Back → ℕ → PoseData
-pose_at job mask group back stage = pose_of (shape_of job) mask group back (stage_of job stage).x0 (stage_of job stage).x1
+pose_at job mask group back stage =
+    pose_of (shape_of job) mask group back (stage_of job stage).x0 (stage_of job stage).x1
 
 -- the reason holds of the stroke
 abbrev pub IsReason : JobData → Mask → Mask → Back → ℕ → Reason → Type 0
-IsReason job mask group back stage reason = IsReasonOf job (pose_at job mask group back stage) back stage reason
+IsReason job mask group back stage reason =
+    IsReasonOf job (pose_at job mask group back stage) back stage reason
 
 -- the reason holds, and none that holds stands before it
-pub record IsFirstReason (job : JobData) (mask group : Mask) (back : Back) (stage : ℕ) (reason : Reason) : Type 0 where
+pub record IsFirstReason (job : JobData) (mask group : Mask) (back : Back) (stage : ℕ)
+    (reason : Reason) : Type 0 where
   pub holds : IsReason job mask group back stage reason
-  pub first : (other : Reason) → IsReason job mask group back stage other → ReasonIsBefore other reason → ⊥
+  pub first :
+      (other : Reason) → IsReason job mask group back stage other → ReasonIsBefore other reason → ⊥
 
 -- the pose is the job's at a stage, for some folded bends, some group and some side at the back
 pub record IsPoseAt (job : JobData) (stage : ℕ) (pose : PoseData) : Type 0 where

@@ -19,7 +19,8 @@ pub record StageData : Type 0 where
   pub load : ℤ
   pub limit : ℤ
 
--- a machine with its stages: costs are in tenths of a second, the force in newtons
+-- a machine with its stages: costs are in tenths of a second, the force in newtons; `fine` is how often in a row a piece of the
+-- part may be halved
 pub record SetupData : Type 0 where
   pub bed : ℤ × ℤ
   pub frames : List (ℤ × ℤ)
@@ -31,6 +32,7 @@ pub record SetupData : Type 0 where
   pub stages : List StageData
   pub gang : Bool
   pub force : ℤ
+  pub fine : ℕ
 
 -- a part, half of what its outside sizes lose at each bend, and the setup on which it is bent
 pub record JobData : Type 0 where
@@ -50,7 +52,15 @@ abbrev pub shape_of : JobData → ShapeData
 shape_of job = record { part = job.part; q = job.q }
 
 abbrev pub stage_data : Stage → StageData
-stage_data s = record { punch = punch_data s.punch; die = die_data s.die; x0 = s.x0; x1 = s.x1; pieces = s.pieces.items; load = s.load; limit = s.limit }
+stage_data s = record {
+  punch = punch_data s.punch;
+  die = die_data s.die;
+  x0 = s.x0;
+  x1 = s.x1;
+  pieces = s.pieces.items;
+  load = s.load;
+  limit = s.limit;
+}
 
 abbrev pub setup_data : Setup → SetupData
 setup_data s = record {
@@ -64,4 +74,5 @@ setup_data s = record {
   stages = map stage_data s.stages.items;
   gang = s.gang;
   force = s.force;
+  fine = s.fine;
 }

@@ -5,8 +5,18 @@ use Rattle.job_setup.specs.Setup.{StageData, JobData}
 -- what stands past the last stage
 abbrev pub no_stage : StageData
 no_stage = record {
-  punch = record { name = []; height = pos 0; nose = pos 0; body = []; sections = []; limit = pos 0 };
-  die = record { name = []; height = pos 0; v = pos 0; least_flange = pos 0; body = []; sections = []; limit = pos 0 };
+  punch =
+      record { name = []; height = pos 0; nose = pos 0; body = []; sections = []; limit = pos 0 };
+  die =
+      record {
+        name = [];
+        height = pos 0;
+        v = pos 0;
+        least_flange = pos 0;
+        body = [];
+        sections = [];
+        limit = pos 0;
+      };
   x0 = pos 0;
   x1 = pos 0;
   pieces = [];

@@ -9,7 +9,8 @@ use Rattle.job_setup.specs.Stock.{tool_name, is_used_up}
 
 -- the stages use one of this stage's lengths with its tool of this kind more often than that tool's sections hold
 abbrev pub overuses : ToolsData → List StageTextData → StageTextData → ToolKind → Bool
-overuses tools stages stage kind = list_any (is_used_up tools stages kind (tool_name kind stage)) stage.pieces
+overuses tools stages stage kind =
+    list_any (is_used_up tools stages kind (tool_name kind stage)) stage.pieces
 
 -- the same with its punch or with its die
 abbrev pub runs_short : ToolsData → List StageTextData → StageTextData → Bool

@@ -20,10 +20,25 @@ die_named dies name = find (λ die. bytes_eq die.name name) dies
 
 -- the shape of a tool: what the shop has of it is left out, and its limit stands in its stage
 abbrev pub punch_shape : PunchData → PunchData
-punch_shape p = record { name = p.name; height = p.height; nose = p.nose; body = p.body; sections = []; limit = pos 0 }
+punch_shape p = record {
+  name = p.name;
+  height = p.height;
+  nose = p.nose;
+  body = p.body;
+  sections = [];
+  limit = pos 0;
+}
 
 abbrev pub die_shape : DieData → DieData
-die_shape d = record { name = d.name; height = d.height; v = d.v; least_flange = d.least_flange; body = d.body; sections = []; limit = pos 0 }
+die_shape d = record {
+  name = d.name;
+  height = d.height;
+  v = d.v;
+  least_flange = d.least_flange;
+  body = d.body;
+  sections = [];
+  limit = pos 0;
+}
 
 -- how long the pieces are together
 abbrev pub total : List ℤ → ℤ

@@ -41,7 +41,8 @@ tool_name Die stage = stage.die
 -- how many pieces of a length a stage uses with the tool of a name
 abbrev pub stage_use : ToolKind → List ℕ → ℤ → StageTextData → ℕ
 stage_use kind name length stage =
-    if bytes_eq (tool_name kind stage) name then count_by (λ piece. int_eq piece length) stage.pieces else 0
+    if bytes_eq (tool_name kind stage) name
+    then count_by (λ piece. int_eq piece length) stage.pieces else 0
 
 -- how many pieces of a length the stages use with the tool of a name
 abbrev pub used : ToolKind → List StageTextData → List ℕ → ℤ → ℕ
@@ -49,19 +50,23 @@ used kind stages name length = sum_by (stage_use kind name length) stages
 
 -- the stages use a length with the tool of a name more often than its sections hold
 unfoldable pub is_used_up : ToolsData → List StageTextData → ToolKind → List ℕ → ℤ → Bool
-is_used_up tools stages kind name length = nat_lt (held (sections_of tools kind name) length) (used kind stages name length)
+is_used_up tools stages kind name length =
+    nat_lt (held (sections_of tools kind name) length) (used kind stages name length)
 
 -- the stages use some piece length with the tool of a name more often than its sections hold
 abbrev pub is_tool_short : ToolsData → List StageTextData → ToolKind → List ℕ → Bool
-is_tool_short tools stages kind name = list_any (λ stage. list_any (is_used_up tools stages kind name) stage.pieces) stages
+is_tool_short tools stages kind name =
+    list_any (λ stage. list_any (is_used_up tools stages kind name) stage.pieces) stages
 
 -- the stages use some piece length with one tool of this kind more often than its sections hold
 abbrev pub is_kind_short : ToolsData → List StageTextData → ToolKind → Bool
-is_kind_short tools stages kind = list_any (λ stage. is_tool_short tools stages kind (tool_name kind stage)) stages
+is_kind_short tools stages kind =
+    list_any (λ stage. is_tool_short tools stages kind (tool_name kind stage)) stages
 
 -- some piece length has been used by stages 0 to i, with one punch or one die, more often than that tool's sections hold
 unfoldable pub is_short : ToolsData → List StageTextData → ℕ → Bool
-is_short tools stages i = is_kind_short tools (take (i + 1) stages) Punch || is_kind_short tools (take (i + 1) stages) Die
+is_short tools stages i =
+    is_kind_short tools (take (i + 1) stages) Punch || is_kind_short tools (take (i + 1) stages) Die
 
 -- the first stage at which the stock is short
 abbrev pub stock_suffices : ToolsData → List StageTextData → Result (Unit {0}) JobFault

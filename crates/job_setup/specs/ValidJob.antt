@@ -2,11 +2,11 @@
 use Rattle.std.specs.Prelude.{◌≡◌, ◌<◌, ◌≤◌, ℤ, pos, neg_ℤ, ◌+ℤ◌, ◌≤ℤ◌, [], length, All, Option, Some, None, Ok, IsOk}
 use Rattle.part_file.specs.Part.{IsPart, half_thickness}
 use Rattle.unfolder.specs.Blank.{blank_of_part}
-use Rattle.allowance.specs.declared.bounds.TheConstants.{GREATEST_HALF_DEDUCTION}
-use Rattle.tool_library.specs.declared.bounds.TheConstants.{GREATEST_LOAD}
+use Rattle.allowance.specs.Bounds.{greatest_half_deduction}
+use Rattle.tool_library.specs.Bounds.{greatest_load}
 use Rattle.tool_library.specs.Tools.{IsPunch, IsDie, IsLimit}
 use Rattle.toml_fields.specs.Ranges.{IsWithin}
-use Rattle.machine_file.specs.declared.bounds.TheConstants.{MOST_FRAMES, MOST_BOXES, MOST_STAGES, MOST_PIECES, GREATEST_UNCOVERED, GREATEST_FORCE}
+use Rattle.machine_file.specs.Bounds.{most_frames, most_fixed_boxes, most_stages, most_pieces, greatest_uncovered, greatest_force}
 use Rattle.machine_file.specs.Machine.{coordinate_limit, IsBedRange, IsFixed, IsGaugeRule, IsCosts, IsPiece}
 use Rattle.job_setup.specs.Setup.{StageData, SetupData, JobData}
 use Rattle.job_setup.specs.Stages.{total}
@@ -14,7 +14,7 @@ use Rattle.job_setup.specs.Places.{places_fit}
 
 -- a stage's load, in newtons per millimetre, or 0 for none
 abbrev pub IsStageLoad : ℤ → Type 0
-IsStageLoad n = IsWithin (pos 0) GREATEST_LOAD n
+IsStageLoad n = IsWithin (pos 0) greatest_load n
 
 -- a stage is made of its pieces, and its tools have neither stock nor a limit of their own
 pub record IsStage (s : StageData) : Type 0 where
@@ -27,7 +27,7 @@ pub record IsStage (s : StageData) : Type 0 where
   pub at : IsWithin (neg_ℤ coordinate_limit) coordinate_limit s.x0
   pub long : s.x1 ≡ s.x0 +ℤ total s.pieces
   pub some_piece : 0 < length s.pieces
-  pub few_pieces : length s.pieces ≤ MOST_PIECES
+  pub few_pieces : length s.pieces ≤ most_pieces
   pub pieces : All IsPiece s.pieces
   pub load : IsStageLoad s.load
   pub limit : IsLimit s.limit
@@ -35,24 +35,25 @@ pub record IsStage (s : StageData) : Type 0 where
 -- the frames and the fixed boxes of the machine
 pub record HasFixtures (s : SetupData) : Type 0 where
   pub frames : All IsBedRange s.frames
-  pub few_frames : length s.frames ≤ MOST_FRAMES
+  pub few_frames : length s.frames ≤ most_frames
   pub upper : All (IsFixed (pos 0) coordinate_limit) s.upper
-  pub few_upper : length s.upper ≤ MOST_BOXES
+  pub few_upper : length s.upper ≤ most_fixed_boxes
   pub lower : All (IsFixed (neg_ℤ coordinate_limit) (pos 0)) s.lower
-  pub few_lower : length s.lower ≤ MOST_BOXES
+  pub few_lower : length s.lower ≤ most_fixed_boxes
 
 -- its bed, its backgauge and its numbers
 pub record HasRules (s : SetupData) : Type 0 where
   pub bed : IsBedRange s.bed
   pub gauge : IsGaugeRule s.gauge
   pub cost : IsCosts s.cost
-  pub uncovered : IsWithin (pos 0) GREATEST_UNCOVERED s.uncovered
-  pub force : IsWithin (pos 0) GREATEST_FORCE s.force
+  pub uncovered : IsWithin (pos 0) greatest_uncovered s.uncovered
+  pub force : IsWithin (pos 0) greatest_force s.force
+  pub fine : s.fine ≤ 12
 
 -- its stages, each by itself and beside one another
 pub record HasStages (s : SetupData) : Type 0 where
   pub each : All IsStage s.stages
-  pub few_stages : length s.stages ≤ MOST_STAGES
+  pub few_stages : length s.stages ≤ most_stages
   pub places : places_fit s.bed s.stages ≡ Ok tt
 
 -- all ranges hold, and the stages are equally high, apart, on the bed, and at least one
@@ -65,7 +66,7 @@ pub record IsSetup (s : SetupData) : Type 0 where
 pub record IsJob (j : JobData) : Type 0 where
   pub part : IsPart j.part
   pub q_low : half_thickness j.part ≤ℤ j.q
-  pub q_high : j.q ≤ℤ GREATEST_HALF_DEDUCTION
+  pub q_high : j.q ≤ℤ greatest_half_deduction
   pub unfolds : IsOk (blank_of_part j.part j.q)
   pub setup : IsSetup j.setup
 

@@ -1,7 +1,9 @@
 //! A job, which is valid by its type.
-ghost use Rattle.std.specs.Prelude.{◌≡◌, ◌+◌, ◌≤◌, length};
+ghost use Rattle.std.specs.Prelude.{◌≡◌, ◌+◌, ◌<◌, ◌≤◌, ◌<ℤ◌, length};
 ghost use Rattle.part_file.specs.Part.{part_data};
+ghost use Rattle.unfolder.specs.Near.{IsWithin as IsNear};
 ghost use Rattle.job_setup.specs.Setup.{setup_data, shape_of};
+ghost use Rattle.job_setup.specs.StageOf.{stage_of};
 ghost use Rattle.job_setup.specs.ValidJob.{IsJob};
 
 use crate::setup::Setup;
@@ -99,5 +101,26 @@ impl Job {
         ensures valid { IsJob self.now }
     {
         self.setup.stages.len() as u8
+    }
+
+    /// The range of a stage along the bed, in micrometres.
+    pub fn stage_range(&self, stage: u8) -> (i64, i64)
+        requires { stage < length self.now.setup.stages }
+        ensures from { result.0 ≡ (stage_of self.now stage).x0 }
+        ensures to { result.1 ≡ (stage_of self.now stage).x1 }
+        ensures order { result.0 <ℤ result.1 }
+        ensures near_from { IsNear 1000000000 result.0 }
+        ensures near_to { IsNear 1000000000 result.1 }
+        ensures valid { IsJob self.now }
+    {
+        let stage = &self.setup().stages.as_slice()[usize::from(stage)];
+        (stage.x0, stage.x1)
+    }
+
+    /// Recalls that the job is valid, which its type keeps. It does nothing else.
+    pub fn recall_valid(&self)
+        ensures { IsJob self.now }
+    {
+        let _setup = &self.setup;
     }
 }

@@ -75,6 +75,7 @@ fn setup_of(machine: &Machine, stages: ArrayVec<Stage, 6>) -> Setup
         stages,
         gang: machine.gang,
         force: machine.force,
+        fine: machine.fine,
     }
 }
 

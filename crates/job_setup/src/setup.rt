@@ -54,7 +54,8 @@ impl Default for Stage {
 
 /// A machine with the stages that stand on it. `uncovered` is how much of a bend line may lie
 /// outside its stage; `gang` says whether several flanges of one side may be bent in one stroke;
-/// `force` is the greatest force in newtons, and 0 where there is no limit.
+/// `force` is the greatest force in newtons, and 0 where there is no limit; `fine` is how often in a
+/// row a piece of the part may be halved in the sweep.
 #[derive(Debug, Drop)]
 pub struct Setup {
     pub bed: (i64, i64),
@@ -67,6 +68,7 @@ pub struct Setup {
     pub stages: ArrayVec<Stage, MOST_STAGES>,
     pub gang: bool,
     pub force: i64,
+    pub fine: u8,
 }
 
 /// A copy of the pieces.
@@ -134,6 +136,7 @@ impl Setup {
             stages: copy_stages(self.stages.as_slice()),
             gang: self.gang,
             force: self.force,
+            fine: self.fine,
         }
     }
 }

@@ -34,7 +34,7 @@ pub fn is_overloaded_at(job: &Job, group: Mask, stage: u8) -> bool
     requires { stage < length job.now.setup.stages }
     ensures { result ≡ is_overloaded job.now (has group) (stage_of job.now stage) }
 {
-    let _ = job.setup();
+    job.recall_valid();
     is_overloaded(job, group, stage_at(job, stage))
 }
 

@@ -112,13 +112,15 @@ fn are_fixtures(setup: &Setup) -> bool
         && are_between(setup.lower.as_slice(), -COORDINATE_LIMIT, 0)
 }
 
-/// Whether what may be uncovered and the force are in range.
+/// Whether what may be uncovered, the force and the depth are in range.
 fn are_limits(setup: &Setup) -> bool
     ensures { IsTrue result
         ↔ (IsWithin (pos 0) GREATEST_UNCOVERED setup.now.uncovered
-        × IsWithin (pos 0) GREATEST_FORCE setup.now.force) }
+        × IsWithin (pos 0) GREATEST_FORCE setup.now.force × (setup.now.fine ≤ 12)) }
 {
-    is_within(setup.uncovered, 0, GREATEST_UNCOVERED) && is_within(setup.force, 0, GREATEST_FORCE)
+    is_within(setup.uncovered, 0, GREATEST_UNCOVERED)
+        && is_within(setup.force, 0, GREATEST_FORCE)
+        && setup.fine <= 12
 }
 
 /// Whether the bed, the backgauge and the machine's numbers are in range.

@@ -13,7 +13,7 @@ use Rattle.machine_file.specs.declared.fault.MachineFault.TheVariants.{BadField,
 use Rattle.machine_file.specs.declared.machine.Fixed.{Fixed}
 use Rattle.machine_file.specs.declared.machine.GaugeRule.{GaugeRule}
 use Rattle.machine_file.specs.declared.machine.Costs.{Costs}
-use Rattle.machine_file.specs.declared.bounds.TheConstants.{GREATEST_LENGTH, LEAST_FINGER, GREATEST_COST}
+use Rattle.machine_file.specs.Bounds.{greatest_gauge_length, least_finger, greatest_cost}
 use Rattle.machine_file.specs.Machine.{coordinate_limit, IsBedRange, IsFixed, IsGaugeRule, IsCosts}
 use Rattle.machine_file.specs.MachineFile.{bed_range_of, fixed_of, is_fixed, frame_of, fixed_between, length_at, gauge_of, cost_at, costs_of}
 use Rattle.machine_file.proofs.Decided.{fixed_decided}
@@ -67,17 +67,17 @@ box_is low high i item box given =
     subst (λ (b : Fixed). IsFixed low high b) fact.1 ((fixed_decided low high found.0).0 fact.0)
 
 -- a length of the backgauge that is read is within its ends
-pub length_is : (low : ℤ) (key : List ℕ) (number : ℕ) (ms : Members) (n : ℤ) → length_at low key number ms ≡ Ok n → IsWithin low GREATEST_LENGTH n
-length_is low key number ms n given = checked_is_within low GREATEST_LENGTH (whole_at key ms) n (ok_or_ok (integer_at low GREATEST_LENGTH key ms) (BadField 1 number) n given)
+pub length_is : (low : ℤ) (key : List ℕ) (number : ℕ) (ms : Members) (n : ℤ) → length_at low key number ms ≡ Ok n → IsWithin low greatest_gauge_length n
+length_is low key number ms n given = checked_is_within low greatest_gauge_length (whole_at key ms) n (ok_or_ok (integer_at low greatest_gauge_length key ms) (BadField 1 number) n given)
 
 mapped : {A B : Type 0} (f : A → B) (o : Option A) (b : B) → option_map f o ≡ Some b → (a : A) × (o ≡ Some a) × (f a ≡ b)
 mapped f None b given = absurd (cc)
 mapped f (Some a) b given = (a, refl, cc)
 
-pub cost_is : (key : List ℕ) (number : ℕ) (ms : Members) (n : ℕ) → cost_at key number ms ≡ Ok n → n ≤ GREATEST_COST
+pub cost_is : (key : List ℕ) (number : ℕ) (ms : Members) (n : ℕ) → cost_at key number ms ≡ Ok n → n ≤ greatest_cost
 cost_is key number ms n given =
-    let found = mapped unsigned_abs (integer_at (pos 0) (pos GREATEST_COST) key ms) n (ok_or_ok (option_map unsigned_abs (integer_at (pos 0) (pos GREATEST_COST) key ms)) (BadField 2 number) n given) in
-    let ends = checked_is_within (pos 0) (pos GREATEST_COST) (whole_at key ms) found.0 found.1 in
+    let found = mapped unsigned_abs (integer_at (pos 0) (pos greatest_cost) key ms) n (ok_or_ok (option_map unsigned_abs (integer_at (pos 0) (pos greatest_cost) key ms)) (BadField 2 number) n given) in
+    let ends = checked_is_within (pos 0) (pos greatest_cost) (whole_at key ms) found.0 found.1 in
     let same : unsigned_abs found.0 ≡ n = found.2 in
     omega (arith, ints, ends.bottom, ends.top)
 
@@ -87,9 +87,9 @@ gauge_is ms rule given =
     let near = bind_ok (length_at (pos 0) (codes "near") 9 ms) _ rule given in
     let far = bind_ok (length_at (pos 0) (codes "far") 10 ms) _ rule near.2 in
     let inset = bind_ok (length_at (pos 0) (codes "inset") 11 ms) _ rule far.2 in
-    let finger = bind_ok (length_at LEAST_FINGER (codes "finger") 12 ms) _ rule inset.2 in
+    let finger = bind_ok (length_at least_finger (codes "finger") 12 ms) _ rule inset.2 in
     let gap = bind_ok (length_at (pos 0) (codes "gap") 13 ms) _ rule finger.2 in
-    let depth = bind_ok (length_at LEAST_FINGER (codes "depth") 14 ms) _ rule gap.2 in
+    let depth = bind_ok (length_at least_finger (codes "depth") 14 ms) _ rule gap.2 in
     let above = bind_ok (length_at (pos 0) (codes "above") 15 ms) _ rule depth.2 in
     let below = bind_ok (length_at (pos 0) (codes "below") 16 ms) _ rule above.2 in
     let known = bind_ok (refuse_if (has_unknown_key (codes "near" ∷ codes "far" ∷ codes "inset" ∷ codes "finger" ∷ codes "gap" ∷ codes "depth" ∷ codes "above" ∷ codes "below" ∷ []) ms) (UnknownKey 1)) _ rule below.2 in
@@ -98,9 +98,9 @@ gauge_is ms rule given =
       near = length_is (pos 0) (codes "near") 9 ms near.0 near.1;
       far = length_is (pos 0) (codes "far") 10 ms far.0 far.1;
       inset = length_is (pos 0) (codes "inset") 11 ms inset.0 inset.1;
-      finger = length_is LEAST_FINGER (codes "finger") 12 ms finger.0 finger.1;
+      finger = length_is least_finger (codes "finger") 12 ms finger.0 finger.1;
       gap = length_is (pos 0) (codes "gap") 13 ms gap.0 gap.1;
-      depth = length_is LEAST_FINGER (codes "depth") 14 ms depth.0 depth.1;
+      depth = length_is least_finger (codes "depth") 14 ms depth.0 depth.1;
       above = length_is (pos 0) (codes "above") 15 ms above.0 above.1;
       below = length_is (pos 0) (codes "below") 16 ms below.0 below.1;
     } in

@@ -1,7 +1,8 @@
 -- Each machine that a file gives meets the rules of the machine file.
-use Rattle.std.proofs.Common.{◌≡◌, ℕ, ◌+◌, ◌<◌, ◌≤◌, ℤ, pos, neg_ℤ, Bool, true, false, ◌||◌, List, [], ◌∷◌, codes, length, nat_le, nat_lt, Option, Some, None, Ok, ok_or, option_and_then, if◌then◌else◌, is_some, All, refl, sym, subst, ltb-false, leb-true, arith}
+use Rattle.std.proofs.Common.{◌≡◌, ℕ, ◌+◌, ◌<◌, ◌≤◌, ℤ, pos, negsuc, neg_ℤ, unsigned_abs, Bool, true, false, ◌||◌, List, [], ◌∷◌, codes, length, nat_le, nat_lt, Option, Some, None, Ok, ok_or, option_map, option_and_then, if◌then◌else◌, is_some, All, refl, sym, subst, ltb-false, leb-true, arith}
 use Rattle.std.specs.Ordering.{int_eq}
 use Rattle.std.specs.List.{list_all}
+use Rattle.std.proofs.lemmas.Int.{ints}
 use Rattle.toml.specs.Data.{Data, Members, as_integer, as_table}
 use Rattle.toml_fields.specs.Fields.{has_key, whole_at, integer_at, integer_or, name_at, text_at, has_unknown_key}
 use Rattle.toml_fields.specs.Lists.{array_at, each_passes}
@@ -9,9 +10,9 @@ use Rattle.toml_fields.specs.Ranges.{IsWithin}
 use Rattle.toml_fields.specs.Results.{each_from, refuse_if}
 use Rattle.toml_fields.proofs.Bind.{bind_ok, ok_same, ok_or_ok, refused_not, checked_is_name, checked_is_within}
 use Rattle.machine_file.specs.declared.fault.MachineFault.TheVariants.{BadField, UnknownKey, TooMany, BadBox}
-use Rattle.machine_file.specs.declared.bounds.TheConstants.{MOST_FRAMES, MOST_BOXES, MOST_STAGES, MOST_PIECES, LEAST_PIECE, GREATEST_PIECE, GREATEST_UNCOVERED, GREATEST_FORCE}
+use Rattle.machine_file.specs.Bounds.{most_frames, most_fixed_boxes, most_stages, most_pieces, least_piece, greatest_piece, greatest_uncovered, greatest_force}
 use Rattle.machine_file.specs.Machine.{StageTextData, FixturesData, MachineData, coordinate_limit, IsBedRange, IsFixed, IsPiece, IsStageText, IsMachine}
-use Rattle.machine_file.specs.MachineFile.{bed_range_of, frame_of, fixed_between, gauge_of, costs_of, piece_of, pieces_at, piece_in, stage_text_of, stage_text_in, ends_in, rows_in, uncovered_in, table_in, stages_in, gang_in, force_in, fixtures_of, too_many, machine_of_members}
+use Rattle.machine_file.specs.MachineFile.{bed_range_of, frame_of, fixed_between, gauge_of, costs_of, piece_of, pieces_at, piece_in, stage_text_of, stage_text_in, ends_in, rows_in, uncovered_in, table_in, stages_in, gang_in, force_in, fine_in, fixtures_of, too_many, machine_of_members}
 use Rattle.machine_file.proofs.Fit.{each_all, each_length, then_some, range_is, frame_is, box_is, gauge_is, costs_are}
 
 -- the pieces are at least one
@@ -32,7 +33,7 @@ some_pieces o items given =
     at_least false ds es passes is = absurd (cc)
 
 piece_is : (table i : ℕ) (item : Data) (n : ℤ) → piece_in table i item ≡ Ok n → IsPiece n
-piece_is table i item n given = checked_is_within LEAST_PIECE GREATEST_PIECE (as_integer item) n (ok_or_ok (piece_of item) (BadField table 26) n given)
+piece_is table i item n given = checked_is_within least_piece greatest_piece (as_integer item) n (ok_or_ok (piece_of item) (BadField table 26) n given)
 
 stage_table_is : (table : ℕ) (ms : Members) (stage : StageTextData) → stage_text_of table ms ≡ Ok stage → IsStageText stage
 unfolding stage_text_of
@@ -42,12 +43,12 @@ stage_table_is table ms stage given =
     let at = bind_ok (ok_or (integer_at (neg_ℤ coordinate_limit) coordinate_limit (codes "at") ms) (BadField table 25)) _ stage die.2 in
     let items = bind_ok (ok_or (pieces_at (codes "pieces") ms) (BadField table 26)) _ stage at.2 in
     let known = bind_ok (refuse_if (has_unknown_key (codes "punch" ∷ codes "die" ∷ codes "at" ∷ codes "pieces" ∷ []) ms) (UnknownKey table)) _ stage items.2 in
-    let few = bind_ok (refuse_if (nat_lt MOST_PIECES (length items.0)) (TooMany table)) _ stage known.2 in
+    let few = bind_ok (refuse_if (nat_lt most_pieces (length items.0)) (TooMany table)) _ stage known.2 in
     let pieces = bind_ok (each_from (piece_in table) 0 items.0) _ stage few.2 in
     let read : StageTextData = record { punch = punch.0; die = die.0; at = at.0; pieces = pieces.0 } in
     let count : length pieces.0 ≡ length items.0 = each_length (piece_in table) 0 items.0 pieces.0 pieces.1 in
     let some : 0 < length items.0 = some_pieces (array_at (codes "pieces") ms) items.0 (ok_or_ok (pieces_at (codes "pieces") ms) (BadField table 26) items.0 items.1) in
-    let at_most : length items.0 ≤ MOST_PIECES = ltb-false MOST_PIECES (length items.0) (refused_not (nat_lt MOST_PIECES (length items.0)) (TooMany table) few.0 few.1) in
+    let at_most : length items.0 ≤ most_pieces = ltb-false most_pieces (length items.0) (refused_not (nat_lt most_pieces (length items.0)) (TooMany table) few.0 few.1) in
     let fits : IsStageText read = record {
       punch = checked_is_name (text_at (codes "punch") ms) punch.0 (ok_or_ok (name_at (codes "punch") ms) (BadField table 23) punch.0 punch.1);
       die = checked_is_name (text_at (codes "die") ms) die.0 (ok_or_ok (name_at (codes "die") ms) (BadField table 24) die.0 die.1);
@@ -74,10 +75,10 @@ or_is missing low high key ms n fine given = by_test (has_key key ms) given
 
 -- no list is too long
 record AreFew (frames upper lower stages : List Data) : Type 0 where
-  few_frames : length frames ≤ MOST_FRAMES
-  few_upper : length upper ≤ MOST_BOXES
-  few_lower : length lower ≤ MOST_BOXES
-  few_stages : length stages ≤ MOST_STAGES
+  few_frames : length frames ≤ most_frames
+  few_upper : length upper ≤ most_fixed_boxes
+  few_lower : length lower ≤ most_fixed_boxes
+  few_stages : length stages ≤ most_stages
 
 neither : (a b : Bool) → (a || b) ≡ false → (a ≡ false) × (b ≡ false)
 neither false false given = (refl, refl)
@@ -86,14 +87,14 @@ neither true b given = absurd (cc)
 
 are_few : (frames upper lower stages : List Data) → too_many frames upper lower stages ≡ false → AreFew frames upper lower stages
 are_few frames upper lower stages given =
-    let halves = neither (nat_lt MOST_FRAMES (length frames) || nat_lt MOST_BOXES (length upper)) (nat_lt MOST_BOXES (length lower) || nat_lt MOST_STAGES (length stages)) given in
-    let first = neither (nat_lt MOST_FRAMES (length frames)) (nat_lt MOST_BOXES (length upper)) halves.0 in
-    let second = neither (nat_lt MOST_BOXES (length lower)) (nat_lt MOST_STAGES (length stages)) halves.1 in
+    let halves = neither (nat_lt most_frames (length frames) || nat_lt most_fixed_boxes (length upper)) (nat_lt most_fixed_boxes (length lower) || nat_lt most_stages (length stages)) given in
+    let first = neither (nat_lt most_frames (length frames)) (nat_lt most_fixed_boxes (length upper)) halves.0 in
+    let second = neither (nat_lt most_fixed_boxes (length lower)) (nat_lt most_stages (length stages)) halves.1 in
     record {
-      few_frames = ltb-false MOST_FRAMES (length frames) first.0;
-      few_upper = ltb-false MOST_BOXES (length upper) first.1;
-      few_lower = ltb-false MOST_BOXES (length lower) second.0;
-      few_stages = ltb-false MOST_STAGES (length stages) second.1;
+      few_frames = ltb-false most_frames (length frames) first.0;
+      few_upper = ltb-false most_fixed_boxes (length upper) first.1;
+      few_lower = ltb-false most_fixed_boxes (length lower) second.0;
+      few_stages = ltb-false most_stages (length stages) second.1;
     }
 
 -- as many as another count that is few
@@ -129,6 +130,22 @@ fixtures_fit ends frames upper lower fixtures given =
     } in
     subst (λ (f : FixturesData). AreFixtures frames upper lower f) {x = read} (ok_same read fixtures lower_boxes.2) fits
 
+-- a number from 0 to 12 is at most 12 without its sign
+few : (z : ℤ) → IsWithin (pos 0) (pos 12) z → unsigned_abs z ≤ 12
+few (pos n) within = omega (arith, ints, within.top)
+few (negsuc n) within = absurd (omega (arith, ints, within.bottom))
+
+-- how often a piece may be halved is at most 12
+fine_is : (ms : Members) (n : ℕ) → fine_in ms ≡ Ok n → n ≤ 12
+fine_is ms n given = by_read (integer_or (pos 0) (pos 0) (pos 12) (codes "fine") ms) refl (ok_or_ok (option_map unsigned_abs (integer_or (pos 0) (pos 0) (pos 12) (codes "fine") ms)) (BadField 0 29) n given)
+  where
+    by_read : (read : Option ℤ) → integer_or (pos 0) (pos 0) (pos 12) (codes "fine") ms ≡ read → option_map unsigned_abs read ≡ Some n → n ≤ 12
+    by_read None is found = absurd (cc)
+    by_read (Some z) is found =
+        let same : unsigned_abs z ≡ n = cc in
+        let within = or_is (pos 0) (pos 0) (pos 12) (codes "fine") ms z (record { bottom = record { le = tt }; top = record { le = tt } }) is in
+        subst (λ (k : ℕ). k ≤ 12) same (few z within)
+
 pub table_fits : (ms : Members) (m : MachineData) → machine_of_members ms ≡ Ok m → IsMachine m
 unfolding machine_of_members
 table_fits ms m given =
@@ -142,28 +159,30 @@ table_fits ms m given =
     let stages = bind_ok (stages_in ms) _ m cost.2 in
     let gang = bind_ok (gang_in ms) _ m stages.2 in
     let force = bind_ok (force_in ms) _ m gang.2 in
-    let known = bind_ok (refuse_if (has_unknown_key (codes "bed" ∷ codes "frames" ∷ codes "upper" ∷ codes "lower" ∷ codes "uncovered" ∷ codes "gauge" ∷ codes "cost" ∷ codes "stage" ∷ codes "gang" ∷ codes "force" ∷ []) ms) (UnknownKey 0)) _ m force.2 in
+    let fine = bind_ok (fine_in ms) _ m force.2 in
+    let known = bind_ok (refuse_if (has_unknown_key (codes "bed" ∷ codes "frames" ∷ codes "upper" ∷ codes "lower" ∷ codes "uncovered" ∷ codes "gauge" ∷ codes "cost" ∷ codes "stage" ∷ codes "gang" ∷ codes "force" ∷ codes "fine" ∷ []) ms) (UnknownKey 0)) _ m fine.2 in
     let few = bind_ok (refuse_if (too_many frames.0 upper.0 lower.0 stages.0) (TooMany 0)) _ m known.2 in
     let fixtures = bind_ok (fixtures_of ends.0 frames.0 upper.0 lower.0) _ m few.2 in
     let gauge_rule = bind_ok (gauge_of gauge.0) _ m fixtures.2 in
     let costs = bind_ok (costs_of cost.0) _ m gauge_rule.2 in
     let stage_texts = bind_ok (each_from stage_text_in 0 stages.0) _ m costs.2 in
-    let read : MachineData = record { bed = fixtures.0.bed; frames = fixtures.0.frames; upper = fixtures.0.upper; lower = fixtures.0.lower; uncovered = uncovered.0; gauge = gauge_rule.0; cost = costs.0; stages = stage_texts.0; gang = int_eq gang.0 (pos 1); force = force.0 } in
+    let read : MachineData = record { bed = fixtures.0.bed; frames = fixtures.0.frames; upper = fixtures.0.upper; lower = fixtures.0.lower; uncovered = uncovered.0; gauge = gauge_rule.0; cost = costs.0; stages = stage_texts.0; gang = int_eq gang.0 (pos 1); force = force.0; fine = fine.0 } in
     let are = are_few frames.0 upper.0 lower.0 stages.0 (refused_not (too_many frames.0 upper.0 lower.0 stages.0) (TooMany 0) few.0 few.1) in
     let fixed = fixtures_fit ends.0 frames.0 upper.0 lower.0 fixtures.0 fixtures.1 in
     let fits : IsMachine read = record {
       bed = fixed.bed_fits;
       frames = fixed.frames_fit;
-      few_frames = as_few (length fixtures.0.frames) (length frames.0) MOST_FRAMES fixed.frame_count are.few_frames;
+      few_frames = as_few (length fixtures.0.frames) (length frames.0) most_frames fixed.frame_count are.few_frames;
       upper = fixed.upper_fit;
-      few_upper = as_few (length fixtures.0.upper) (length upper.0) MOST_BOXES fixed.upper_count are.few_upper;
+      few_upper = as_few (length fixtures.0.upper) (length upper.0) most_fixed_boxes fixed.upper_count are.few_upper;
       lower = fixed.lower_fit;
-      few_lower = as_few (length fixtures.0.lower) (length lower.0) MOST_BOXES fixed.lower_count are.few_lower;
-      uncovered = checked_is_within (pos 0) GREATEST_UNCOVERED (whole_at (codes "uncovered") ms) uncovered.0 (ok_or_ok (integer_at (pos 0) GREATEST_UNCOVERED (codes "uncovered") ms) (BadField 0 5) uncovered.0 uncovered.1);
+      few_lower = as_few (length fixtures.0.lower) (length lower.0) most_fixed_boxes fixed.lower_count are.few_lower;
+      uncovered = checked_is_within (pos 0) greatest_uncovered (whole_at (codes "uncovered") ms) uncovered.0 (ok_or_ok (integer_at (pos 0) greatest_uncovered (codes "uncovered") ms) (BadField 0 5) uncovered.0 uncovered.1);
       gauge = gauge_is gauge.0 gauge_rule.0 gauge_rule.1;
       cost = costs_are cost.0 costs.0 costs.1;
       stages = each_all stage_text_in IsStageText stage_is 0 stages.0 stage_texts.0 stage_texts.1;
-      few_stages = as_few (length stage_texts.0) (length stages.0) MOST_STAGES (each_length stage_text_in 0 stages.0 stage_texts.0 stage_texts.1) are.few_stages;
-      force = or_is (pos 0) (pos 0) GREATEST_FORCE (codes "force") ms force.0 (record { bottom = record { le = tt }; top = record { le = tt } }) (ok_or_ok (integer_or (pos 0) (pos 0) GREATEST_FORCE (codes "force") ms) (BadField 0 28) force.0 force.1);
+      few_stages = as_few (length stage_texts.0) (length stages.0) most_stages (each_length stage_text_in 0 stages.0 stage_texts.0 stage_texts.1) are.few_stages;
+      force = or_is (pos 0) (pos 0) greatest_force (codes "force") ms force.0 (record { bottom = record { le = tt }; top = record { le = tt } }) (ok_or_ok (integer_or (pos 0) (pos 0) greatest_force (codes "force") ms) (BadField 0 28) force.0 force.1);
+      fine = fine_is ms fine.0 fine.1;
     } in
     subst (λ (machine : MachineData). IsMachine machine) {x = read} (ok_same read m stage_texts.2) fits

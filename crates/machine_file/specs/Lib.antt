@@ -1,3 +1,4 @@
+pub mod Bounds
 pub mod Machine
 pub mod MachineFile
 pub mod FaultNumbers

@@ -2,7 +2,8 @@
 use Rattle.std.specs.Prelude.{ℕ, ◌<◌, ◌≤◌, ℤ, pos, neg_ℤ, List, length, map, Bool, All, IsTrue}
 use Rattle.toml_fields.specs.Fields.{is_name}
 use Rattle.toml_fields.specs.Ranges.{IsWithin, IsRange}
-use Rattle.machine_file.specs.declared.bounds.TheConstants.{COORDINATE_LIMIT, MOST_FRAMES, MOST_BOXES, MOST_STAGES, MOST_PIECES, LEAST_PIECE, GREATEST_PIECE, GREATEST_UNCOVERED, GREATEST_LENGTH, LEAST_FINGER, GREATEST_COST, GREATEST_FORCE}
+pub use Rattle.machine_file.specs.Bounds.{coordinate_limit}
+use Rattle.machine_file.specs.Bounds.{most_frames, most_fixed_boxes, most_stages, most_pieces, least_piece, greatest_piece, greatest_uncovered, greatest_gauge_length, least_finger, greatest_cost, greatest_force}
 use Rattle.machine_file.specs.declared.machine.Fixed.{Fixed}
 use Rattle.machine_file.specs.declared.machine.GaugeRule.{GaugeRule}
 use Rattle.machine_file.specs.declared.machine.Costs.{Costs}
@@ -25,7 +26,7 @@ pub record FixturesData : Type 0 where
   pub lower : List Fixed
 
 -- a machine: lengths are in micrometres, costs in tenths of a second, the force in newtons; `uncovered` is how much of a bend
--- line may stay uncovered at each end
+-- line may stay uncovered at each end; `fine` is how often in a row a piece of the part may be halved
 pub record MachineData : Type 0 where
   pub bed : ℤ × ℤ
   pub frames : List (ℤ × ℤ)
@@ -37,6 +38,7 @@ pub record MachineData : Type 0 where
   pub stages : List StageTextData
   pub gang : Bool
   pub force : ℤ
+  pub fine : ℕ
 
 abbrev pub stage_text_data : StageText → StageTextData
 stage_text_data s = record { punch = s.punch.bytes; die = s.die.bytes; at = s.at; pieces = s.pieces.items }
@@ -56,11 +58,8 @@ machine_data m = record {
   stages = map stage_text_data m.stages.items;
   gang = m.gang;
   force = m.force;
+  fine = m.fine;
 }
-
--- the greatest distance of a coordinate from 0
-abbrev pub coordinate_limit : ℤ
-coordinate_limit = COORDINATE_LIMIT
 
 -- a range along the bed
 abbrev pub IsBedRange : ℤ × ℤ → Type 0
@@ -78,11 +77,11 @@ pub record IsFixed (low high : ℤ) (box : Fixed) : Type 0 where
 
 -- a length of the backgauge
 abbrev pub IsLength : ℤ → Type 0
-IsLength n = IsWithin (pos 0) GREATEST_LENGTH n
+IsLength n = IsWithin (pos 0) greatest_gauge_length n
 
 -- the width or the depth of a finger
 abbrev pub IsFinger : ℤ → Type 0
-IsFinger n = IsWithin LEAST_FINGER GREATEST_LENGTH n
+IsFinger n = IsWithin least_finger greatest_gauge_length n
 
 -- the rules of the backgauge
 pub record IsGaugeRule (rule : GaugeRule) : Type 0 where
@@ -97,16 +96,16 @@ pub record IsGaugeRule (rule : GaugeRule) : Type 0 where
 
 -- the rules of the costs
 pub record IsCosts (cost : Costs) : Type 0 where
-  pub stroke : cost.stroke ≤ GREATEST_COST
-  pub quarter : cost.quarter ≤ GREATEST_COST
-  pub half : cost.half ≤ GREATEST_COST
-  pub flip : cost.flip ≤ GREATEST_COST
-  pub roll : cost.roll ≤ GREATEST_COST
-  pub stage : cost.stage ≤ GREATEST_COST
+  pub stroke : cost.stroke ≤ greatest_cost
+  pub quarter : cost.quarter ≤ greatest_cost
+  pub half : cost.half ≤ greatest_cost
+  pub flip : cost.flip ≤ greatest_cost
+  pub roll : cost.roll ≤ greatest_cost
+  pub stage : cost.stage ≤ greatest_cost
 
 -- the length of a piece
 abbrev pub IsPiece : ℤ → Type 0
-IsPiece n = IsWithin LEAST_PIECE GREATEST_PIECE n
+IsPiece n = IsWithin least_piece greatest_piece n
 
 -- the rules of a stage
 pub record IsStageText (stage : StageTextData) : Type 0 where
@@ -114,21 +113,22 @@ pub record IsStageText (stage : StageTextData) : Type 0 where
   pub die : IsTrue (is_name stage.die)
   pub at : IsWithin (neg_ℤ coordinate_limit) coordinate_limit stage.at
   pub some_piece : 0 < length stage.pieces
-  pub few_pieces : length stage.pieces ≤ MOST_PIECES
+  pub few_pieces : length stage.pieces ≤ most_pieces
   pub pieces : All IsPiece stage.pieces
 
 -- the rules of the machine file
 pub record IsMachine (m : MachineData) : Type 0 where
   pub bed : IsBedRange m.bed
   pub frames : All IsBedRange m.frames
-  pub few_frames : length m.frames ≤ MOST_FRAMES
+  pub few_frames : length m.frames ≤ most_frames
   pub upper : All (IsFixed (pos 0) coordinate_limit) m.upper
-  pub few_upper : length m.upper ≤ MOST_BOXES
+  pub few_upper : length m.upper ≤ most_fixed_boxes
   pub lower : All (IsFixed (neg_ℤ coordinate_limit) (pos 0)) m.lower
-  pub few_lower : length m.lower ≤ MOST_BOXES
-  pub uncovered : IsWithin (pos 0) GREATEST_UNCOVERED m.uncovered
+  pub few_lower : length m.lower ≤ most_fixed_boxes
+  pub uncovered : IsWithin (pos 0) greatest_uncovered m.uncovered
   pub gauge : IsGaugeRule m.gauge
   pub cost : IsCosts m.cost
   pub stages : All IsStageText m.stages
-  pub few_stages : length m.stages ≤ MOST_STAGES
-  pub force : IsWithin (pos 0) GREATEST_FORCE m.force
+  pub few_stages : length m.stages ≤ most_stages
+  pub force : IsWithin (pos 0) greatest_force m.force
+  pub fine : m.fine ≤ 12

@@ -13,7 +13,7 @@ use Rattle.machine_file.specs.declared.fault.MachineFault.TheVariants.{NotToml, 
 use Rattle.machine_file.specs.declared.machine.Fixed.{Fixed}
 use Rattle.machine_file.specs.declared.machine.GaugeRule.{GaugeRule}
 use Rattle.machine_file.specs.declared.machine.Costs.{Costs}
-use Rattle.machine_file.specs.declared.bounds.TheConstants.{MOST_FRAMES, MOST_BOXES, MOST_STAGES, MOST_PIECES, LEAST_PIECE, GREATEST_PIECE, GREATEST_UNCOVERED, GREATEST_LENGTH, LEAST_FINGER, GREATEST_COST, GREATEST_FORCE}
+use Rattle.machine_file.specs.Bounds.{most_frames, most_fixed_boxes, most_stages, most_pieces, least_piece, greatest_piece, greatest_uncovered, greatest_gauge_length, least_finger, greatest_cost, greatest_force}
 use Rattle.machine_file.specs.Machine.{StageTextData, FixturesData, MachineData, coordinate_limit}
 
 -- the range of two integers along the bed
@@ -47,7 +47,7 @@ fixed_between low high i item = ok_or (option_and_then (λ box. if is_fixed low 
 
 -- the length of the backgauge at a key, at least so long, or the refusal of the key's number
 abbrev pub length_at : ℤ → List ℕ → ℕ → Members → Result ℤ MachineFault
-length_at low key number members = ok_or (integer_at low GREATEST_LENGTH key members) (BadField 1 number)
+length_at low key number members = ok_or (integer_at low greatest_gauge_length key members) (BadField 1 number)
 
 -- the backgauge, of table 1
 unfoldable pub gauge_of : Members → Result GaugeRule MachineFault
@@ -55,9 +55,9 @@ gauge_of members = do
   near ← length_at (pos 0) (codes "near") 9 members
   far ← length_at (pos 0) (codes "far") 10 members
   inset ← length_at (pos 0) (codes "inset") 11 members
-  finger ← length_at LEAST_FINGER (codes "finger") 12 members
+  finger ← length_at least_finger (codes "finger") 12 members
   gap ← length_at (pos 0) (codes "gap") 13 members
-  depth ← length_at LEAST_FINGER (codes "depth") 14 members
+  depth ← length_at least_finger (codes "depth") 14 members
   above ← length_at (pos 0) (codes "above") 15 members
   below ← length_at (pos 0) (codes "below") 16 members
   known ← refuse_if (has_unknown_key (codes "near" ∷ codes "far" ∷ codes "inset" ∷ codes "finger" ∷ codes "gap" ∷ codes "depth" ∷ codes "above" ∷ codes "below" ∷ []) members) (UnknownKey 1)
@@ -65,7 +65,7 @@ gauge_of members = do
 
 -- the cost at a key, in tenths of a second, or the refusal of the key's number
 abbrev pub cost_at : List ℕ → ℕ → Members → Result ℕ MachineFault
-cost_at key number members = ok_or (option_map unsigned_abs (integer_at (pos 0) (pos GREATEST_COST) key members)) (BadField 2 number)
+cost_at key number members = ok_or (option_map unsigned_abs (integer_at (pos 0) (pos greatest_cost) key members)) (BadField 2 number)
 
 -- the costs, of table 2
 unfoldable pub costs_of : Members → Result Costs MachineFault
@@ -81,7 +81,7 @@ costs_of members = do
 
 -- the length of a piece
 abbrev pub piece_of : Data → Option ℤ
-piece_of item = option_and_then (checked_integer LEAST_PIECE GREATEST_PIECE) (as_integer item)
+piece_of item = option_and_then (checked_integer least_piece greatest_piece) (as_integer item)
 
 -- the items of the array at a key, at least one, each a piece
 abbrev pub pieces_at : List ℕ → Members → Option (List Data)
@@ -99,7 +99,7 @@ stage_text_of table members = do
   at ← ok_or (integer_at (neg_ℤ coordinate_limit) coordinate_limit (codes "at") members) (BadField table 25)
   items ← ok_or (pieces_at (codes "pieces") members) (BadField table 26)
   known ← refuse_if (has_unknown_key (codes "punch" ∷ codes "die" ∷ codes "at" ∷ codes "pieces" ∷ []) members) (UnknownKey table)
-  few ← refuse_if (nat_lt MOST_PIECES (length items)) (TooMany table)
+  few ← refuse_if (nat_lt most_pieces (length items)) (TooMany table)
   pieces ← each_from (piece_in table) 0 items
   Ok (record { punch = punch; die = die; at = at; pieces = pieces })
 
@@ -117,7 +117,7 @@ rows_in count key number members = ok_or (rows_or_none count key members) (BadFi
 
 -- how much of a bend line may stay uncovered at each end, in micrometres
 abbrev pub uncovered_in : Members → Result ℤ MachineFault
-uncovered_in members = ok_or (integer_at (pos 0) GREATEST_UNCOVERED (codes "uncovered") members) (BadField 0 5)
+uncovered_in members = ok_or (integer_at (pos 0) greatest_uncovered (codes "uncovered") members) (BadField 0 5)
 
 -- the table at a key, or the refusal of the key's number
 abbrev pub table_in : List ℕ → ℕ → Members → Result Members MachineFault
@@ -133,11 +133,15 @@ gang_in members = ok_or (integer_or (pos 0) (pos 0) (pos 1) (codes "gang") membe
 
 -- the greatest force in newtons, 0 for no limit
 abbrev pub force_in : Members → Result ℤ MachineFault
-force_in members = ok_or (integer_or (pos 0) (pos 0) GREATEST_FORCE (codes "force") members) (BadField 0 28)
+force_in members = ok_or (integer_or (pos 0) (pos 0) greatest_force (codes "force") members) (BadField 0 28)
+
+-- how often in a row a piece of the part may be halved
+abbrev pub fine_in : Members → Result ℕ MachineFault
+fine_in members = ok_or (option_map unsigned_abs (integer_or (pos 0) (pos 0) (pos 12) (codes "fine") members)) (BadField 0 29)
 
 -- there are too many frames, boxes above the bed, boxes below it, or stages
 abbrev pub too_many : List Data → List Data → List Data → List Data → Bool
-too_many frames upper lower stages = (nat_lt MOST_FRAMES (length frames) || nat_lt MOST_BOXES (length upper)) || (nat_lt MOST_BOXES (length lower) || nat_lt MOST_STAGES (length stages))
+too_many frames upper lower stages = (nat_lt most_frames (length frames) || nat_lt most_fixed_boxes (length upper)) || (nat_lt most_fixed_boxes (length lower) || nat_lt most_stages (length stages))
 
 -- what is fixed on the machine: the upper boxes lie above the bed's height, the lower ones below
 unfoldable pub fixtures_of : List ℤ → List Data → List Data → List Data → Result FixturesData MachineFault
@@ -161,13 +165,14 @@ machine_of_members members = do
   stages ← stages_in members
   gang ← gang_in members
   force ← force_in members
-  known ← refuse_if (has_unknown_key (codes "bed" ∷ codes "frames" ∷ codes "upper" ∷ codes "lower" ∷ codes "uncovered" ∷ codes "gauge" ∷ codes "cost" ∷ codes "stage" ∷ codes "gang" ∷ codes "force" ∷ []) members) (UnknownKey 0)
+  fine ← fine_in members
+  known ← refuse_if (has_unknown_key (codes "bed" ∷ codes "frames" ∷ codes "upper" ∷ codes "lower" ∷ codes "uncovered" ∷ codes "gauge" ∷ codes "cost" ∷ codes "stage" ∷ codes "gang" ∷ codes "force" ∷ codes "fine" ∷ []) members) (UnknownKey 0)
   few ← refuse_if (too_many frames upper lower stages) (TooMany 0)
   fixtures ← fixtures_of ends frames upper lower
   gauge_rule ← gauge_of gauge
   costs ← costs_of cost
   stage_texts ← each_from stage_text_in 0 stages
-  Ok (record { bed = fixtures.bed; frames = fixtures.frames; upper = fixtures.upper; lower = fixtures.lower; uncovered = uncovered; gauge = gauge_rule; cost = costs; stages = stage_texts; gang = int_eq gang (pos 1); force = force })
+  Ok (record { bed = fixtures.bed; frames = fixtures.frames; upper = fixtures.upper; lower = fixtures.lower; uncovered = uncovered; gauge = gauge_rule; cost = costs; stages = stage_texts; gang = int_eq gang (pos 1); force = force; fine = fine })
 
 -- the machine of a file's bytes, or the first refusal
 abbrev pub machine_of : List ℕ → Result MachineData MachineFault

@@ -1,5 +1,5 @@
-//! The bounds of what a machine file may say, each said once: the reader, the tests of validity
-//! and the definitions cite them. Lengths are in micrometres.
+//! The bounds of what a machine file may say, as the reader and the tests of validity take them; the
+//! definitions have their own (`specs/Bounds.antt`). Lengths are in micrometres.
 
 /// The greatest distance of a coordinate from 0: 20 m.
 pub const COORDINATE_LIMIT: i64 = 20_000_000;

@@ -58,7 +58,8 @@ pub struct StageText {
 
 /// A press brake. `uncovered` is how much of a bend line may stay uncovered by its stage at each
 /// end; `gang` says whether several flanges of one side may be bent in one stroke; `force` is the
-/// greatest force in newtons, and 0 where there is no limit.
+/// greatest force in newtons, and 0 where there is no limit; `fine` is how often in a row a piece of
+/// the part may be halved in the sweep.
 #[derive(Debug, Drop)]
 pub struct Machine {
     pub bed: (i64, i64),
@@ -71,6 +72,7 @@ pub struct Machine {
     pub stages: ArrayVec<StageText, MOST_STAGES>,
     pub gang: bool,
     pub force: i64,
+    pub fine: u8,
 }
 
 /// The heights between which a box must lie.

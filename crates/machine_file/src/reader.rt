@@ -3,7 +3,7 @@ ghost use Rattle.std.specs.Prelude.{◌≡◌, ◌≤◌, IfOk, IsFalse, length,
 ghost use Rattle.toml.specs.View.{view, table_view};
 ghost use Rattle.toml_fields.specs.Results.{Gives, GivesOr};
 ghost use Rattle.machine_file.specs.Machine.{machine_data, IsMachine};
-ghost use Rattle.machine_file.specs.MachineFile.{ends_in, rows_in, uncovered_in, table_in, stages_in, gang_in, force_in, too_many, machine_of, machine_of_members};
+ghost use Rattle.machine_file.specs.MachineFile.{ends_in, rows_in, uncovered_in, table_in, stages_in, gang_in, force_in, fine_in, too_many, machine_of, machine_of_members};
 
 use crate::bounds::{GREATEST_FORCE, GREATEST_UNCOVERED, MOST_BOXES, MOST_FRAMES, MOST_STAGES};
 use crate::boxes::{bad_field, fixtures_of};
@@ -19,7 +19,7 @@ use toml_fields::{
 };
 
 /// The keys of the top table.
-const KEYS: [&str; 10] = [
+const KEYS: [&str; 11] = [
     "bed",
     "frames",
     "upper",
@@ -30,6 +30,7 @@ const KEYS: [&str; 10] = [
     "stage",
     "gang",
     "force",
+    "fine",
 ];
 
 /// The two ends of the bed.
@@ -91,6 +92,16 @@ fn force_in(table: &Table) -> Result<i64, MachineFault>
     integer_or(table, "force", 0, 0, GREATEST_FORCE).ok_or(bad_field(0, 28))
 }
 
+/// How often in a row a piece of the part may be halved.
+fn fine_in(table: &Table) -> Result<u8, MachineFault>
+    ensures value { result ≡ fine_in (table_view table.now) }
+{
+    match integer_or(table, "fine", 0, 0, 12) {
+        Some(fine) => Ok(fine as u8),
+        None => Err(bad_field(0, 29)),
+    }
+}
+
 /// Whether there are too many frames, boxes above the bed, boxes below it, or stages.
 #[tactic(auto, using(toml_fields::proofs::Sizes::sizes))]
 fn are_too_many(frames: &[Value], upper: &[Value], lower: &[Value], stages: &[Value]) -> bool
@@ -123,6 +134,7 @@ fn machine_of_members(table: &Table) -> Result<Machine, MachineFault>
     let stages = stages_in(table)?;
     let gang = gang_in(table)?;
     let force = force_in(table)?;
+    let fine = fine_in(table)?;
     if has_unknown_key(table, &KEYS) {
         return Err(MachineFault::UnknownKey { table: 0 });
     }
@@ -144,6 +156,7 @@ fn machine_of_members(table: &Table) -> Result<Machine, MachineFault>
         stages,
         gang: gang == 1,
         force,
+        fine,
     })
 }
 

@@ -1,3 +1,4 @@
 pub mod Paths
+pub mod PathBends
 pub mod Elements
 pub mod ReasonSupport

@@ -13,7 +13,7 @@ use Rattle.fold_boxes.proofs.PartBounds.{rules_of_joint}
 use Rattle.nogood_book.specs.Support.{is_on_path}
 
 -- the face lies beyond the bend
-abbrev beyond : List FaceData → ℕ → ℕ → Bool
+abbrev pub beyond : List FaceData → ℕ → ℕ → Bool
 beyond faces bend = is_beyond_some faces (λ c. c == bend)
 
 -- a face lies beyond no bend of a greater number
@@ -26,22 +26,22 @@ not_beyond_up_to p part bend (suc n) (suc f) few low inside =
     beyond-bend p.faces (λ c. c == bend) (joint_of_part p part) (suc f) (omega arith) inside
     ∙ (λ i. ne_eqb (suc f) bend (λ e. omega (arith, low, e)) i || inner i)
 
-not_beyond : (p : PartData) → IsPart p → (bend f : ℕ) → f < bend → f < length p.faces → beyond p.faces bend f ≡ false
+pub not_beyond : (p : PartData) → IsPart p → (bend f : ℕ) → f < bend → f < length p.faces → beyond p.faces bend f ≡ false
 not_beyond p part bend f low inside = not_beyond_up_to p part bend f f (omega arith) low inside
 
 -- each bend's child lies beyond it
-beyond_own : (p : PartData) → IsPart p → (bend : ℕ) → 0 < bend → bend < length p.faces → beyond p.faces bend bend ≡ true
+pub beyond_own : (p : PartData) → IsPart p → (bend : ℕ) → 0 < bend → bend < length p.faces → beyond p.faces bend bend ≡ true
 beyond_own p part bend some inside =
     beyond-bend p.faces (λ c. c == bend) (joint_of_part p part) bend some inside
     ∙ ap (λ t. t || beyond p.faces bend (joint_of p.faces bend).on) (eq-eqb bend bend refl)
 
 -- a face and its parent lie beyond the same other bends
-beyond_parent : (p : PartData) → IsPart p → (bend f : ℕ) → 0 < f → f < length p.faces → (f == bend) ≡ false → beyond p.faces bend f ≡ beyond p.faces bend (joint_of p.faces f).on
+pub beyond_parent : (p : PartData) → IsPart p → (bend f : ℕ) → 0 < f → f < length p.faces → (f == bend) ≡ false → beyond p.faces bend f ≡ beyond p.faces bend (joint_of p.faces f).on
 beyond_parent p part bend f some inside other =
     beyond-bend p.faces (λ c. c == bend) (joint_of_part p part) f some inside
     ∙ ap (λ t. t || beyond p.faces bend (joint_of p.faces f).on) other
 
-one_beyond : (a b : Bool) → a ≡ true → b ≡ false → ((a && not b) || (b && not a)) ≡ true
+pub one_beyond : (a b : Bool) → a ≡ true → b ≡ false → ((a && not b) || (b && not a)) ≡ true
 one_beyond a b p q = rw (p, q) refl
 
 none_beyond : (a b : Bool) → a ≡ false → b ≡ false → ((a && not b) || (b && not a)) ≡ true → ⊥

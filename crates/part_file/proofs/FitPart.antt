@@ -5,7 +5,7 @@ use Rattle.toml_fields.specs.Fields.{name_at, text_at, whole_at, has_unknown_key
 use Rattle.toml_fields.specs.Lists.{tables_at}
 use Rattle.toml_fields.specs.Results.{each_from, refuse_if}
 use Rattle.toml_fields.proofs.Bind.{bind_ok, ok_same, ok_or_ok, refused_not, checked_is_name, checked_is_within}
-use Rattle.part_file.specs.declared.bounds.TheConstants.{LEAST_THICKNESS, GREATEST_THICKNESS, LEAST_RADIUS, GREATEST_RADIUS, MOST_FACES}
+use Rattle.part_file.specs.Bounds.{least_thickness, greatest_thickness, least_radius, greatest_radius, most_faces}
 use Rattle.part_file.specs.declared.fault.PartFault.TheVariants.{BadField, UnknownKey, TooMany, OddThickness}
 use Rattle.part_file.specs.Part.{PartData, IsThickness, IsRadius, IsPart}
 use Rattle.part_file.specs.PartFile.{face_items, face_row, faces_of, refuse_faces, thickness_of, radius_of, part_of_table}
@@ -26,7 +26,7 @@ table_fits ms p given =
     let radius = bind_ok (ok_or (radius_of ms) (BadField 0 3)) _ p thickness.2 in
     let items = bind_ok (ok_or (face_items ms) (BadField 0 4)) _ p radius.2 in
     let known = bind_ok (refuse_if (has_unknown_key (codes "material" ∷ codes "thickness" ∷ codes "radius" ∷ codes "face" ∷ []) ms) (UnknownKey 0)) _ p items.2 in
-    let few = bind_ok (refuse_if (nat_lt MOST_FACES (length items.0)) TooMany) _ p known.2 in
+    let few = bind_ok (refuse_if (nat_lt most_faces (length items.0)) TooMany) _ p known.2 in
     let rows = bind_ok (each_from face_row 0 items.0) _ p few.2 in
     let sound = bind_ok (refuse_faces (faces_of rows.0)) _ p rows.2 in
     let even = bind_ok (refuse_if (not (unsigned_abs thickness.0 % 2 == 0)) OddThickness) _ p sound.2 in
@@ -35,12 +35,12 @@ table_fits ms p given =
     let count : length rows.0 ≡ length items.0 = rows_length 0 items.0 rows.0 rows.1 in
     let faces : length (faces_of rows.0) ≡ length rows.0 = faces_length rows.0 in
     let some : 1 ≤ length items.0 = some_items (tables_at (codes "face") ms) items.0 (ok_or_ok (face_items ms) (BadField 0 4) items.0 items.1) in
-    let at_most : length items.0 ≤ MOST_FACES = ltb-false MOST_FACES (length items.0) (refused_not (nat_lt MOST_FACES (length items.0)) TooMany few.0 few.1) in
+    let at_most : length items.0 ≤ most_faces = ltb-false most_faces (length items.0) (refused_not (nat_lt most_faces (length items.0)) TooMany few.0 few.1) in
     let thick : IsThickness thickness.0 = record {
-      range = checked_is_within LEAST_THICKNESS GREATEST_THICKNESS (whole_at (codes "thickness") ms) thickness.0 (ok_or_ok (thickness_of ms) (BadField 0 2) thickness.0 thickness.1);
+      range = checked_is_within least_thickness greatest_thickness (whole_at (codes "thickness") ms) thickness.0 (ok_or_ok (thickness_of ms) (BadField 0 2) thickness.0 thickness.1);
       even = even_is (unsigned_abs thickness.0 % 2) (refused_not (not (unsigned_abs thickness.0 % 2 == 0)) OddThickness even.0 even.1);
     } in
-    let round : IsRadius radius.0 = checked_is_within LEAST_RADIUS GREATEST_RADIUS (whole_at (codes "radius") ms) radius.0 (ok_or_ok (radius_of ms) (BadField 0 3) radius.0 radius.1) in
+    let round : IsRadius radius.0 = checked_is_within least_radius greatest_radius (whole_at (codes "radius") ms) radius.0 (ok_or_ok (radius_of ms) (BadField 0 3) radius.0 radius.1) in
     let fits : IsPart read = record {
       sheet = record { material = checked_is_name (text_at (codes "material") ms) material.0 (ok_or_ok (name_at (codes "material") ms) (BadField 0 1) material.0 material.1); thickness = thick; radius = round };
       some_face = omega arith;

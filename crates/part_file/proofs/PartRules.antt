@@ -11,7 +11,7 @@ use Rattle.std.proofs.lemmas.List.FromFn.{get_or-range_with_len, length-range_wi
 use Rattle.std.proofs.lemmas.Slice.Eq.{bytes_eq-Decides}
 use Rattle.toml_fields.specs.Ranges.{is_within}
 use Rattle.toml_fields.proofs.Decided.{within_decided, at_most_decided}
-use Rattle.part_file.specs.declared.bounds.TheConstants.{LEAST_SIZE, GREATEST_SIZE, MOST_FACES}
+use Rattle.part_file.specs.Bounds.{least_size, greatest_size, most_faces}
 use Rattle.part_file.specs.declared.part.Side.{Side}
 use Rattle.part_file.specs.declared.part.Side.TheVariants.{N, E, S, W}
 use Rattle.part_file.specs.declared.part.Joint.{Joint}
@@ -58,7 +58,7 @@ namesake_is faces b d found within is =
 -- tests that decide the rules of a face
 sizes_decided : (face : FaceData) → Decides (has_sizes face) (HasSizes face)
 sizes_decided face =
-    let both = Decides-and (is_within LEAST_SIZE GREATEST_SIZE face.width) (is_within LEAST_SIZE GREATEST_SIZE face.length) (within_decided LEAST_SIZE GREATEST_SIZE face.width) (within_decided LEAST_SIZE GREATEST_SIZE face.length) in
+    let both = Decides-and (is_within least_size greatest_size face.width) (is_within least_size greatest_size face.length) (within_decided least_size greatest_size face.width) (within_decided least_size greatest_size face.length) in
     Decides-like (has_sizes face) (λ p. record { wide = p.0; long = p.1 }) (λ s. (s.wide, s.long)) both
 
 may_decided : (on : ℕ) (side : Side) → Decides (may_carry on side) (side ≡ S → on ≡ 0)
@@ -128,7 +128,7 @@ not_empty zero empty is given = absurd (both_ways empty (not-true empty given) i
 not_empty (suc n) empty is given = omega arith
 
 -- where the sheet meets the rules and there is a face, the test of all faces decides
-pub faces_decide : (p : PartData) (n : ℕ) (empty passed : Bool) → length p.faces ≡ n → n ≤ MOST_FACES → IsSheet p → empty ≡ (n == 0) → not empty ≡ true → (IsTrue passed ↔ ((b : ℕ) → b < n → IsFaceOf p.faces b)) → IsTrue passed ↔ IsPart p
+pub faces_decide : (p : PartData) (n : ℕ) (empty passed : Bool) → length p.faces ≡ n → n ≤ most_faces → IsSheet p → empty ≡ (n == 0) → not empty ≡ true → (IsTrue passed ↔ ((b : ℕ) → b < n → IsFaceOf p.faces b)) → IsTrue passed ↔ IsPart p
 faces_decide p n empty passed count few sheet is given faces =
     let some : 0 < n = not_empty n empty is given in (
       λ t. record { sheet = sheet; some_face = omega arith; few_faces = omega arith; each_face = λ b within. faces.0 t b (omega arith) },

@@ -1,3 +1,4 @@
+pub mod Bounds
 pub mod Part
 pub mod Rules
 pub mod Rows

@@ -4,7 +4,7 @@ use Rattle.std.specs.List.{list_any, slice_index_or}
 use Rattle.brake_base.specs.declared.space.V3.{V3}
 use Rattle.toml_fields.specs.Fields.{is_name}
 use Rattle.toml_fields.specs.Ranges.{IsWithin}
-use Rattle.part_file.specs.declared.bounds.TheConstants.{LEAST_THICKNESS, GREATEST_THICKNESS, LEAST_RADIUS, GREATEST_RADIUS, LEAST_SIZE, GREATEST_SIZE, MOST_FACES}
+use Rattle.part_file.specs.Bounds.{least_thickness, greatest_thickness, least_radius, greatest_radius, least_size, greatest_size, most_faces}
 use Rattle.part_file.specs.declared.part.Side.{Side}
 use Rattle.part_file.specs.declared.part.Side.TheVariants.{N, E, S, W}
 use Rattle.part_file.specs.declared.part.Joint.{Joint}
@@ -109,12 +109,12 @@ pub record IsPath (faces : List FaceData) (from : ℕ) (bends : List ℕ) (to : 
 
 -- a thickness of the sheet: even and in range
 pub record IsThickness (n : ℤ) : Type 0 where
-  pub range : IsWithin LEAST_THICKNESS GREATEST_THICKNESS n
+  pub range : IsWithin least_thickness greatest_thickness n
   pub even : unsigned_abs n % 2 ≡ 0
 
 -- an inner radius of the bends
 abbrev pub IsRadius : ℤ → Type 0
-IsRadius n = IsWithin LEAST_RADIUS GREATEST_RADIUS n
+IsRadius n = IsWithin least_radius greatest_radius n
 
 -- the sheet: the name of its material, its thickness, and the inner radius of its bends
 pub record IsSheet (p : PartData) : Type 0 where
@@ -124,7 +124,7 @@ pub record IsSheet (p : PartData) : Type 0 where
 
 -- a size of a face
 abbrev pub IsSize : ℤ → Type 0
-IsSize n = IsWithin LEAST_SIZE GREATEST_SIZE n
+IsSize n = IsWithin least_size greatest_size n
 
 -- the sizes of a face
 pub record HasSizes (face : FaceData) : Type 0 where
@@ -167,5 +167,5 @@ pub record IsFaceOf (faces : List FaceData) (b : ℕ) : Type 0 where
 pub record IsPart (p : PartData) : Type 0 where
   pub sheet : IsSheet p
   pub some_face : 0 < length p.faces
-  pub few_faces : length p.faces ≤ MOST_FACES
+  pub few_faces : length p.faces ≤ most_faces
   pub each_face : (b : ℕ) → b < length p.faces → IsFaceOf p.faces b

@@ -6,7 +6,7 @@ use Rattle.toml_fields.specs.Document.{document_of}
 use Rattle.toml_fields.specs.Fields.{text_at, name_at, integer_at, whole_at, has_unknown_key}
 use Rattle.toml_fields.specs.Lists.{tables_at}
 use Rattle.toml_fields.specs.Results.{◌>>=◌, each_from, refuse_if, refuse_first}
-use Rattle.part_file.specs.declared.bounds.TheConstants.{LEAST_THICKNESS, GREATEST_THICKNESS, LEAST_RADIUS, GREATEST_RADIUS, MOST_FACES}
+use Rattle.part_file.specs.Bounds.{least_thickness, greatest_thickness, least_radius, greatest_radius, most_faces}
 use Rattle.part_file.specs.declared.fault.PartFault.{PartFault}
 use Rattle.part_file.specs.declared.fault.PartFault.TheVariants.{NotToml, BadField, UnknownKey, TooMany, BadSize, UnknownParent, OddThickness, SameName}
 use Rattle.part_file.specs.declared.part.Side.{Side}
@@ -89,11 +89,11 @@ refuse_faces faces = do
 
 -- the thickness of the sheet
 abbrev pub thickness_of : Members → Option ℤ
-thickness_of members = integer_at LEAST_THICKNESS GREATEST_THICKNESS (codes "thickness") members
+thickness_of members = integer_at least_thickness greatest_thickness (codes "thickness") members
 
 -- the inner radius of the bends
 abbrev pub radius_of : Members → Option ℤ
-radius_of members = integer_at LEAST_RADIUS GREATEST_RADIUS (codes "radius") members
+radius_of members = integer_at least_radius greatest_radius (codes "radius") members
 
 -- the part of the top table
 unfoldable pub part_of_table : Members → Result PartData PartFault
@@ -103,7 +103,7 @@ part_of_table members = do
   radius ← ok_or (radius_of members) (BadField 0 3)
   items ← ok_or (face_items members) (BadField 0 4)
   known ← refuse_if (has_unknown_key (codes "material" ∷ codes "thickness" ∷ codes "radius" ∷ codes "face" ∷ []) members) (UnknownKey 0)
-  few ← refuse_if (nat_lt MOST_FACES (length items)) TooMany
+  few ← refuse_if (nat_lt most_faces (length items)) TooMany
   rows ← each_from face_row 0 items
   sound ← refuse_faces (faces_of rows)
   even ← refuse_if (not (unsigned_abs thickness % 2 == 0)) OddThickness

@@ -2,7 +2,7 @@
 use Rattle.std.specs.Prelude.{ℕ, ℤ, pos, ◌+ℤ◌, int_le, List, take, Bool, true, not, ◌&&◌, nat_lt, ◌==◌, bytes_eq, Option, Some, None, is_some}
 use Rattle.std.specs.List.{list_any}
 use Rattle.toml_fields.specs.Ranges.{is_within}
-use Rattle.part_file.specs.declared.bounds.TheConstants.{LEAST_SIZE, GREATEST_SIZE}
+use Rattle.part_file.specs.Bounds.{least_size, greatest_size}
 use Rattle.part_file.specs.declared.part.Side.{Side}
 use Rattle.part_file.specs.declared.part.Side.TheVariants.{S}
 use Rattle.part_file.specs.declared.part.Joint.{Joint}
@@ -18,7 +18,7 @@ lacks_parent faces f = not (f == 0) && not (is_some (joint_at faces f))
 
 -- both sizes are in range
 abbrev pub has_sizes : FaceData → Bool
-has_sizes face = is_within LEAST_SIZE GREATEST_SIZE face.width && is_within LEAST_SIZE GREATEST_SIZE face.length
+has_sizes face = is_within least_size greatest_size face.width && is_within least_size greatest_size face.length
 
 -- a face may stand on this side of the face of a number: on an S side only of face 0
 abbrev pub may_carry : ℕ → Side → Bool

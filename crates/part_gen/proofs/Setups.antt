@@ -135,6 +135,7 @@ is_setup = record {
     cost = record { stroke = omega arith; quarter = omega arith; half = omega arith; flip = omega arith; roll = omega arith; stage = omega arith };
     uncovered = record { bottom = omega (arith, ints); top = omega (arith, ints) };
     force = record { bottom = omega (arith, ints); top = omega (arith, ints) };
+    fine = omega arith;
   };
   stages = record {
     each = All-cons IsStage stage_a (stage_b ∷ []) is_stage_a (alone IsStage stage_b is_stage_b);

@@ -40,7 +40,7 @@ gauge_rule = record { near = pos 5000; far = pos 600000; inset = pos 5000; finge
 abbrev pub handling_costs : Costs
 handling_costs = record { stroke = 100; quarter = 20; half = 30; flip = 60; roll = 80; stage = 40 }
 
--- a bed of 3 m with a stage of 100 mm and one of 60 mm, without gang strokes and without a limit of force
+-- a bed of 3 m with a stage of 100 mm and one of 60 mm, without gang strokes, without a limit of force and with whole covers
 unfoldable pub common_setup : SetupData
 common_setup = record {
   bed = (pos 0, pos 3000000);
@@ -53,4 +53,5 @@ common_setup = record {
   stages = stage_at (pos 200000) (pos 100000) ∷ stage_at (pos 600000) (pos 60000) ∷ [];
   gang = false;
   force = pos 0;
+  fine = 0;
 }

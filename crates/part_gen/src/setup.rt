@@ -124,8 +124,8 @@ fn handling_costs() -> Costs
     }
 }
 
-/// A bed of 3 m with a stage of 100 mm and one of 60 mm, without gang strokes and without a limit
-/// of force.
+/// A bed of 3 m with a stage of 100 mm and one of 60 mm, without gang strokes, without a limit of
+/// force and with whole covers.
 #[tactic(auto, unfolding(crate::specs::CommonSetup::common_setup))]
 pub(crate) fn common_setup() -> Setup
     ensures { setup_data result ≡ common_setup }
@@ -148,5 +148,6 @@ pub(crate) fn common_setup() -> Setup
         stages,
         gang: false,
         force: 0,
+        fine: 0,
     }
 }

@@ -13,6 +13,7 @@ use Rattle.brake_base.specs.Actions.{back_number, number_of_action}
 use Rattle.brake_base.specs.Keys.{KeyIsBefore}
 use Rattle.job_setup.specs.Setup.{JobData, bend_count, stage_count}
 use Rattle.job_setup.specs.StrokeGroup.{is_lead}
+use Rattle.handling_cost.specs.StepCost.{IsActionOf}
 use Rattle.cert_words.specs.LineWords.{◌>>=◌}
 use Rattle.cert_words.specs.PlanWords.{step_in, claim_in, row_in, note_in}
 use Rattle.plan_cert.specs.declared.format.Format.{Format}
@@ -23,7 +24,7 @@ use Rattle.plan_cert.specs.declared.section.Section.TheVariants as sections
 use Rattle.plan_cert.specs.declared.section.PlanLine.{PlanLine}
 use Rattle.plan_cert.specs.declared.section.PlanLine.TheVariants as kinds
 use Rattle.plan_cert.specs.Lines.{action_at}
-use Rattle.plan_cert.specs.WellFormed.{IsWorth, IsActionOf, IsStep, IsRow, IsReasonInRange}
+use Rattle.plan_cert.specs.WellFormed.{IsWorth, IsStep, IsRow, IsReasonInRange}
 use Rattle.plan_cert.specs.LineReading.{only_if}
 use Rattle.plan_cert.specs.PlanReading.{is_before, behind_claim, are_enough, may_be_row, take_claim, step_behind, take_step, row_behind, take_row, noted, note_behind, take_note, plan_line_of, take_plan_words, take_plan_line}
 use Rattle.plan_cert.proofs.Actions.{action_is, few_actions}

@@ -1,19 +1,19 @@
--- Each job line leaves the format as it was, and in version 1 tells of no gangs, forces and loads.
+-- Each job line leaves the format as it was, and in version 1 tells of no gangs, forces, depths and loads.
 use Rattle.std.proofs.Common.{◌≡◌, ℕ, Bool, true, false, ◌&&◌, List, length, All, ℤ, pos, Option, Some, None, refl, sym, ap, ◌∙◌}
 use Rattle.std.proofs.lemmas.Bool.{false≢true, and_parts}
 use Rattle.std.proofs.lemmas.List.Elements.{All-push}
 use Rattle.std.specs.Prelude.{if◌then◌else◌}
 use Rattle.machine_file.specs.declared.machine.Costs.{Costs}
 use Rattle.cert_words.specs.LineWords.{◌>>=◌}
-use Rattle.cert_words.specs.JobWords.{number_in, pair_in, rect_in, fixed_in, part_in, gauge_in, costs_in, costs_of, gang_of, punch_in, die_in, pieces_in}
+use Rattle.cert_words.specs.JobWords.{number_in, pair_in, rect_in, fixed_in, part_in, gauge_in, costs_in, costs_of, gang_of, fine_of, punch_in, die_in, pieces_in}
 use Rattle.plan_cert.specs.FirstVersion.{HasNoLoad}
 use Rattle.plan_cert.specs.LineReading.{only_if, keyword_in, behind_keyword}
 use Rattle.plan_cert.specs.Formats.{has_loads}
-use Rattle.plan_cert.specs.LineKinds.{is_gauge, is_cost, is_gang, is_pieces, job_line_behind}
+use Rattle.plan_cert.specs.LineKinds.{is_gauge, is_cost, is_gang, is_force, is_pieces, job_line_behind}
 use Rattle.plan_cert.specs.JobLines.{JobLinesData, has_room}
 use Rattle.plan_cert.specs.PartReading.{face_behind, with_face, with_part, may_take_face, may_take_part, take_part, take_face}
 use Rattle.plan_cert.specs.FixtureReading.{with_bed, with_frame, with_lower, with_upper, may_take_bed, may_take_frame, may_take_lower, may_take_upper, take_bed, take_frame, take_upper, take_lower}
-use Rattle.plan_cert.specs.RuleReading.{with_costs, with_gang, with_force, with_gauge, with_uncovered, may_take_force, may_take_gauge, may_take_uncovered, may_take_gang, take_uncovered, take_gauge, take_force, take_cost, take_gang}
+use Rattle.plan_cert.specs.RuleReading.{with_costs, with_gang, with_force, with_fine, with_gauge, with_uncovered, may_take_force, may_take_gauge, may_take_uncovered, may_take_gang, may_take_fine, take_uncovered, take_gauge, take_force, take_cost, take_gang, take_fine}
 use Rattle.plan_cert.specs.StageReading.{with_stage, with_pieces, behind_pieces, with_load, with_range, may_take_stage, may_take_pieces, may_take_load, take_stage, take_pieces, take_load}
 use Rattle.plan_cert.specs.ToolReading.{with_die, with_die_box, with_punch, with_punch_box, may_take_die, may_take_die_box, may_take_punch, may_take_punch_box, take_punch, take_punch_box, take_die_box, take_die}
 use Rattle.plan_cert.specs.JobReading.{take_words, take_line}
@@ -27,24 +27,25 @@ use Rattle.plan_cert.proofs.PlanRanges.{Each, each_weaker}
 abbrev pub SameFormat : JobLinesData → JobLinesData → Type 0
 SameFormat old new = new.format ≡ old.format
 
--- nothing is told of gangs, forces and loads
-pub record TellsNone (last : LineKind) (gang : Bool) (force : ℤ) (stages : List StageData) (load limit : ℤ) : Type 0 where
+-- nothing is told of gangs, forces, depths and loads
+pub record TellsNone (last : LineKind) (gang : Bool) (force : ℤ) (fine : ℕ) (stages : List StageData) (load limit : ℤ) : Type 0 where
   pub no_gang_line : is_gang last ≡ false
   pub no_gangs : gang ≡ false
   pub no_force : force ≡ pos 0
+  pub no_fine : fine ≡ 0
   pub no_loads : All HasNoLoad stages
   pub no_load : load ≡ pos 0
   pub no_limit : limit ≡ pos 0
 
 abbrev pub TellsAsFormat : JobLinesData → Type 0
-TellsAsFormat s = has_loads s.format ≡ false → TellsNone s.last s.setup.gang s.setup.force s.setup.stages s.stage.load s.stage.limit
+TellsAsFormat s = has_loads s.format ≡ false → TellsNone s.last s.setup.gang s.setup.force s.setup.fine s.setup.stages s.stage.load s.stage.limit
 
 abbrev pub Keeps : JobLinesData → JobLinesData → Type 0
 Keeps old new = SameFormat old new × (TellsAsFormat old → TellsAsFormat new)
 
 -- a line of another kind than that of gangs, which tells of none of these
-another : (s : JobLinesData) (next : LineKind) → is_gang next ≡ false → TellsAsFormat s → has_loads s.format ≡ false → TellsNone next s.setup.gang s.setup.force s.setup.stages s.stage.load s.stage.limit
-another s next is told none = let before = told none in record { no_gang_line = is; no_gangs = before.no_gangs; no_force = before.no_force; no_loads = before.no_loads; no_load = before.no_load; no_limit = before.no_limit }
+another : (s : JobLinesData) (next : LineKind) → is_gang next ≡ false → TellsAsFormat s → has_loads s.format ≡ false → TellsNone next s.setup.gang s.setup.force s.setup.fine s.setup.stages s.stage.load s.stage.limit
+another s next is told none = let before = told none in record { no_gang_line = is; no_gangs = before.no_gangs; no_force = before.no_force; no_fine = before.no_fine; no_loads = before.no_loads; no_load = before.no_load; no_limit = before.no_limit }
 
 kept_by : {A : Type 0} (s : JobLinesData) (b : Bool) (x : Option A) (f : A → JobLinesData) → ((a : A) → b ≡ true → Keeps s (f a)) → Each (Keeps s) (only_if b (x >>= λ a. Some (f a)))
 kept_by s true (Some a) f same = same a refl
@@ -89,7 +90,7 @@ kept_force s text = kept_by s (may_take_force s) (number_in text) (λ a. with_fo
 
 kept_stage : (s : JobLinesData) (text : List ℕ) → Each (Keeps s) (take_stage s text)
 unfolding take_stage with_range
-kept_stage s text = kept_by s (may_take_stage s) (pair_in text) (λ a. with_range s a) (λ a may. (refl, λ told none. let before = told none in record { no_gang_line = refl; no_gangs = before.no_gangs; no_force = before.no_force; no_loads = before.no_loads; no_load = refl; no_limit = refl }))
+kept_stage s text = kept_by s (may_take_stage s) (pair_in text) (λ a. with_range s a) (λ a may. (refl, λ told none. let before = told none in record { no_gang_line = refl; no_gangs = before.no_gangs; no_force = before.no_force; no_fine = before.no_fine; no_loads = before.no_loads; no_load = refl; no_limit = refl }))
 
 kept_punch : (s : JobLinesData) (text : List ℕ) → Each (Keeps s) (take_punch s text)
 unfolding take_punch with_punch
@@ -129,6 +130,15 @@ kept_gang : (s : JobLinesData) (text : List ℕ) → Each (Keeps s) (take_gang s
 unfolding take_gang
 kept_gang s text = kept_by s (may_take_gang s) (number_in text) (λ n. with_gang s (gang_of n)) (λ n may. with_loads s (is_cost s.last) (with_gang s (gang_of n)) may (same_gang s (gang_of n)))
 
+same_fine : (s : JobLinesData) (depth : Option ℕ) → SameFormat s (with_fine s depth)
+unfolding with_fine
+same_fine s None = refl
+same_fine s (Some depth) = refl
+
+kept_fine : (s : JobLinesData) (text : List ℕ) → Each (Keeps s) (take_fine s text)
+unfolding take_fine
+kept_fine s text = kept_by s (may_take_fine s) (number_in text) (λ n. with_fine s (fine_of n)) (λ n may. with_loads s (is_force s.last) (with_fine s (fine_of n)) may (same_fine s (fine_of n)))
+
 keeps_pieces : (s : JobLinesData) (pieces : List ℤ) → Keeps s (behind_pieces (with_pieces s pieces))
 unfolding with_pieces with_stage
 keeps_pieces s pieces = by_loads (has_loads (with_pieces s pieces).format)
@@ -141,6 +151,7 @@ keeps_pieces s pieces = by_loads (has_loads (with_pieces s pieces).format)
         no_gang_line = refl;
         no_gangs = before.no_gangs;
         no_force = before.no_force;
+        no_fine = before.no_fine;
         no_loads = All-push HasNoLoad s.setup.stages (record s.stage { pieces = pieces }) before.no_loads (before.no_load, before.no_limit);
         no_load = refl;
         no_limit = refl;
@@ -173,6 +184,7 @@ kept_words s kinds.Gauge text = kept_gauge s text
 kept_words s kinds.Cost text = kept_cost s text
 kept_words s kinds.Gang text = kept_gang s text
 kept_words s kinds.Force text = kept_force s text
+kept_words s kinds.Fine text = kept_fine s text
 kept_words s kinds.Stage text = kept_stage s text
 kept_words s kinds.Punch text = kept_punch s text
 kept_words s kinds.PunchBox text = kept_punch_box s text

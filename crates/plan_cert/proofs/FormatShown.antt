@@ -1,5 +1,5 @@
 -- The job lines that a reader took in any format are those of version 2 that the format has.
-use Rattle.std.proofs.Common.{◌≡◌, ℤ, Bool, true, false, List, [], ◌∷◌, ◌++◌, filter, cond, refl, sym, ap, subst, ◌∙◌}
+use Rattle.std.proofs.Common.{◌≡◌, ℕ, ◌==◌, pos, ℤ, Bool, true, false, List, [], ◌∷◌, ◌++◌, filter, cond, refl, sym, ap, subst, ◌∙◌}
 use Rattle.std.specs.Prelude.{if◌then◌else◌}
 use Rattle.std.proofs.lemmas.Bool.{false≢true}
 use Rattle.std.proofs.lemmas.List.{append-nil}
@@ -15,14 +15,14 @@ use Rattle.plan_cert.specs.declared.format.Format.{Format}
 use Rattle.plan_cert.specs.declared.format.Format.TheVariants.{Version1, Version2, Table}
 use Rattle.plan_cert.specs.declared.line_kind.LineKind.{LineKind}
 use Rattle.plan_cert.specs.declared.line_kind.LineKind.TheVariants as kinds
-use Rattle.plan_cert.specs.Lines.{CertLine, part_line, face_line, bed_line, frame_line, upper_line, lower_line, uncovered_line, gauge_line, gang_line, force_line, stage_line, punch_line, die_line, box_line, pieces_line, load_line}
+use Rattle.plan_cert.specs.Lines.{CertLine, part_line, face_line, bed_line, frame_line, upper_line, lower_line, uncovered_line, gauge_line, gang_line, force_line, fine_line, stage_line, punch_line, die_line, box_line, pieces_line, load_line}
 use Rattle.plan_cert.specs.JobText.{part_lines, costs_line, gang_number}
 use Rattle.plan_cert.specs.Formats.{has_loads}
-use Rattle.plan_cert.specs.LineKinds.{begins_job, is_face, may_be_frame, may_be_upper, may_be_lower, is_uncovered, is_gauge, is_cost, is_gang, is_complete, is_stage, is_of_punch, is_of_die, is_pieces}
+use Rattle.plan_cert.specs.LineKinds.{begins_job, is_face, may_be_frame, may_be_upper, may_be_lower, is_uncovered, is_gauge, is_cost, is_gang, is_force, is_complete, is_stage, is_of_punch, is_of_die, is_pieces}
 use Rattle.plan_cert.specs.JobLines.{begun_stage}
 use Rattle.plan_cert.proofs.FormatLines.{lines_append, lines_kept}
-use Rattle.plan_cert.proofs.LineKinds.{rules_end, stage_end, from_begin, from_face, from_frame, from_upper, from_lower, from_uncovered, from_gauge, from_cost, from_gang, from_complete, from_stage, from_punch, from_die, from_pieces}
-use Rattle.plan_cert.proofs.JobLinesShown.{shown, Fresh, Grows, part_grows, face_grows, bed_grows, frame_grows, upper_grows, lower_grows, uncovered_grows, gauge_grows, cost_grows, gang_grows, force_grows, stage_grows, punch_grows, punch_box_grows, die_grows, die_box_grows, pieces_grows, load_grows}
+use Rattle.plan_cert.proofs.LineKinds.{rules_end, stage_end, from_begin, from_face, from_frame, from_upper, from_lower, from_uncovered, from_gauge, from_cost, from_gang, from_force, from_complete, from_stage, from_punch, from_die, from_pieces}
+use Rattle.plan_cert.proofs.JobLinesShown.{shown, Fresh, Grows, part_grows, face_grows, bed_grows, frame_grows, upper_grows, lower_grows, uncovered_grows, gauge_grows, cost_grows, gang_grows, force_grows, fine_grows, stage_grows, punch_grows, punch_box_grows, die_grows, die_box_grows, pieces_grows, load_grows}
 
 -- where a line of a kind stands last, one of this kind does in version 2: without loads the line of costs ends the rules, and that of pieces a stage
 abbrev pub last_in : LineKind → Format → LineKind
@@ -115,7 +115,7 @@ pub gauge_grows_in : (format : Format) (p : PartData) (q : ℤ) (su : SetupData)
 gauge_grows_in format p q su sg g last is =
     grows_in format last last p q su sg kinds.Gauge kinds.Gauge p q (record su { gauge = g }) sg (gauge_line g) (from_uncovered (Stays format) last refl is) refl (has_old format (gauge_line g) refl) (gauge_grows p q su sg g last is)
 
--- the line of costs ends the rules of version 1: those of gangs and forces are left out
+-- the line of costs ends the rules of version 1: those of gangs and forces are left out, and no depth is kept
 cost_ends : (p : PartData) (q : ℤ) (su : SetupData) (sg : StageData) (c : Costs) (last : LineKind) → is_gauge last ≡ true → Fresh last su
     → filter is_of_version1 (shown kinds.Force p q (record su { cost = c }) sg) ≡ filter is_of_version1 (shown last p q su sg) ++ costs_line c ∷ []
 cost_ends p q su sg c last is fresh =
@@ -130,7 +130,7 @@ cost_ends p q su sg c last is fresh =
 pub cost_grows_in : (format : Format) (p : PartData) (q : ℤ) (su : SetupData) (sg : StageData) (c : Costs) (last : LineKind) → is_gauge last ≡ true → GrowsIn format last p q su sg kinds.Cost p q (record su { cost = c }) sg (costs_line c)
 cost_grows_in Version1 p q su sg c last is =
     let stays : Stays Version1 last = from_gauge (Stays Version1) last refl is in
-    λ fresh. (tt, cost_ends p q su sg c last is (subst (λ (k : LineKind). Fresh k su) stays fresh) ∙ ap (λ (k : LineKind). filter is_of_version1 (shown k p q su sg) ++ costs_line c ∷ []) (sym stays))
+    λ fresh. ((cost_grows p q su sg c last is (subst (λ (k : LineKind). Fresh k su) stays fresh)).0, cost_ends p q su sg c last is (subst (λ (k : LineKind). Fresh k su) stays fresh) ∙ ap (λ (k : LineKind). filter is_of_version1 (shown k p q su sg) ++ costs_line c ∷ []) (sym stays))
 cost_grows_in Version2 p q su sg c last is =
     grows_in Version2 last last p q su sg kinds.Cost kinds.Cost p q (record su { cost = c }) sg (costs_line c) (from_gauge (Stays Version2) last refl is) refl refl (cost_grows p q su sg c last is)
 cost_grows_in Table p q su sg c last is = grows_in Table last last p q su sg kinds.Cost kinds.Cost p q (record su { cost = c }) sg (costs_line c) (from_gauge (Stays Table) last refl is) refl refl (cost_grows p q su sg c last is)
@@ -151,6 +151,14 @@ force_grows_in Version2 p q su sg f last has is =
 force_grows_in Table p q su sg f last has is =
     grows_in Table last last p q su sg kinds.Force kinds.Force p q (record su { force = f }) sg (force_line f) (from_gang (Stays Table) last refl is) refl refl (force_grows p q su sg f last is)
 
+pub fine_grows_in : (format : Format) (p : PartData) (q : ℤ) (su : SetupData) (sg : StageData) (depth : ℕ) (last : LineKind) → (depth == 0) ≡ false → has_loads format ≡ true → is_force last ≡ true
+    → GrowsIn format last p q su sg kinds.Fine p q (record su { fine = depth }) sg (fine_line (pos depth))
+fine_grows_in Version1 p q su sg depth last some has is = absurd (false≢true has)
+fine_grows_in Version2 p q su sg depth last some has is =
+    grows_in Version2 last last p q su sg kinds.Fine kinds.Fine p q (record su { fine = depth }) sg (fine_line (pos depth)) (from_force (Stays Version2) last refl is) refl refl (fine_grows p q su sg depth last some is)
+fine_grows_in Table p q su sg depth last some has is =
+    grows_in Table last last p q su sg kinds.Fine kinds.Fine p q (record su { fine = depth }) sg (fine_line (pos depth)) (from_force (Stays Table) last refl is) refl refl (fine_grows p q su sg depth last some is)
+
 pub rules_last : (format : Format) → last_in (rules_end format) format ≡ kinds.Force
 rules_last Version1 = refl
 rules_last Version2 = refl
@@ -167,6 +175,7 @@ stage_grows_in format p q su sg x0 x1 last is =
     let l = stage_line x0 x1 in
     from_complete (λ (k : LineKind). GrowsIn format k p q su sg kinds.Stage p q su sg' l) format last
     (grows_in format (rules_end format) kinds.Force p q su sg kinds.Stage kinds.Stage p q su sg' l (rules_last format) refl (has_old format l refl) (stage_grows p q su sg x0 x1 kinds.Force refl))
+    (grows_in format kinds.Fine kinds.Fine p q su sg kinds.Stage kinds.Stage p q su sg' l refl refl (has_old format l refl) (stage_grows p q su sg x0 x1 kinds.Fine refl))
     (grows_in format (stage_end format) kinds.Load p q su sg kinds.Stage kinds.Stage p q su sg' l (stage_last format) refl (has_old format l refl) (stage_grows p q su sg x0 x1 kinds.Load refl)) is
 
 pub punch_grows_in : (format : Format) (p : PartData) (q : ℤ) (su : SetupData) (sg : StageData) (punch : PunchData) (last : LineKind) → punch.body ≡ [] → is_stage last ≡ true

@@ -222,8 +222,8 @@ fixtures_test s =
 
 abbrev rules_test : (s : SetupData) → Test (HasRules s)
 rules_test s =
-    like (λ r. record { bed = r.0.0; gauge = r.0.1.0; cost = r.0.1.1; uncovered = r.1.0; force = r.1.1 }) (λ r. ((r.bed, (r.gauge, r.cost)), (r.uncovered, r.force)))
-    (both (both (bed_range_test s.bed) (both (gauge_test s.gauge) (costs_test s.cost))) (both (within (pos 0) GREATEST_UNCOVERED s.uncovered) (within (pos 0) GREATEST_FORCE s.force)))
+    like (λ r. record { bed = r.0.0; gauge = r.0.1.0; cost = r.0.1.1; uncovered = r.1.0; force = r.1.1.0; fine = r.1.1.1 }) (λ r. ((r.bed, (r.gauge, r.cost)), (r.uncovered, (r.force, r.fine))))
+    (both (both (bed_range_test s.bed) (both (gauge_test s.gauge) (costs_test s.cost))) (both (within (pos 0) GREATEST_UNCOVERED s.uncovered) (both (within (pos 0) GREATEST_FORCE s.force) (at_most s.fine 12))))
 
 fit_decided : {E : Type 0} (r : Result (Unit {0}) E) → Decides (is_ok r) (r ≡ Ok tt)
 fit_decided (Ok x) = (λ t. refl, λ e. refl)

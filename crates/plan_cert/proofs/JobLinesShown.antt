@@ -1,5 +1,6 @@
 -- The job lines that a reader took are those that are written of what it keeps.
-use Rattle.std.proofs.Common.{◌≡◌, ℤ, pos, Bool, true, List, [], ◌∷◌, ◌++◌, map, refl, sym, ap, ◌∙◌, append_assoc}
+use Rattle.std.proofs.Common.{◌≡◌, ℕ, ◌==◌, false, ℤ, pos, Bool, true, List, [], ◌∷◌, ◌++◌, map, refl, sym, ap, ◌∙◌, append_assoc}
+use Rattle.std.specs.Prelude.{if◌then◌else◌}
 use Rattle.std.specs.List.{flat_map}
 use Rattle.std.proofs.lemmas.Grind.{flat_map-append}
 use Rattle.std.proofs.lemmas.List.{append-nil, map_push}
@@ -13,11 +14,11 @@ use Rattle.job_setup.specs.Setup.{StageData, SetupData}
 use Rattle.plan_cert.specs.declared.format.Format.TheVariants.{Version2}
 use Rattle.plan_cert.specs.declared.line_kind.LineKind.{LineKind}
 use Rattle.plan_cert.specs.declared.line_kind.LineKind.TheVariants as kinds
-use Rattle.plan_cert.specs.Lines.{CertLine, part_line, face_line, bed_line, frame_line, upper_line, lower_line, uncovered_line, gauge_line, gang_line, force_line, stage_line, punch_line, die_line, box_line, pieces_line, load_line}
-use Rattle.plan_cert.specs.JobText.{part_lines, fixture_lines, rule_lines, punch_lines, die_lines, stage_lines, costs_line, gang_number}
-use Rattle.plan_cert.specs.LineKinds.{begins_job, is_face, may_be_frame, may_be_upper, may_be_lower, is_uncovered, is_gauge, is_cost, is_gang, is_complete, is_stage, is_of_punch, is_of_die, is_pieces}
+use Rattle.plan_cert.specs.Lines.{CertLine, part_line, face_line, bed_line, frame_line, upper_line, lower_line, uncovered_line, gauge_line, gang_line, force_line, fine_line, stage_line, punch_line, die_line, box_line, pieces_line, load_line}
+use Rattle.plan_cert.specs.JobText.{part_lines, fixture_lines, fine_lines, rule_lines, punch_lines, die_lines, stage_lines, costs_line, gang_number}
+use Rattle.plan_cert.specs.LineKinds.{begins_job, is_face, may_be_frame, may_be_upper, may_be_lower, is_uncovered, is_gauge, is_cost, is_gang, is_force, is_complete, is_stage, is_of_punch, is_of_die, is_pieces}
 use Rattle.plan_cert.specs.JobLines.{begun_stage}
-use Rattle.plan_cert.proofs.LineKinds.{from_begin, from_face, from_frame, from_upper, from_lower, from_uncovered, from_gauge, from_cost, from_gang, from_complete, from_stage, from_punch, from_die, from_pieces}
+use Rattle.plan_cert.proofs.LineKinds.{from_begin, from_face, from_frame, from_upper, from_lower, from_uncovered, from_gauge, from_cost, from_gang, from_force, from_complete, from_stage, from_punch, from_die, from_pieces}
 
 -- the lines up to the fixtures, up to the rules, and up to the stages that are complete
 abbrev pub front : PartData → ℤ → SetupData → List CertLine
@@ -25,6 +26,10 @@ front p q su = part_lines p q ++ fixture_lines su
 
 abbrev pub whole : PartData → ℤ → SetupData → List CertLine
 whole p q su = front p q su ++ rule_lines su ++ flat_map stage_lines su.stages
+
+-- the rules but for the depth
+abbrev pub plain_rules : SetupData → List CertLine
+plain_rules su = uncovered_line su.uncovered ∷ gauge_line su.gauge ∷ costs_line su.cost ∷ gang_line (gang_number su.gang) ∷ force_line su.force ∷ []
 
 -- the lines up to one of a kind
 abbrev pub shown : LineKind → PartData → ℤ → SetupData → StageData → List CertLine
@@ -40,6 +45,7 @@ shown kinds.Gauge p q su sg = front p q su ++ uncovered_line su.uncovered ∷ ga
 shown kinds.Cost p q su sg = front p q su ++ uncovered_line su.uncovered ∷ gauge_line su.gauge ∷ costs_line su.cost ∷ []
 shown kinds.Gang p q su sg = front p q su ++ uncovered_line su.uncovered ∷ gauge_line su.gauge ∷ costs_line su.cost ∷ gang_line (gang_number su.gang) ∷ []
 shown kinds.Force p q su sg = whole p q su
+shown kinds.Fine p q su sg = whole p q su
 shown kinds.Load p q su sg = whole p q su
 shown kinds.Stage p q su sg = whole p q su ++ stage_line sg.x0 sg.x1 ∷ []
 shown kinds.Punch p q su sg = whole p q su ++ (stage_line sg.x0 sg.x1 ∷ punch_lines sg.punch)
@@ -48,19 +54,25 @@ shown kinds.Die p q su sg = whole p q su ++ (stage_line sg.x0 sg.x1 ∷ punch_li
 shown kinds.DieBox p q su sg = whole p q su ++ (stage_line sg.x0 sg.x1 ∷ punch_lines sg.punch ++ die_lines sg.die)
 shown kinds.Pieces p q su sg = whole p q su ++ (stage_line sg.x0 sg.x1 ∷ punch_lines sg.punch ++ die_lines sg.die ++ pieces_line sg.pieces ∷ [])
 
+-- neither stages nor a depth are kept yet
+pub record IsBare (stages : List StageData) (fine : ℕ) : Type 0 where
+  pub no_stages : stages ≡ []
+  pub no_depth : fine ≡ 0
+
 -- nothing is kept yet of what stands behind
 abbrev pub Fresh : LineKind → SetupData → Type 0
-Fresh kinds.Format su = (su.frames ≡ []) × (su.upper ≡ []) × (su.lower ≡ []) × (su.stages ≡ [])
-Fresh kinds.Part su = (su.frames ≡ []) × (su.upper ≡ []) × (su.lower ≡ []) × (su.stages ≡ [])
-Fresh kinds.Face su = (su.frames ≡ []) × (su.upper ≡ []) × (su.lower ≡ []) × (su.stages ≡ [])
-Fresh kinds.Bed su = (su.upper ≡ []) × (su.lower ≡ []) × (su.stages ≡ [])
-Fresh kinds.Frame su = (su.upper ≡ []) × (su.lower ≡ []) × (su.stages ≡ [])
-Fresh kinds.Upper su = (su.lower ≡ []) × (su.stages ≡ [])
-Fresh kinds.Lower su = su.stages ≡ []
-Fresh kinds.Uncovered su = su.stages ≡ []
-Fresh kinds.Gauge su = su.stages ≡ []
-Fresh kinds.Cost su = su.stages ≡ []
-Fresh kinds.Gang su = su.stages ≡ []
+Fresh kinds.Format su = (su.frames ≡ []) × (su.upper ≡ []) × (su.lower ≡ []) × IsBare su.stages su.fine
+Fresh kinds.Part su = (su.frames ≡ []) × (su.upper ≡ []) × (su.lower ≡ []) × IsBare su.stages su.fine
+Fresh kinds.Face su = (su.frames ≡ []) × (su.upper ≡ []) × (su.lower ≡ []) × IsBare su.stages su.fine
+Fresh kinds.Bed su = (su.upper ≡ []) × (su.lower ≡ []) × IsBare su.stages su.fine
+Fresh kinds.Frame su = (su.upper ≡ []) × (su.lower ≡ []) × IsBare su.stages su.fine
+Fresh kinds.Upper su = (su.lower ≡ []) × IsBare su.stages su.fine
+Fresh kinds.Lower su = IsBare su.stages su.fine
+Fresh kinds.Uncovered su = IsBare su.stages su.fine
+Fresh kinds.Gauge su = IsBare su.stages su.fine
+Fresh kinds.Cost su = IsBare su.stages su.fine
+Fresh kinds.Gang su = IsBare su.stages su.fine
+Fresh kinds.Force su = IsBare su.stages su.fine
 Fresh _ su = Unit {0}
 
 -- behind a line of one kind stands one of the next, and is the last that is shown
@@ -146,18 +158,38 @@ gang_grows p q su sg g last is =
     from_cost (λ k. Grows k p q su sg kinds.Gang p q (record su { gang = g }) sg (gang_line (gang_number g))) last
     (λ fresh. (fresh, grown (front p q su) (uncovered_line su.uncovered ∷ gauge_line su.gauge ∷ costs_line su.cost ∷ []) _ (gang_line (gang_number g)) refl)) is
 
+-- without stages and depth all lines are those up to the force
+bare_whole : (p : PartData) (q : ℤ) (su : SetupData) → IsBare su.stages su.fine → whole p q su ≡ front p q su ++ plain_rules su
+bare_whole p q su bare =
+    ap (λ (ss : List StageData). front p q su ++ rule_lines su ++ flat_map stage_lines ss) bare.no_stages ∙ append-nil (front p q su ++ rule_lines su)
+    ∙ ap (λ (n : ℕ). front p q su ++ (plain_rules su ++ fine_lines n)) bare.no_depth
+
 pub force_grows : (p : PartData) (q : ℤ) (su : SetupData) (sg : StageData) (f : ℤ) (last : LineKind) → is_gang last ≡ true → Grows last p q su sg kinds.Force p q (record su { force = f }) sg (force_line f)
 force_grows p q su sg f last is =
-    let rules = rule_lines (record su { force = f }) in
-    from_gang (λ k. Grows k p q su sg kinds.Force p q (record su { force = f }) sg (force_line f)) last
+    let su' : SetupData = record su { force = f } in
+    from_gang (λ k. Grows k p q su sg kinds.Force p q su' sg (force_line f)) last
+    (λ fresh. (
+      fresh,
+      bare_whole p q su' fresh
+          ∙ grown (front p q su) (uncovered_line su.uncovered ∷ gauge_line su.gauge ∷ costs_line su.cost ∷ gang_line (gang_number su.gang) ∷ []) (plain_rules su') (force_line f) refl,
+    )) is
+
+pub fine_grows : (p : PartData) (q : ℤ) (su : SetupData) (sg : StageData) (depth : ℕ) (last : LineKind) → (depth == 0) ≡ false → is_force last ≡ true
+    → Grows last p q su sg kinds.Fine p q (record su { fine = depth }) sg (fine_line (pos depth))
+fine_grows p q su sg depth last some is =
+    let su' : SetupData = record su { fine = depth } in
+    let l = fine_line (pos depth) in
+    from_force (λ k. Grows k p q su sg kinds.Fine p q su' sg l) last
     (λ fresh. (
       tt,
-      ap (λ (ss : List StageData). front p q su ++ rules ++ flat_map stage_lines ss) fresh ∙ append-nil (front p q su ++ rules)
-          ∙ grown (front p q su) (uncovered_line su.uncovered ∷ gauge_line su.gauge ∷ costs_line su.cost ∷ gang_line (gang_number su.gang) ∷ []) rules (force_line f) refl,
+      ap (λ (ss : List StageData). front p q su ++ rule_lines su' ++ flat_map stage_lines ss) fresh.no_stages ∙ append-nil (front p q su ++ rule_lines su')
+          ∙ ap (λ (b : Bool). front p q su ++ (plain_rules su ++ (if b then [] else l ∷ []))) some
+          ∙ grown (front p q su) (plain_rules su) (plain_rules su ++ l ∷ []) l refl
+          ∙ ap (λ (ls : List CertLine). ls ++ l ∷ []) (sym (bare_whole p q su fresh)),
     )) is
 
 pub stage_grows : (p : PartData) (q : ℤ) (su : SetupData) (sg : StageData) (x0 x1 : ℤ) (last : LineKind) → is_complete Version2 last ≡ true → Grows last p q su sg kinds.Stage p q su (begun_stage x0 x1) (stage_line x0 x1)
-stage_grows p q su sg x0 x1 last is = from_complete (λ k. Grows k p q su sg kinds.Stage p q su (begun_stage x0 x1) (stage_line x0 x1)) Version2 last (λ fresh. (tt, refl)) (λ fresh. (tt, refl)) is
+stage_grows p q su sg x0 x1 last is = from_complete (λ k. Grows k p q su sg kinds.Stage p q su (begun_stage x0 x1) (stage_line x0 x1)) Version2 last (λ fresh. (tt, refl)) (λ fresh. (tt, refl)) (λ fresh. (tt, refl)) is
 
 pub punch_grows : (p : PartData) (q : ℤ) (su : SetupData) (sg : StageData) (punch : PunchData) (last : LineKind) → punch.body ≡ [] → is_stage last ≡ true
     → Grows last p q su sg kinds.Punch p q su (record sg { punch = punch }) (punch_line punch.name punch.height punch.nose)

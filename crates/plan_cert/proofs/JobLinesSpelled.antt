@@ -1,11 +1,13 @@
 -- A job line that is taken is spelled as it is written, and is the next of the lines that are written.
-use Rattle.std.proofs.Common.{◌≡◌, ℕ, ℤ, pos, negsuc, Bool, true, false, ◌&&◌, nat_lt, List, [], ◌∷◌, ◌++◌, codes, length, Option, Some, None, refl, sym, ap, subst, ◌∙◌, arith}
+use Rattle.std.proofs.Common.{◌≡◌, ℕ, ◌==◌, ◌≤◌, ℤ, pos, negsuc, Bool, true, false, ◌&&◌, nat_lt, List, [], ◌∷◌, ◌++◌, codes, length, Option, Some, None, refl, sym, ap, subst, ◌∙◌, arith}
 use Rattle.std.specs.Prelude.{if◌then◌else◌, int_le, unsigned_abs}
 use Rattle.std.specs.Ordering.{int_eq}
 use Rattle.std.proofs.lemmas.Bool.{false≢true, and_parts}
 use Rattle.std.proofs.lemmas.Bool.Decides.{Decides-int_eq}
 use Rattle.std.proofs.lemmas.Grind.{common_steps}
 use Rattle.std.proofs.lemmas.Int.{ints}
+use Rattle.toml_fields.specs.Ranges.{IsWithin, is_within}
+use Rattle.toml_fields.proofs.Decided.{within_decided}
 use Rattle.part_file.specs.Part.{FaceData, PartData}
 use Rattle.machine_file.specs.declared.bounds.TheConstants.{MOST_FRAMES, MOST_BOXES}
 use Rattle.tool_library.specs.declared.bounds.TheConstants.{MOST_BOXES as MOST_BODY_BOXES}
@@ -14,16 +16,16 @@ use Rattle.tool_library.specs.Tools.{PunchData, DieData}
 use Rattle.plan_cert.specs.declared.line_kind.LineKind.{LineKind}
 use Rattle.plan_cert.specs.declared.line_kind.LineKind.TheVariants as kinds
 use Rattle.cert_words.specs.LineWords.{◌>>=◌}
-use Rattle.cert_words.specs.JobWords.{number_in, pair_in, rect_in, fixed_in, named_pair_in, named_triple_in, part_in, root_in, child_in, gauge_in, costs_in, costs_of, natural, naturals, gang_of, punch_in, die_in, pieces_in}
-use Rattle.plan_cert.specs.Lines.{CertLine, part_line, face_line, bed_line, frame_line, upper_line, lower_line, uncovered_line, gauge_line, gang_line, force_line, stage_line, punch_line, die_line, box_line, pieces_line, load_line, keyword_of, words_of, fixed_words}
+use Rattle.cert_words.specs.JobWords.{number_in, pair_in, rect_in, fixed_in, named_pair_in, named_triple_in, part_in, root_in, child_in, gauge_in, costs_in, costs_of, natural, naturals, gang_of, fine_of, punch_in, die_in, pieces_in}
+use Rattle.plan_cert.specs.Lines.{CertLine, part_line, face_line, bed_line, frame_line, upper_line, lower_line, uncovered_line, gauge_line, gang_line, force_line, fine_line, stage_line, punch_line, die_line, box_line, pieces_line, load_line, keyword_of, words_of, fixed_words}
 use Rattle.plan_cert.specs.JobText.{costs_line, gang_number}
 use Rattle.plan_cert.specs.LineReading.{only_if, keyword_in, behind_keyword}
 use Rattle.plan_cert.specs.Formats.{has_loads}
-use Rattle.plan_cert.specs.LineKinds.{is_gauge, is_cost, is_gang, is_pieces, is_of_die, is_complete, is_of_punch, may_be_frame, may_be_upper, may_be_lower, box_behind, job_line_behind}
+use Rattle.plan_cert.specs.LineKinds.{is_gauge, is_cost, is_gang, is_force, is_pieces, is_of_die, is_complete, is_of_punch, may_be_frame, may_be_upper, may_be_lower, box_behind, job_line_behind}
 use Rattle.plan_cert.specs.JobLines.{JobLinesData, begun_stage, has_room}
 use Rattle.plan_cert.specs.PartReading.{face_behind, may_take_part, may_take_face, take_part, take_face, with_part, with_face}
 use Rattle.plan_cert.specs.FixtureReading.{may_take_bed, may_take_frame, may_take_upper, may_take_lower, take_bed, take_frame, take_upper, take_lower, with_bed, with_frame, with_upper, with_lower}
-use Rattle.plan_cert.specs.RuleReading.{may_take_uncovered, may_take_gauge, may_take_gang, may_take_force, take_uncovered, take_gauge, take_cost, take_gang, take_force, with_uncovered, with_gauge, with_costs, with_gang, with_force}
+use Rattle.plan_cert.specs.RuleReading.{may_take_uncovered, may_take_gauge, may_take_gang, may_take_force, may_take_fine, take_uncovered, take_gauge, take_cost, take_gang, take_force, take_fine, with_uncovered, with_gauge, with_costs, with_gang, with_force, with_fine}
 use Rattle.plan_cert.specs.StageReading.{may_take_stage, may_take_pieces, may_take_load, take_stage, take_pieces, take_load, with_range, with_pieces, behind_pieces, with_load, with_stage}
 use Rattle.plan_cert.specs.ToolReading.{may_take_punch, may_take_punch_box, may_take_die_box, may_take_die, take_punch, take_punch_box, take_die_box, take_die, with_punch, with_punch_box, with_die_box, with_die}
 use Rattle.plan_cert.specs.JobReading.{take_words, take_line}
@@ -34,7 +36,7 @@ use Rattle.plan_cert.proofs.Spelling.{each_both, Is, by_word, signed_words, pair
 use Rattle.plan_cert.proofs.JobSpelling.{number_alone, pair_alone, rect_alone, fixed_alone, part_words, part_alone, own_words, root_alone, child_alone, gauge_words, gauge_alone, three_words, costs_alone, own_punch_words, punch_alone, own_die_words, die_alone, pieces_alone}
 use Rattle.plan_cert.proofs.LineKinds.{from_face_line}
 use Rattle.plan_cert.proofs.FormatKept.{TellsAsFormat}
-use Rattle.plan_cert.proofs.FormatShown.{shown_in, FreshIn, GrowsIn, part_grows_in, face_grows_in, bed_grows_in, frame_grows_in, upper_grows_in, lower_grows_in, uncovered_grows_in, gauge_grows_in, cost_grows_in, gang_grows_in, force_grows_in, stage_grows_in, punch_grows_in, punch_box_grows_in, die_grows_in, die_box_grows_in, pieces_grows_in, last_pieces_grow, load_grows_in}
+use Rattle.plan_cert.proofs.FormatShown.{shown_in, FreshIn, GrowsIn, part_grows_in, face_grows_in, bed_grows_in, frame_grows_in, upper_grows_in, lower_grows_in, uncovered_grows_in, gauge_grows_in, cost_grows_in, gang_grows_in, force_grows_in, fine_grows_in, stage_grows_in, punch_grows_in, punch_box_grows_in, die_grows_in, die_box_grows_in, pieces_grows_in, last_pieces_grow, load_grows_in}
 
 -- the lines that a reader took
 abbrev pub shown_by : JobLinesData → List CertLine
@@ -117,6 +119,27 @@ gang_is n = by_tests (int_eq n (pos 0)) (int_eq n (pos 1)) refl refl
     by_tests true is_one e f = (Decides-int_eq n (pos 0)).0 e
     by_tests false true e f = (Decides-int_eq n (pos 1)).0 f
     by_tests false false e f = tt
+
+not_zero : (m : ℕ) → 1 ≤ m → (m == 0) ≡ false
+not_zero m some = grind (arith, common_steps)
+
+fine_is : (n : ℤ) → Each (λ depth. ((depth == 0) ≡ false) × (n ≡ pos depth)) (fine_of n)
+fine_is (pos m) = by_test (is_within (pos 1) (pos 12) (pos m)) refl
+  where
+    some : IsWithin (pos 1) (pos 12) (pos m) → (m == 0) ≡ false
+    some h = not_zero m (omega (arith, ints, h.bottom))
+
+    by_test : (b : Bool) → is_within (pos 1) (pos 12) (pos m) ≡ b → Each (λ depth. ((depth == 0) ≡ false) × (pos m ≡ pos depth)) (if b then Some m else None)
+    by_test true e = (some ((within_decided (pos 1) (pos 12) (pos m)).0 e), refl)
+    by_test false e = tt
+fine_is (negsuc m) = by_test (is_within (pos 1) (pos 12) (negsuc m)) refl
+  where
+    none : IsWithin (pos 1) (pos 12) (negsuc m) → ⊥
+    none h = omega (arith, ints, h.bottom)
+
+    by_test : (b : Bool) → is_within (pos 1) (pos 12) (negsuc m) ≡ b → Each (λ depth. ((depth == 0) ≡ false) × (negsuc m ≡ pos depth)) (if b then Some (unsigned_abs (negsuc m)) else None)
+    by_test true e = absurd (none ((within_decided (pos 1) (pos 12) (negsuc m)).0 e))
+    by_test false e = tt
 
 -- the lines, kind by kind
 add_part : (s : JobLinesData) (text : List ℕ) → FreshIn s.format s.last s.setup → Each (Adds s (codes "part") text) (take_part s text)
@@ -221,6 +244,19 @@ add_force s text tells fresh =
     one_kind (Is signed_words text) s (codes "force") text (may_take_force s) (number_in text) (with_force s) (number_alone text)
     (λ may n is. adds s (with_force s n) (codes "force") text (force_line n) refl is (λ sound. sound) (force_grows_in s.format s.part s.q s.setup s.stage n s.last (behind_gang s tells may) may fresh))
 
+with_fine_adds : (s : JobLinesData) (text : List ℕ) (n : ℤ) (depth : Option ℕ) → FreshIn s.format s.last s.setup → has_loads s.format ≡ true → is_force s.last ≡ true → Is signed_words text n → Each (λ d. ((d == 0) ≡ false) × (n ≡ pos d)) depth
+    → Adds s (codes "fine") text (with_fine s depth)
+unfolding with_fine
+with_fine_adds s text n None fresh has may is same = (tt, λ sound. absurd (false≢true sound))
+with_fine_adds s text n (Some d) fresh has may is same =
+    adds s (with_fine s (Some d)) (codes "fine") text (fine_line (pos d)) refl (is ∙ ap (λ (z : ℤ). spelled (signed_words z)) same.1) (λ sound. sound) (fine_grows_in s.format s.part s.q s.setup s.stage d s.last same.0 has may fresh)
+
+add_fine : (s : JobLinesData) (text : List ℕ) → FreshIn s.format s.last s.setup → Each (Adds s (codes "fine") text) (take_fine s text)
+unfolding take_fine
+add_fine s text fresh =
+    one_kind (Is signed_words text) s (codes "fine") text (may_take_fine s) (number_in text) (λ n. with_fine s (fine_of n)) (number_alone text)
+    (λ may n is. let both = and_parts (has_loads s.format) (is_force s.last) may in with_fine_adds s text n (fine_of n) fresh both.0 both.1 is (fine_is n))
+
 add_stage : (s : JobLinesData) (text : List ℕ) → FreshIn s.format s.last s.setup → Each (Adds s (codes "stage") text) (take_stage s text)
 unfolding take_stage with_range
 add_stage s text fresh =
@@ -295,6 +331,7 @@ keyword_for kinds.Gauge = codes "gauge"
 keyword_for kinds.Cost = codes "cost"
 keyword_for kinds.Gang = codes "gang"
 keyword_for kinds.Force = codes "force"
+keyword_for kinds.Fine = codes "fine"
 keyword_for kinds.Stage = codes "stage"
 keyword_for kinds.Punch = codes "punch"
 keyword_for kinds.PunchBox = codes "box"
@@ -315,9 +352,9 @@ keyword_is last w =
     let P : LineKind → Type 0 = λ kind. w ≡ keyword_for kind in
     by_word P w (codes "part") kinds.Part _ (λ e. e) (by_word P w (codes "face") kinds.Face _ (λ e. e)
     (by_word P w (codes "bed") kinds.Bed _ (λ e. e) (by_word P w (codes "frame") kinds.Frame _ (λ e. e) (by_word P w (codes "upper") kinds.Upper _ (λ e. e) (by_word P w (codes "lower") kinds.Lower _ (λ e. e)
-    (by_word P w (codes "uncovered") kinds.Uncovered _ (λ e. e) (by_word P w (codes "gauge") kinds.Gauge _ (λ e. e) (by_word P w (codes "cost") kinds.Cost _ (λ e. e) (by_word P w (codes "gang") kinds.Gang _ (λ e. e) (by_word P w (codes "force") kinds.Force _ (λ e. e)
+    (by_word P w (codes "uncovered") kinds.Uncovered _ (λ e. e) (by_word P w (codes "gauge") kinds.Gauge _ (λ e. e) (by_word P w (codes "cost") kinds.Cost _ (λ e. e) (by_word P w (codes "gang") kinds.Gang _ (λ e. e) (by_word P w (codes "force") kinds.Force _ (λ e. e) (by_word P w (codes "fine") kinds.Fine _ (λ e. e)
     (by_word P w (codes "stage") kinds.Stage _ (λ e. e) (by_word P w (codes "pieces") kinds.Pieces _ (λ e. e) (by_word P w (codes "load") kinds.Load _ (λ e. e)
-    (by_word P w (codes "punch") kinds.Punch _ (λ e. e) (by_word P w (codes "box") (box_behind last) _ (λ e. e ∙ box_keyword last) (by_word P w (codes "die") kinds.Die None (λ e. e) tt))))))))))))))))
+    (by_word P w (codes "punch") kinds.Punch _ (λ e. e) (by_word P w (codes "box") (box_behind last) _ (λ e. e ∙ box_keyword last) (by_word P w (codes "die") kinds.Die None (λ e. e) tt)))))))))))))))))
 
 add_words : (s : JobLinesData) (kind : LineKind) (text : List ℕ) → TellsAsFormat s → FreshIn s.format s.last s.setup → Each (Adds s (keyword_for kind) text) (take_words s kind text)
 unfolding take_words
@@ -333,6 +370,7 @@ add_words s kinds.Gauge text tells fresh = add_gauge s text fresh
 add_words s kinds.Cost text tells fresh = add_cost s text fresh
 add_words s kinds.Gang text tells fresh = add_gang s text fresh
 add_words s kinds.Force text tells fresh = add_force s text tells fresh
+add_words s kinds.Fine text tells fresh = add_fine s text fresh
 add_words s kinds.Stage text tells fresh = add_stage s text fresh
 add_words s kinds.Punch text tells fresh = add_punch s text fresh
 add_words s kinds.PunchBox text tells fresh = add_punch_box s text fresh

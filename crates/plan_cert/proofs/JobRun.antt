@@ -2,6 +2,7 @@
 use Rattle.std.proofs.Common.{◌≡◌, ℕ, ◌<◌, ◌≤◌, ℤ, pos, Bool, true, false, List, [], ◌∷◌, ◌++◌, codes, length, map, Option, Some, None, refl, sym, subst, lt-ltb, arith}
 use Rattle.std.specs.Fmt.{signed_decimal}
 use Rattle.toml_fields.specs.Fields.{is_name}
+use Rattle.toml_fields.specs.Ranges.{is_within}
 use Rattle.brake_base.specs.declared.plane.Rect.{Rect}
 use Rattle.part_file.specs.declared.part.Joint.{Joint}
 use Rattle.part_file.specs.declared.part.Side.{Side}
@@ -21,19 +22,19 @@ use Rattle.plan_cert.specs.declared.format.Format.{Format}
 use Rattle.plan_cert.specs.declared.format.Format.TheVariants.{Version1}
 use Rattle.plan_cert.specs.declared.line_kind.LineKind.{LineKind}
 use Rattle.plan_cert.specs.declared.line_kind.LineKind.TheVariants as kinds
-use Rattle.plan_cert.specs.Lines.{CertLine, part_line, face_line, bed_line, frame_line, upper_line, lower_line, uncovered_line, gauge_line, gang_line, force_line, stage_line, punch_line, die_line, box_line, pieces_line, load_line, words_of, face_words, fixed_words, number, side_word, dir_word}
+use Rattle.plan_cert.specs.Lines.{CertLine, part_line, face_line, bed_line, frame_line, upper_line, lower_line, uncovered_line, gauge_line, gang_line, force_line, fine_line, stage_line, punch_line, die_line, box_line, pieces_line, load_line, words_of, face_words, fixed_words, number, side_word, dir_word}
 use Rattle.plan_cert.specs.JobText.{gang_number, costs_line}
 use Rattle.plan_cert.specs.Formats.{has_loads}
 use Rattle.plan_cert.specs.LineKinds.{may_be_frame, may_be_upper, may_be_lower, is_of_punch, is_of_die, is_complete}
 use Rattle.plan_cert.specs.JobLines.{JobLinesData, begun_stage}
 use Rattle.plan_cert.specs.PartReading.{take_part, take_face, with_part, with_face}
 use Rattle.plan_cert.specs.FixtureReading.{take_bed, take_frame, take_upper, take_lower, with_bed, with_frame, with_upper, with_lower}
-use Rattle.plan_cert.specs.RuleReading.{take_uncovered, take_gauge, take_cost, take_gang, take_force, with_uncovered, with_gauge, with_costs, with_gang, with_force}
+use Rattle.plan_cert.specs.RuleReading.{take_uncovered, take_gauge, take_cost, take_gang, take_force, take_fine, with_uncovered, with_gauge, with_costs, with_gang, with_force, with_fine}
 use Rattle.plan_cert.specs.StageReading.{take_stage, take_pieces, take_load, with_range, with_pieces, with_load, with_stage}
 use Rattle.plan_cert.specs.ToolReading.{take_punch, take_punch_box, take_die_box, take_die, with_punch, with_punch_box, with_die_box, with_die}
 use Rattle.plan_cert.specs.JobReading.{take_line, take_words}
 use Rattle.plan_cert.proofs.WordsRead.{IsShort, IsSmall, IsPlain, number_plain, signed_plain, name_plain}
-use Rattle.plan_cert.proofs.LinesRead.{spelled, number_alone, pair_alone, SmallRect, rect_alone, SmallFixed, fixed_alone, part_alone, root_alone, SmallFace, child_alone, SmallGauge, gauge_alone, costs_alone, costs_back, gang_back, punch_alone, die_alone, AllSmall, pieces_alone}
+use Rattle.plan_cert.proofs.LinesRead.{spelled, number_alone, pair_alone, SmallRect, rect_alone, SmallFixed, fixed_alone, part_alone, root_alone, SmallFace, child_alone, SmallGauge, gauge_alone, costs_alone, costs_back, gang_back, fine_back, punch_alone, die_alone, AllSmall, pieces_alone}
 use Rattle.plan_cert.proofs.TextLines.{ArePlain, line_bytes}
 
 -- the line is taken, and its words are plain
@@ -146,6 +147,11 @@ gang_step format p q su sg gang has = ((signed_plain (gang_number gang) (small_g
 pub force_step : (format : Format) (p : PartData) (q : ℤ) (su : SetupData) (sg : StageData) (f : ℤ) → IsSmall f → Step (state format kinds.Gang p q su sg) (force_line f) (state format kinds.Force p q (record su { force = f }) sg)
 unfolding take_line take_words take_force with_force
 force_step format p q su sg f s = ((signed_plain f s, tt), rw (number_alone f s) refl)
+
+pub fine_step : (format : Format) (p : PartData) (q : ℤ) (su : SetupData) (sg : StageData) (depth : ℕ) → has_loads format ≡ true → is_within (pos 1) (pos 12) (pos depth) ≡ true → IsSmall (pos depth)
+    → Step (state format kinds.Force p q su sg) (fine_line (pos depth)) (state format kinds.Fine p q (record su { fine = depth }) sg)
+unfolding take_line take_words take_fine with_fine
+fine_step format p q su sg depth has is s = ((signed_plain (pos depth) s, tt), rw (has, number_alone (pos depth) s, fine_back depth is) refl)
 
 pub stage_step : (format : Format) (last : LineKind) (p : PartData) (q : ℤ) (su : SetupData) (sg : StageData) (a b : ℤ) → is_complete format last ≡ true → length su.stages < MOST_STAGES → IsSmall a → IsSmall b
     → Step (state format last p q su sg) (stage_line a b) (state format kinds.Stage p q su (begun_stage a b))

@@ -53,13 +53,14 @@ unfolding job_lines
 complete_lines s is =
     from_complete (λ (k : LineKind). lines_of_format s.format (job_lines (job_of s)) ≡ shown_in s.format k s.part s.q s.setup s.stage) s.format s.last
     (ap (λ (k : LineKind). lines_of_format s.format (shown k s.part s.q s.setup s.stage)) (sym (rules_last s.format)))
+    refl
     (ap (λ (k : LineKind). lines_of_format s.format (shown k s.part s.q s.setup s.stage)) (sym (stage_last s.format))) is
 
 job_tells : (s : JobLinesData) → TellsAsFormat s → JobIn s.format (job_of s)
 job_tells s tells = by_format s.format tells
   where
-    by_format : (f : Format) → (has_loads f ≡ false → TellsNone s.last s.setup.gang s.setup.force s.setup.stages s.stage.load s.stage.limit) → JobIn f (job_of s)
-    by_format Version1 told = let none = told refl in record { gang = none.no_gangs; force = none.no_force; loads = none.no_loads }
+    by_format : (f : Format) → (has_loads f ≡ false → TellsNone s.last s.setup.gang s.setup.force s.setup.fine s.setup.stages s.stage.load s.stage.limit) → JobIn f (job_of s)
+    by_format Version1 told = let none = told refl in record { gang = none.no_gangs; force = none.no_force; fine = none.no_fine; loads = none.no_loads }
     by_format Version2 told = tt
     by_format Table told = tt
 
@@ -149,7 +150,7 @@ no_lines_shown Version2 = refl
 no_lines_shown Table = refl
 
 nothing_told : (format : Format) → TellsAsFormat (no_lines format)
-nothing_told format none = record { no_gang_line = refl; no_gangs = refl; no_force = refl; no_loads = λ k d within. absurd (omega (arith, within)); no_load = refl; no_limit = refl }
+nothing_told format none = record { no_gang_line = refl; no_gangs = refl; no_force = refl; no_fine = refl; no_loads = λ k d within. absurd (omega (arith, within)); no_load = refl; no_limit = refl }
 
 first_begins : (kind : TextKind) (line next : List ℕ) (more : List (List ℕ)) (job : JobData) (answers : List (Result Item CertFault)) → items_of_lines kind (line ∷ next ∷ more) ≡ Ok (given.Job job) ∷ answers → Begins kind job (line ∷ next ∷ more) answers
 first_begins kind line next more job answers e = by_format (format_of kind line) refl (format_is kind line) e
@@ -157,7 +158,7 @@ first_begins kind line next more job answers e = by_format (format_of kind line)
     by_format : (format : Option Format) → format_of kind line ≡ format → Each (λ (f : Format). line ≡ line_bytes (format_line f)) format
         → elim format [ Some f ↦ job_items 2 (no_lines f) (next ∷ more) | None ↦ Err (faults.BadLine 1) ∷ [] ] ≡ Ok (given.Job job) ∷ answers → Begins kind job (line ∷ next ∷ more) answers
     by_format (Some f) named is e =
-        let splits = job_splits 2 (no_lines f) job (next ∷ more) answers (nothing_told f) (refl, refl, refl, refl) e in
+        let splits = job_splits 2 (no_lines f) job (next ∷ more) answers (nothing_told f) (refl, refl, refl, record { no_stages = refl; no_depth = refl }) e in
         let own : splits.taken ≡ lines_of_format f (job_lines job) = sym (splits.job_is ∙ ap (λ (ls : List CertLine). ls ++ splits.taken) (no_lines_shown f)) in
         record {
           format = f;

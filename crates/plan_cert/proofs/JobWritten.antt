@@ -1,7 +1,11 @@
 -- The lines of a valid job are taken one after the other, and give the job.
-use Rattle.std.proofs.Common.{◌≡◌, ℕ, Bool, false, zero, suc, ◌+◌, ◌<◌, ◌≤◌, ℤ, pos, ◌+ℤ◌, ◌≤ℤ◌, true, List, [], ◌∷◌, ◌++◌, length, map, get_or, Some, refl, sym, ap, subst, ◌∙◌, append_assoc, arith}
+use Rattle.std.proofs.Common.{◌≡◌, ℕ, ◌==◌, Bool, false, zero, suc, ◌+◌, ◌<◌, ◌≤◌, ℤ, pos, ◌+ℤ◌, ◌≤ℤ◌, true, List, [], ◌∷◌, ◌++◌, length, map, get_or, Some, refl, sym, ap, subst, ◌∙◌, append_assoc, arith}
 use Rattle.std.specs.List.{flat_map}
+use Rattle.std.specs.Prelude.{if◌then◌else◌}
+use Rattle.std.proofs.lemmas.Bool.{eqb-true, eqb-false}
 use Rattle.std.proofs.lemmas.Int.{ints}
+use Rattle.toml_fields.specs.Ranges.{is_within}
+use Rattle.toml_fields.proofs.Decided.{within_decided}
 use Rattle.std.proofs.lemmas.List.{append-nil}
 use Rattle.brake_base.specs.declared.plane.Rect.{Rect}
 use Rattle.part_file.specs.declared.part.Side.{Side}
@@ -19,15 +23,16 @@ use Rattle.plan_cert.specs.declared.format.Format.{Format}
 use Rattle.plan_cert.specs.declared.format.Format.TheVariants.{Version1, Version2, Table}
 use Rattle.plan_cert.specs.declared.line_kind.LineKind.{LineKind}
 use Rattle.plan_cert.specs.declared.line_kind.LineKind.TheVariants as kinds
-use Rattle.plan_cert.specs.Lines.{CertLine, part_line, face_line, bed_line, frame_line, upper_line, lower_line, stage_line, punch_line, die_line, box_line, pieces_line, load_line}
-use Rattle.plan_cert.specs.JobText.{part_lines, fixture_lines, rule_lines, punch_lines, die_lines, stage_lines, job_lines}
+use Rattle.plan_cert.specs.Lines.{CertLine, part_line, face_line, bed_line, frame_line, upper_line, lower_line, fine_line, stage_line, punch_line, die_line, box_line, pieces_line, load_line}
+use Rattle.plan_cert.specs.JobText.{part_lines, fixture_lines, fine_lines, rule_lines, punch_lines, die_lines, stage_lines, job_lines}
 use Rattle.plan_cert.specs.LineKinds.{may_be_frame, may_be_upper, may_be_lower, is_of_punch, is_of_die, is_complete}
 use Rattle.plan_cert.specs.JobLines.{JobLinesData, no_part, no_setup, no_lines, begun_stage}
 use Rattle.plan_cert.proofs.WordsRead.{IsSmall}
 use Rattle.plan_cert.proofs.LinesRead.{SmallRect, SmallFixed, SmallFace, SmallGauge, AllSmall}
-use Rattle.plan_cert.proofs.LineKinds.{rules_end, stage_end, complete_rules, complete_stage}
+use Rattle.plan_cert.proofs.JobLinesShown.{plain_rules}
+use Rattle.plan_cert.proofs.LineKinds.{rules_end, stage_end, complete_stage}
 use Rattle.plan_cert.proofs.FormatLines.{lines_append, AreInAll, in_all_both, lines_kept, part_in_all, fixtures_in_all, tools_in_all, JobIn, StageIn}
-use Rattle.plan_cert.proofs.JobRun.{Step, Runs, runs_both, state, part_step, root_step, child_step, bed_step, frame_step, upper_step, lower_step, uncovered_step, gauge_step, ShortCosts, cost_step, gang_step, force_step, stage_step, punch_step, punch_box_step, die_step, die_box_step, pieces_step, last_pieces_step, load_step}
+use Rattle.plan_cert.proofs.JobRun.{Step, Runs, runs_both, state, part_step, root_step, child_step, bed_step, frame_step, upper_step, lower_step, uncovered_step, gauge_step, ShortCosts, cost_step, gang_step, force_step, fine_step, stage_step, punch_step, punch_box_step, die_step, die_box_step, pieces_step, last_pieces_step, load_step}
 use Rattle.plan_cert.proofs.ListRuns.{AllFrom, all_from, one_longer, list_run, near_small, literal, near_rect, near_fixed, near_gauge, short_costs, all_pieces, runs_more, from_none}
 
 -- a stage
@@ -225,13 +230,13 @@ part_run format p q su is small_q = by_faces p.faces refl
 abbrev IsNearFrame : ℕ → ℤ × ℤ → Type 0
 IsNearFrame n f = IsSmall f.0 × IsSmall f.1
 
--- the rules, of which version 1 tells those that hold without gangs and forces
+-- the rules but for the depth, of which version 1 tells those that hold without gangs and forces
 abbrev RulesFit : Format → SetupData → SetupData → Type 0
 RulesFit Version1 su s = (su.gang ≡ s.gang) × (su.force ≡ s.force)
 RulesFit _ su s = Unit {0}
 
 rules_run : (format : Format) (last : LineKind) (p : PartData) (q : ℤ) (su s : SetupData) → may_be_lower last ≡ true → IsSmall s.uncovered → SmallGauge s.gauge → ShortCosts s.cost → IsSmall s.force → RulesFit format su s
-    → Runs (state format last p q su no_stage) (lines_of_format format (rule_lines s)) (state format (rules_end format) p q (record su { uncovered = s.uncovered; gauge = s.gauge; cost = s.cost; gang = s.gang; force = s.force }) no_stage)
+    → Runs (state format last p q su no_stage) (lines_of_format format (plain_rules s)) (state format (rules_end format) p q (record su { uncovered = s.uncovered; gauge = s.gauge; cost = s.cost; gang = s.gang; force = s.force }) no_stage)
 rules_run format last p q su s may uncovered gauge costs force fits = by_format format fits
   where
     su1 : SetupData
@@ -249,7 +254,7 @@ rules_run format last p q su s may uncovered gauge costs force fits = by_format 
     su5 : SetupData
     su5 = record su4 { force = s.force }
 
-    by_format : (f : Format) → RulesFit f su s → Runs (state f last p q su no_stage) (lines_of_format f (rule_lines s)) (state f (rules_end f) p q su5 no_stage)
+    by_format : (f : Format) → RulesFit f su s → Runs (state f last p q su no_stage) (lines_of_format f (plain_rules s)) (state f (rules_end f) p q su5 no_stage)
     by_format Version1 fits =
         let same : su3 ≡ su5 = ap (λ (g : Bool). record su3 { gang = g }) fits.0 ∙ ap (λ (z : ℤ). record su4 { force = z }) fits.1 in (
           state Version1 kinds.Uncovered p q su1 no_stage,
@@ -300,6 +305,39 @@ rules_fit Version1 job su a b is = (a ∙ sym is.gang, b ∙ sym is.force)
 rules_fit Version2 job su a b is = tt
 rules_fit Table job su a b is = tt
 
+-- the depth, of which version 1 doesn't tell
+abbrev DepthFits : Format → ℕ → Type 0
+DepthFits Version1 depth = depth ≡ 0
+DepthFits _ depth = Unit {0}
+
+abbrev DepthRun : Format → PartData → ℤ → SetupData → ℕ → List CertLine → Type 0
+DepthRun format p q su depth lines =
+    (last : LineKind) × (is_complete format last ≡ true) × Runs (state format (rules_end format) p q su no_stage) (lines_of_format format lines) (state format last p q (record su { fine = depth }) no_stage)
+
+depth_run : (format : Format) (p : PartData) (q : ℤ) (su : SetupData) (depth : ℕ) → su.fine ≡ 0 → depth ≤ 12 → DepthFits format depth → DepthRun format p q su depth (fine_lines depth)
+depth_run format p q su depth none few fits = by_test (depth == 0) refl format fits
+  where
+    same : (f : Format) (last : LineKind) → depth ≡ 0 → state f last p q su no_stage ≡ state f last p q (record su { fine = depth }) no_stage
+    same f last is = ap (λ (n : ℕ). state f last p q (record su { fine = n }) no_stage) (none ∙ sym is)
+
+    there : (depth == 0) ≡ false → is_within (pos 1) (pos 12) (pos depth) ≡ true
+    there some =
+        let positive : 0 < depth = omega (arith, eqb-false depth 0 some) in
+        (within_decided (pos 1) (pos 12) (pos depth)).1 (record { bottom = omega (arith, ints, positive); top = omega (arith, ints, few) })
+
+    by_test : (b : Bool) → (depth == 0) ≡ b → (f : Format) → DepthFits f depth → DepthRun f p q su depth (if b then [] else fine_line (pos depth) ∷ [])
+    by_test true e Version1 fits = (kinds.Cost, refl, same Version1 kinds.Cost fits)
+    by_test true e Version2 fits = (kinds.Force, refl, same Version2 kinds.Force (eqb-true depth 0 e))
+    by_test true e Table fits = (kinds.Force, refl, same Table kinds.Force (eqb-true depth 0 e))
+    by_test false e Version1 fits = (kinds.Cost, refl, same Version1 kinds.Cost fits)
+    by_test false e Version2 fits = (kinds.Fine, refl, (state Version2 kinds.Fine p q (record su { fine = depth }) no_stage, fine_step Version2 p q su no_stage depth refl (there e) (omega (arith, few)), refl))
+    by_test false e Table fits = (kinds.Fine, refl, (state Table kinds.Fine p q (record su { fine = depth }) no_stage, fine_step Table p q su no_stage depth refl (there e) (omega (arith, few)), refl))
+
+depth_fits : (format : Format) (job : JobData) → JobIn format job → DepthFits format job.setup.fine
+depth_fits Version1 job is = is.fine
+depth_fits Version2 job is = tt
+depth_fits Table job is = tt
+
 stage_in : (format : Format) (job : JobData) → JobIn format job → (k : ℕ) (d : StageData) → k < length job.setup.stages → StageIn format (get_or job.setup.stages k d)
 stage_in Version1 job is k d within = is.loads k d within
 stage_in Version2 job is k d within = tt
@@ -335,7 +373,10 @@ job_run format job valid tells =
     let su5 : SetupData = record su4 { uncovered = s.uncovered; gauge = s.gauge; cost = s.cost; gang = s.gang; force = s.force } in
     let rule = rules_run format l3 p q su4 s m3 (literal 0 1000000 s.uncovered (omega arith) rules.uncovered) (near_gauge s.gauge near.gauge) (short_costs s.cost rules.cost) (literal 0 100000000 s.force (omega arith) rules.force)
     (rules_fit format job su4 refl refl tells) in
-    let (l4, m4, stages) = stages_run format (rules_end format) p q su5 [] s.stages (complete_rules format) (from_none (length s.stages) 6 valid.setup.stages.few_stages)
+    let su6 : SetupData = record su5 { fine = s.fine } in
+    let (l4, m4, depth) = depth_run format p q su5 s.fine refl rules.fine (depth_fits format job tells) in
+    let ruling : Runs (st l3 su4) (lines_of_format format (rule_lines s)) (st l4 su6) = runs_format format (st l3 su4) (st (rules_end format) su5) (st l4 su6) (plain_rules s) (fine_lines s.fine) rule depth in
+    let (l5, m5, stages) = stages_run format l4 p q su6 [] s.stages m4 (from_none (length s.stages) 6 valid.setup.stages.few_stages)
     (all_from (StageFits format) 0 s.stages (λ k d within. (valid.setup.stages.each k d within, near.stages k d within, near.tools k d within, stage_in format job tells k d within))) in
     let fixtures : Runs (st kinds.Face no_setup) (fixture_lines s) (st l3 su4) =
     runs_more (st kinds.Face no_setup) (st kinds.Bed su1) (st l3 su4) (bed_line s.bed) ((map frame_line s.frames ++ map upper_line s.upper) ++ map lower_line s.lower) bed
@@ -344,5 +385,5 @@ job_run format job valid tells =
     let begun = no_lines format in
     let front = runs_both begun (st kinds.Face no_setup) (st l3 su4) (part_lines p q) (fixture_lines s) part fixtures in
     let all_front = in_all_both (part_lines p q) (fixture_lines s) (part_in_all p q) (fixtures_in_all s) in
-    let ruled = runs_before format begun (st l3 su4) (st (rules_end format) su5) (part_lines p q ++ fixture_lines s) (rule_lines s) all_front front rule in
-    (l4, m4, runs_format format begun (st (rules_end format) su5) (state format l4 p q s no_stage) ((part_lines p q ++ fixture_lines s) ++ rule_lines s) (flat_map stage_lines s.stages) ruled stages)
+    let ruled = runs_before format begun (st l3 su4) (st l4 su6) (part_lines p q ++ fixture_lines s) (rule_lines s) all_front front ruling in
+    (l5, m5, runs_format format begun (st l4 su6) (state format l5 p q s no_stage) ((part_lines p q ++ fixture_lines s) ++ rule_lines s) (flat_map stage_lines s.stages) ruled stages)

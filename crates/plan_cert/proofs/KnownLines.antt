@@ -6,6 +6,7 @@ use Rattle.std.proofs.lemmas.Option.{same_Some, none-some}
 use Rattle.brake_base.specs.declared.stroke.Key.{Key}
 use Rattle.brake_base.specs.declared.stroke.Action.{Action}
 use Rattle.brake_base.specs.declared.reason.Reason.{Reason}
+use Rattle.brake_base.specs.Actions.{IsActionAmong}
 use Rattle.job_setup.specs.Setup.{JobData, bend_count, stage_count}
 use Rattle.cert_words.specs.LineWords.{◌>>=◌}
 use Rattle.cert_words.specs.PlanWords.{note_in}
@@ -17,7 +18,7 @@ use Rattle.plan_cert.specs.declared.known_notes.KnownNote.{KnownNote}
 use Rattle.plan_cert.specs.declared.job_facts.JobFacts.{JobFacts}
 use Rattle.plan_cert.specs.Facts.{KeepsFacts}
 use Rattle.plan_cert.specs.LineReading.{keyword_in, behind_keyword}
-use Rattle.plan_cert.specs.PlanReading.{IsActionAmong, noted, note_behind, take_note, take_plan_words, take_plan_line}
+use Rattle.plan_cert.specs.PlanReading.{noted, note_behind, take_note, take_plan_words, take_plan_line}
 use Rattle.plan_cert.specs.Items.{lines_in}
 use Rattle.plan_cert.specs.KnownNotes.{IsKnown, AreKnown, IsLineTaken}
 use Rattle.plan_cert.proofs.PlanRanges.{note_among}

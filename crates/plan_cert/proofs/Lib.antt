@@ -45,3 +45,10 @@ pub mod JobSplits
 pub mod ReadWritten
 pub mod Exactly
 pub mod WholeTexts
+pub mod OneText
+pub mod RowOrder
+pub mod ActionNumbers
+pub mod Conditions
+pub mod NoteCounts
+pub mod LineSizes
+pub mod TextSizes

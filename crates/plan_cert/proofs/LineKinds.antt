@@ -7,11 +7,11 @@ use Rattle.plan_cert.specs.declared.format.Format.TheVariants.{Version1, Version
 use Rattle.plan_cert.specs.declared.line_kind.LineKind.{LineKind}
 use Rattle.plan_cert.specs.declared.line_kind.LineKind.TheVariants as kinds
 use Rattle.cert_words.specs.JobWords.{root_in, child_in}
-use Rattle.plan_cert.specs.LineKinds.{begins_job, is_face, may_be_frame, may_be_upper, may_be_lower, is_uncovered, is_gauge, is_cost, is_gang, is_complete, is_stage, is_of_punch, is_of_die, is_pieces}
+use Rattle.plan_cert.specs.LineKinds.{begins_job, is_face, may_be_frame, may_be_upper, may_be_lower, is_uncovered, is_gauge, is_cost, is_gang, is_force, is_complete, is_stage, is_of_punch, is_of_die, is_pieces}
 use Rattle.plan_cert.specs.PartReading.{face_behind}
 use Rattle.plan_cert.proofs.PlanRanges.{Each}
 
--- the last line of the rules
+-- the last line of the rules, but for that of the depth
 abbrev pub rules_end : Format → LineKind
 rules_end Version1 = kinds.Cost
 rules_end _ = kinds.Force
@@ -73,16 +73,22 @@ pub from_gang : (P : LineKind → Type 0) (last : LineKind) → P kinds.Gang →
 from_gang P kinds.Gang a is = a
 from_gang P _ a is = absurd (false≢true is)
 
-pub from_complete : (P : LineKind → Type 0) (format : Format) (last : LineKind) → P (rules_end format) → P (stage_end format) → is_complete format last ≡ true → P last
-from_complete P Version1 kinds.Cost a b is = a
-from_complete P Version1 kinds.Pieces a b is = b
-from_complete P Version1 _ a b is = absurd (false≢true is)
-from_complete P Version2 kinds.Force a b is = a
-from_complete P Version2 kinds.Load a b is = b
-from_complete P Version2 _ a b is = absurd (false≢true is)
-from_complete P Table kinds.Force a b is = a
-from_complete P Table kinds.Load a b is = b
-from_complete P Table _ a b is = absurd (false≢true is)
+pub from_force : (P : LineKind → Type 0) (last : LineKind) → P kinds.Force → is_force last ≡ true → P last
+from_force P kinds.Force a is = a
+from_force P _ a is = absurd (false≢true is)
+
+pub from_complete : (P : LineKind → Type 0) (format : Format) (last : LineKind) → P (rules_end format) → P kinds.Fine → P (stage_end format) → is_complete format last ≡ true → P last
+from_complete P Version1 kinds.Cost a b c is = a
+from_complete P Version1 kinds.Pieces a b c is = c
+from_complete P Version1 _ a b c is = absurd (false≢true is)
+from_complete P Version2 kinds.Force a b c is = a
+from_complete P Version2 kinds.Fine a b c is = b
+from_complete P Version2 kinds.Load a b c is = c
+from_complete P Version2 _ a b c is = absurd (false≢true is)
+from_complete P Table kinds.Force a b c is = a
+from_complete P Table kinds.Fine a b c is = b
+from_complete P Table kinds.Load a b c is = c
+from_complete P Table _ a b c is = absurd (false≢true is)
 
 pub from_stage : (P : LineKind → Type 0) (last : LineKind) → P kinds.Stage → is_stage last ≡ true → P last
 from_stage P kinds.Stage a is = a

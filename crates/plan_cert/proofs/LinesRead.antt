@@ -5,6 +5,7 @@ use Rattle.std.specs.List.{flat_map}
 use Rattle.std.specs.Fmt.{signed_decimal}
 use Rattle.std.proofs.lemmas.Int.{ints}
 use Rattle.std.proofs.lemmas.Grind.{common_steps}
+use Rattle.toml_fields.specs.Ranges.{is_within}
 use Rattle.plan_cert.specs.JobText.{gang_number}
 use Rattle.toml_fields.specs.Fields.{is_name}
 use Rattle.brake_base.specs.declared.plane.Rect.{Rect}
@@ -14,7 +15,7 @@ use Rattle.machine_file.specs.declared.machine.Fixed.{Fixed}
 use Rattle.machine_file.specs.declared.machine.GaugeRule.{GaugeRule}
 use Rattle.machine_file.specs.declared.machine.Costs.{Costs}
 use Rattle.cert_words.specs.LineWords.{◌>>=◌, rect_at}
-use Rattle.cert_words.specs.JobWords.{number_in, pair_in, rect_in, fixed_in, named_pair_in, named_triple_in, part_in, root_in, parent_at, standing_in, child_in, gauge_in, costs_in, costs_of, natural, naturals, gang_of, punch_in, die_in, numbers_in, pieces_in}
+use Rattle.cert_words.specs.JobWords.{number_in, pair_in, rect_in, fixed_in, named_pair_in, named_triple_in, part_in, root_in, parent_at, standing_in, child_in, gauge_in, costs_in, costs_of, natural, naturals, gang_of, fine_of, punch_in, die_in, numbers_in, pieces_in}
 use Rattle.plan_cert.specs.Lines.{part_line, face_line, gauge_line, cost_line, punch_line, die_line, box_line, pieces_line, number, side_word, dir_word, fixed_words, words_of, spaced}
 use Rattle.plan_cert.proofs.WordsRead.{Ends, IsShort, IsSmall, name_read, checked, count_read, signed_read, pair_read, side_read, dir_read}
 
@@ -121,6 +122,9 @@ natural_back n = let le : int_le (pos 0) (pos n) ≡ true = grind (arith, ints, 
 pub gang_back : (gang : Bool) → gang_of (gang_number gang) ≡ Some gang
 gang_back true = refl
 gang_back false = refl
+
+pub fine_back : (depth : ℕ) → is_within (pos 1) (pos 12) (pos depth) ≡ true → fine_of (pos depth) ≡ Some depth
+fine_back depth is = rw is refl
 
 pub costs_back : (c : Costs) → costs_of ((pos c.stroke, pos c.quarter), ((pos c.half, pos c.flip), (pos c.roll, pos c.stage))) ≡ Some c
 unfolding costs_of naturals

@@ -10,11 +10,12 @@ use Rattle.brake_base.specs.declared.reason.Reason.{Reason}
 use Rattle.brake_base.specs.declared.reason.Reason.TheVariants.{Cover, Rest, Frame, Upper, Nose, Lower, SelfHit, NoGauge, Load}
 use Rattle.brake_base.specs.Reasons.{quarter_number}
 use Rattle.job_setup.specs.Setup.{JobData, bend_count, stage_count}
+use Rattle.handling_cost.specs.StepCost.{IsActionOf}
 use Rattle.cert_words.specs.LineWords.{count_at}
 use Rattle.cert_words.specs.PlanWords.{action_at, gauge_at, step_in, claim_in, key_at, row_in, half_in, box_in, meeting_in, upper_in, nose_in, lower_in, self_hit_in, arguments_in, reason_in, note_in}
 use Rattle.plan_cert.specs.Lines.{claim_line, step_line, row_line, note_line, number, back_word, half_word, worth_word, meeting_words, reason_words, words_of, spaced}
 use Rattle.plan_cert.specs.declared.cert.RowHead.{RowHead}
-use Rattle.plan_cert.specs.WellFormed.{IsWorth, IsActionOf, IsStep, IsRow, IsReasonInRange}
+use Rattle.plan_cert.specs.WellFormed.{IsWorth, IsStep, IsRow, IsReasonInRange}
 use Rattle.plan_cert.proofs.WordsRead.{Ends, count_read, back_read, half_read, quarter_read, worth_read}
 use Rattle.plan_cert.proofs.LinesRead.{spelled}
 use Rattle.plan_cert.proofs.WellRead.{IsSmall}

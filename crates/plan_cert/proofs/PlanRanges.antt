@@ -12,11 +12,12 @@ use Rattle.brake_base.specs.declared.stroke.Worth.{Worth}
 use Rattle.brake_base.specs.declared.stroke.Worth.TheVariants.{Cost, Blocked}
 use Rattle.brake_base.specs.declared.reason.Reason.{Reason}
 use Rattle.brake_base.specs.declared.reason.Reason.TheVariants.{Cover, Rest, Frame, Upper, Nose, Lower, SelfHit, NoGauge, Load}
+use Rattle.brake_base.specs.Actions.{IsActionAmong}
 use Rattle.job_setup.specs.Setup.{JobData, bend_count, stage_count}
+use Rattle.handling_cost.specs.StepCost.{IsActionOf}
 use Rattle.cert_words.specs.LineWords.{◌>>=◌, word_at, at_end, count_at, kind_at, back_of, half_of, quarter_of, cost_of, worth_of}
 use Rattle.cert_words.specs.PlanWords.{action_at, gauge_at, step_in, claim_in, key_at, row_in, half_in, box_in, meeting_in, upper_in, nose_in, lower_in, self_hit_in, arguments_in, reason_in, note_in}
-use Rattle.plan_cert.specs.PlanReading.{IsActionAmong}
-use Rattle.plan_cert.specs.WellFormed.{IsWorth, IsActionOf, IsStep, IsRow, IsReasonInRange}
+use Rattle.plan_cert.specs.WellFormed.{IsWorth, IsStep, IsRow, IsReasonInRange}
 
 -- what is there, if anything, meets a rule
 abbrev pub Each : {A : Type 0} → (A → Type 0) → Option A → Type 0

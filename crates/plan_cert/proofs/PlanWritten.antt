@@ -25,6 +25,7 @@ use Rattle.brake_base.specs.Keys.{KeyIsBefore}
 use Rattle.brake_base.proofs.Actions.{split_number}
 use Rattle.job_setup.specs.Setup.{JobData, bend_count, stage_count}
 use Rattle.job_setup.specs.StrokeGroup.{is_lead}
+use Rattle.handling_cost.specs.StepCost.{IsActionOf}
 use Rattle.plan_cert.specs.declared.format.Format.{Format}
 use Rattle.plan_cert.specs.declared.item.Item.{Item}
 use Rattle.plan_cert.specs.declared.item.Item.TheVariants as given
@@ -34,7 +35,7 @@ use Rattle.plan_cert.specs.declared.cert.RowHead.{RowHead}
 use Rattle.plan_cert.specs.declared.cert.Note.{Note}
 use Rattle.plan_cert.specs.Lines.{CertLine, claim_line, step_line, row_line, note_line, number, back_word, half_word, worth_word, action_words, meeting_words, argument_words, reason_words, action_at, words_of}
 use Rattle.plan_cert.specs.CertText.{line_of_note, row_lines}
-use Rattle.plan_cert.specs.WellFormed.{IsWorth, IsActionOf, IsStep, IsRow, IsReasonInRange, IsNote, NoteIsBefore}
+use Rattle.plan_cert.specs.WellFormed.{IsWorth, IsStep, IsRow, IsReasonInRange, IsNote, NoteIsBefore}
 use Rattle.plan_cert.specs.LineReading.{keyword_in, behind_keyword}
 use Rattle.plan_cert.specs.declared.item.CertFault.{CertFault}
 use Rattle.plan_cert.specs.Cert.{CertData}
@@ -161,7 +162,7 @@ kind_short (SelfHit box q other) = omega arith
 kind_short NoGauge = omega arith
 kind_short Load = omega arith
 
-step_plain : (job : JobData) (s : Step) → IsSmall job → IsStep job s → ArePlain (words_of (step_line s))
+pub step_plain : (job : JobData) (s : Step) → IsSmall job → IsStep job s → ArePlain (words_of (step_line s))
 step_plain job s small is = plain_more (action_words s.action) (number s.gauge.left_face ∷ number s.gauge.right_face ∷ []) (action_plain job s.action small is.action)
     (number_plain s.gauge.left_face (omega (arith, is.left, small.bends)), (number_plain s.gauge.right_face (omega (arith, is.right, small.bends)), tt))
 

@@ -7,9 +7,9 @@ use Rattle.std.proofs.lemmas.List.Sums.{AllPass-from_list_all}
 use Rattle.std.proofs.lemmas.List.Splits.{slice_split_at, slice_split_none}
 use Rattle.brake_text.specs.Lines.{is_line_feed}
 use Rattle.plan_cert.specs.declared.format.Format.TheVariants.{Version1, Version2, Table}
-use Rattle.plan_cert.specs.Lines.{CertLine, format_line, part_line, face_line, bed_line, frame_line, upper_line, lower_line, uncovered_line, gauge_line, cost_line, gang_line, force_line, stage_line, punch_line, die_line, box_line, pieces_line, load_line, claim_line, step_line, row_line, note_line, end_line, keyword_of, words_of, line_text, lines_text}
+use Rattle.plan_cert.specs.Lines.{CertLine, format_line, part_line, face_line, bed_line, frame_line, upper_line, lower_line, uncovered_line, gauge_line, cost_line, gang_line, force_line, fine_line, stage_line, punch_line, die_line, box_line, pieces_line, load_line, claim_line, step_line, row_line, note_line, end_line, keyword_of, words_of, line_text, lines_text}
 use Rattle.plan_cert.specs.Items.{lines_in}
-use Rattle.plan_cert.proofs.WordsRead.{is_plain, IsPlain}
+use Rattle.plan_cert.proofs.WordsRead.{is_plain, IsPlain, plain_bytes}
 use Rattle.plan_cert.proofs.LinesRead.{spelled}
 
 -- a line without its line feed
@@ -39,7 +39,7 @@ both xs ys one two = list_all-append is_other xs ys ∙ and_from (list_all is_ot
 
 spelled_other : (words : List (List ℕ)) → ArePlain words → list_all is_other (spelled words) ≡ true
 spelled_other [] plain = refl
-spelled_other (word ∷ words) plain = both word (spelled words) (others word plain.0) (spelled_other words plain.1)
+spelled_other (word ∷ words) plain = both word (spelled words) (others word (plain_bytes word plain.0)) (spelled_other words plain.1)
 
 keyword_other : (line : CertLine) → list_all is_other (keyword_of line) ≡ true
 keyword_other (format_line Table) = refl
@@ -56,6 +56,7 @@ keyword_other (gauge_line g) = refl
 keyword_other (cost_line a b c d e f) = refl
 keyword_other (gang_line g) = refl
 keyword_other (force_line f) = refl
+keyword_other (fine_line d) = refl
 keyword_other (stage_line a b) = refl
 keyword_other (punch_line n h s) = refl
 keyword_other (die_line n h v l) = refl

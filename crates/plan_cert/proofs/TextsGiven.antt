@@ -54,7 +54,7 @@ runs_taken n s t (line ∷ lines) rest some run =
     let more = runs_taken (next_number n) run.0 t lines rest some run.2 in
     (more.0, one_taken n s run.0 (line_bytes line) (map line_bytes lines ++ rest) (some_more lines rest some) run.1.1 ∙ more.1)
 
-runs_plain : (s t : JobLinesData) (lines : List CertLine) → Runs s lines t → ArePlainLines lines
+pub runs_plain : (s t : JobLinesData) (lines : List CertLine) → Runs s lines t → ArePlainLines lines
 runs_plain s t [] run = tt
 runs_plain s t (line ∷ lines) run = (run.1.0, runs_plain run.0 t lines run.2)
 

@@ -1,5 +1,5 @@
 -- What is read behind the job is a well formed certificate of it.
-use Rattle.std.proofs.Common.{◌≡◌, ℕ, ◌+◌, ◌-◌, ◌*◌, ◌^◌, ◌<◌, ◌≤◌, min, Bool, true, List, [], ◌∷◌, ◌++◌, length, map, get_or, All, AllPairs, IsTrue, refl, sym, ap, subst, ◌∙◌, inl, inr, lt-ltb, arith}
+use Rattle.std.proofs.Common.{◌≡◌, ℕ, ◌+◌, ◌-◌, ◌^◌, ◌<◌, ◌≤◌, min, Bool, true, List, [], ◌∷◌, ◌++◌, length, map, get_or, All, AllPairs, IsTrue, refl, sym, ap, subst, ◌∙◌, inl, inr, lt-ltb, arith}
 use Rattle.std.specs.Prelude.{◌⊎◌, if◌then◌else◌}
 use Rattle.std.proofs.lemmas.Bool.{false≢true, cases_lt}
 use Rattle.std.proofs.lemmas.List.{map_push, length-append, length-map, get_or_append_left, get_or-map}
@@ -24,6 +24,7 @@ use Rattle.plan_cert.specs.declared.cert.RowHead.{RowHead}
 use Rattle.plan_cert.specs.declared.cert.Note.{Note}
 use Rattle.plan_cert.specs.Cert.{CertData}
 use Rattle.plan_cert.specs.Lines.{action_at}
+use Rattle.plan_cert.specs.KeyPlaces.{key_place}
 use Rattle.plan_cert.specs.WellFormed.{IsWorth, IsStep, HasSteps, IsRow, IsNote, NoteIsBefore, AreRows, IsWellFormed}
 use Rattle.plan_cert.specs.PlanReading.{behind_claim, may_leave}
 use Rattle.plan_cert.specs.CertReading.{no_cert, with_step, with_note, with_item}
@@ -46,10 +47,6 @@ pub record StepsHold (job : JobData) (count : ℕ) (cert : CertData) : Type 0 wh
   pub rows : cert.rows ≡ []
   pub notes : cert.notes ≡ []
 
--- the keys of a job in their order, as numbers
-abbrev pub rank : Key → ℕ
-rank key = (key.mask.0 * 24 + key.attitude) * 6 + key.stage
-
 -- the note stands before one of this action at the last of so many rows
 abbrev pub StandsBefore : ℕ → ℕ → Note → Type 0
 StandsBefore rows action note = (note.row + 1 < rows) ⊎ ((note.row + 1 ≡ rows) × (note.action < action))
@@ -62,7 +59,7 @@ pub record RowsHold (job : JobData) (rows : List RowHead) (notes : List Note) (k
   pub head_is : IsRow job head
   pub head_key : head.key ≡ key
   pub last : (d : RowHead) → get_or rows (length rows - 1) d ≡ head
-  pub few : length rows ≤ rank key + 1
+  pub few : length rows ≤ key_place key + 1
   pub before : (i : ℕ) (d : Note) → i < length notes → StandsBefore (length rows) least (get_or notes i d)
 
 -- the certificate so far, by where the next line stands
@@ -122,11 +119,11 @@ trans a b c (inr x) (inr y) = inr (x.0 ∙ y.0, behind x.1 y.1)
     behind (inr x) (inl y) = inl (omega (arith, x.0, y))
     behind (inr x) (inr y) = inr (x.0 ∙ y.0, stages x.1 y.1)
 
-pub rank_less : (job : JobData) (a b : RowHead) → stage_count job ≤ 6 → IsRow job a → IsRow job b → KeyIsBefore a.key b.key → rank a.key < rank b.key
-rank_less job a b few one other (inl less) = omega (arith, less, one.attitude, one.stage, few)
-rank_less job a b few one other (inr (same, inl less)) = omega (arith, same, less, one.stage, few)
-rank_less job a b few one other (inr (same, inr (again, inl less))) = omega (arith, same, again, less)
-rank_less job a b few one other (inr (same, inr (again, inr none))) = absurd none.1
+pub place_less : (job : JobData) (a b : RowHead) → stage_count job ≤ 6 → IsRow job a → IsRow job b → KeyIsBefore a.key b.key → key_place a.key < key_place b.key
+place_less job a b few one other (inl less) = omega (arith, less, one.attitude, one.stage, few)
+place_less job a b few one other (inr (same, inl less)) = omega (arith, same, less, one.stage, few)
+place_less job a b few one other (inr (same, inr (again, inl less))) = omega (arith, same, again, less)
+place_less job a b few one other (inr (same, inr (again, inr none))) = absurd none.1
 
 one_longer : {A : Type 0} (xs : List A) (x : A) → length (xs ++ x ∷ []) ≡ length xs + 1
 one_longer xs x = length-append xs (x ∷ [])
@@ -142,7 +139,7 @@ note_kept job rows row note is = record {
 
 -- a row behind those so far
 row_holds : (job : JobData) (rows : List RowHead) (notes : List Note) (row : RowHead) → AreRows job rows notes → IsRow job row
-    → ((i : ℕ) (d : RowHead) → i < length rows → KeyIsBefore (get_or rows i d).key row.key) → length rows ≤ rank row.key → RowsHold job (rows ++ row ∷ []) notes row.key 0
+    → ((i : ℕ) (d : RowHead) → i < length rows → KeyIsBefore (get_or rows i d).key row.key) → length rows ≤ key_place row.key → RowsHold job (rows ++ row ∷ []) notes row.key 0
 row_holds job rows notes row are is before few = record {
   are = record {
     each_row = All-push (IsRow job) rows row are.each_row is;
@@ -177,7 +174,7 @@ first_row job cert row rows notes is =
 next_row : (job : JobData) (rows : List RowHead) (notes : List Note) (key : Key) (least : ℕ) (row : RowHead) → stage_count job ≤ 6 → KeyIsBefore key row.key → IsRow job row → RowsHold job rows notes key least
     → RowsHold job (rows ++ row ∷ []) notes row.key 0
 next_row job rows notes key least row few before is held =
-    row_holds job rows notes row held.are is all_before (let more = rank_less job held.head row few held.head_is is last_before in let same : rank held.head.key ≡ rank key = ap (λ k. rank k) held.head_key in omega (arith, held.few, more, same))
+    row_holds job rows notes row held.are is all_before (let more = place_less job held.head row few held.head_is is last_before in let same : key_place held.head.key ≡ key_place key = ap (λ k. key_place k) held.head_key in omega (arith, held.few, more, same))
   where
     last_before : KeyIsBefore held.head.key row.key
     last_before = subst (λ k. KeyIsBefore k row.key) (sym held.head_key) before
@@ -201,7 +198,7 @@ next_row job rows notes key least row few before is held =
     all_before i d within = by_place i d within (cases_lt i (length rows - 1))
 
 -- there are fewer rows than a note can count
-few_rows : (job : JobData) (row : RowHead) → bend_count job ≤ 12 → stage_count job ≤ 6 → IsRow job row → rank row.key < 2 ^ 20
+few_rows : (job : JobData) (row : RowHead) → bend_count job ≤ 12 → stage_count job ≤ 6 → IsRow job row → key_place row.key < 2 ^ 20
 few_rows job row bends stages is =
     let masks : 2 ^ bend_count job ≤ 2 ^ 12 = pow-le-pow_right (omega arith) bends in
     let mask : row.key.mask.0 + 1 < 4096 = omega (arith, masks, is.mask) in
@@ -277,7 +274,7 @@ add_row format job sections.Over cert row small is may held = absurd may
 pub note_number : (job : JobData) (rows : List RowHead) (notes : List Note) (key : Key) (least : ℕ) → IsSmall job → RowsHold job rows notes key least → min (length rows - 1) (2 ^ 32 - 1) ≡ length rows - 1
 note_number job rows notes key least small held =
     let below = few_rows job held.head small.bends small.stages held.head_is in
-    let same : rank held.head.key ≡ rank key = ap (λ k. rank k) held.head_key in
+    let same : key_place held.head.key ≡ key_place key = ap (λ k. key_place k) held.head_key in
     row_number (length rows) (omega (arith, held.few, below, same))
 
 add_note : (job : JobData) (key : Key) (least : ℕ) (cert : CertData) (action : ℕ) (reason : Reason) → IsSmall job → least ≤ action → FitsAt job key action reason → Holds job (sections.Notes key least) cert

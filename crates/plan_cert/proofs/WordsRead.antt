@@ -7,7 +7,7 @@ use Rattle.std.specs.Char.{is_ascii_digit}
 use Rattle.std.specs.Fmt.{signed_decimal}
 use Rattle.std.proofs.lemmas.Bool.{and_parts, and_from}
 use Rattle.std.proofs.lemmas.Grind.{common_steps}
-use Rattle.std.proofs.lemmas.Fmt.{digits_decimal, decimal_digit}
+use Rattle.std.proofs.lemmas.Fmt.{digits_decimal, decimal_digit, length-decimal-le}
 use Rattle.std.proofs.Math.Seq.{take-append_seam, drop-append_seam}
 use Rattle.toml_fields.specs.Fields.{is_name, checked_name}
 use Rattle.brake_text.specs.Numbers.{number_of}
@@ -34,15 +34,22 @@ use Rattle.plan_cert.specs.WellFormed.{IsWorth}
 abbrev pub is_plain : ℕ → Bool
 is_plain byte = not (byte == 32) && not (byte == 10)
 
+-- a word has at most 24 bytes, all of them plain
 abbrev pub IsPlain : List ℕ → Type 0
-IsPlain word = list_all is_plain word ≡ true
+IsPlain word = (list_all is_plain word && nat_le (length word) 24) ≡ true
+
+pub plain_bytes : (word : List ℕ) → IsPlain word → list_all is_plain word ≡ true
+plain_bytes word plain = (and_parts (list_all is_plain word) (nat_le (length word) 24) plain).0
+
+is_24 : (n : ℕ) → n ≤ 24 → nat_le n 24 ≡ true
+is_24 n few = grind (arith, common_steps)
 
 -- a word ends here: at a space or at the end of the line
 abbrev pub Ends : List ℕ → Type 0
 Ends [] = Unit {0}
 Ends (byte ∷ rest) = is_space byte ≡ true
 
-word_size : (word rest : List ℕ) → IsPlain word → Ends rest → word_length (word ++ rest) ≡ length word
+word_size : (word rest : List ℕ) → list_all is_plain word ≡ true → Ends rest → word_length (word ++ rest) ≡ length word
 word_size [] [] plain ends = refl
 word_size [] (byte ∷ rest) plain ends = ap (λ (b : Bool). cond (not b) (1 + word_length rest) 0) ends
 word_size (byte ∷ word) rest plain ends =
@@ -54,7 +61,7 @@ word_size (byte ∷ word) rest plain ends =
 pub word_read : (word rest : List ℕ) → IsPlain word → Ends rest → word_at (spaced word ++ rest) ≡ Some (word, rest)
 unfolding word_at
 word_read word rest plain ends =
-    let size = word_size word rest plain ends in
+    let size = word_size word rest (plain_bytes word plain) ends in
     ap (λ (n : ℕ). Some (take n (word ++ rest), drop n (word ++ rest))) size
     ∙ ap (λ (w : List ℕ). Some (w, drop (length word) (word ++ rest))) (take-append_seam word rest)
     ∙ ap (λ (r : List ℕ). Some (word, r)) (drop-append_seam word rest)
@@ -78,17 +85,26 @@ IsShort n = n < 10 ^ 18
 abbrev pub IsSmall : ℤ → Type 0
 IsSmall z = unsigned_abs z < 10 ^ 18
 
+digits_plain : (n : ℕ) → IsShort n → list_all is_plain (decimal n) ≡ true
+digits_plain n short = all_weaker is_ascii_digit is_plain digit_plain (decimal n) (digits_decimal digits_model n (omega (arith, short)))
+
+few_digits : (n : ℕ) → IsShort n → length (decimal n) ≤ 18
+few_digits n short = length-decimal-le 18 n (omega arith) short (omega (arith, short))
+
 pub number_plain : (n : ℕ) → IsShort n → IsPlain (number n)
-number_plain n short = all_weaker is_ascii_digit is_plain digit_plain (decimal n) (digits_decimal digits_model n (omega (arith, short)))
+number_plain n short = and_from (list_all is_plain (decimal n)) (nat_le (length (decimal n)) 24) (digits_plain n short) (is_24 (length (decimal n)) (omega (arith, few_digits n short)))
 
 pub signed_plain : (z : ℤ) → IsSmall z → IsPlain (signed_decimal z)
 signed_plain (pos n) small = number_plain n small
-signed_plain (negsuc n) small = number_plain (suc n) small
+signed_plain (negsuc n) small =
+    let word = signed_decimal (negsuc n) in
+    and_from (list_all is_plain word) (nat_le (length word) 24) (digits_plain (suc n) small) (is_24 (length word) (omega (arith, few_digits (suc n) small)))
 
 pub name_plain : (name : List ℕ) → is_name name ≡ true → IsPlain name
 name_plain name is =
-    let letters = (and_parts (nat_le 1 (length name) && nat_le (length name) 24) (list_all (λ b. nat_le 0x21 b && nat_le b 0x7E) name) is).1 in
-    all_weaker (λ b. nat_le 0x21 b && nat_le b 0x7E) is_plain letter_plain name letters
+    let parts = and_parts (nat_le 1 (length name) && nat_le (length name) 24) (list_all (λ b. nat_le 0x21 b && nat_le b 0x7E) name) is in
+    let few = (and_parts (nat_le 1 (length name)) (nat_le (length name) 24) parts.0).1 in
+    and_from (list_all is_plain name) (nat_le (length name) 24) (all_weaker (λ b. nat_le 0x21 b && nat_le b 0x7E) is_plain letter_plain name parts.1) few
 
 pub checked : (name : List ℕ) → is_name name ≡ true → checked_name name ≡ Some name
 checked name is = ap (λ (b : Bool). if b then Some name else None) is

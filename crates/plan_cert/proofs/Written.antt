@@ -1,17 +1,14 @@
 -- What is written is read: the text of a well formed certificate of a valid job gives the job, the certificate and version 2.
-use Rattle.std.proofs.Common.{◌≡◌, ◌≢◌, ℕ, ◌+◌, ◌^◌, ◌<◌, ◌≤◌, true, List, [], ◌∷◌, ◌++◌, length, map, get_or, All, AllPairs, Option, None, Result, Ok, refl, sym, ap, subst, ◌∙◌, eq-eqb, append_assoc, arith}
+use Rattle.std.proofs.Common.{◌≡◌, ℕ, ◌+◌, ◌≤◌, true, List, [], ◌∷◌, ◌++◌, length, map, get_or, Option, None, Result, Ok, refl, sym, ap, subst, ◌∙◌, eq-eqb, append_assoc, arith}
 use Rattle.std.specs.Prelude.{is_some}
 use Rattle.std.specs.List.{flat_map, enumerate_from}
-use Rattle.std.proofs.lemmas.List.{length-map, get_or-map, map-append}
-use Rattle.std.proofs.Math.Nat.{pow-le-pow_right}
+use Rattle.std.proofs.lemmas.List.{map-append}
 use Rattle.brake_base.specs.declared.stroke.Step.{Step}
 use Rattle.brake_base.specs.declared.stroke.Key.{Key}
 use Rattle.brake_base.specs.declared.stroke.Worth.{Worth}
 use Rattle.brake_base.specs.declared.stroke.Worth.TheVariants.{Cost, Blocked}
-use Rattle.brake_base.specs.Keys.{KeyIsBefore}
 use Rattle.job_setup.specs.Setup.{JobData, bend_count, stage_count}
 use Rattle.job_setup.specs.ValidJob.{IsJob}
-use Rattle.handling_cost.proofs.Pigeonhole.{at_most}
 use Rattle.plan_cert.specs.FirstVersion.{HasStepForEach, HasText1}
 use Rattle.plan_cert.specs.declared.format.Format.{Format}
 use Rattle.plan_cert.specs.declared.format.Format.TheVariants.{Version1, Version2, Table}
@@ -27,14 +24,15 @@ use Rattle.plan_cert.specs.Cert.{CertData}
 use Rattle.plan_cert.specs.Lines.{claim_line, step_line, end_line, line_text}
 use Rattle.plan_cert.specs.CertText.{rows_lines, cert_text2, plan_lines, cert_text1}
 use Rattle.plan_cert.specs.CertItems.{row_items, rows_items}
-use Rattle.plan_cert.specs.WellFormed.{IsWorth, HasSteps, IsRow, AreRows, IsWellFormed}
+use Rattle.plan_cert.specs.WellFormed.{IsWorth, HasSteps, AreRows, IsWellFormed}
 use Rattle.plan_cert.specs.JobLines.{JobLinesData}
 use Rattle.plan_cert.specs.JobReading.{take_line}
 use Rattle.plan_cert.specs.PlanReading.{are_enough, behind_claim, may_leave, may_be_row, may_follow_job}
 use Rattle.plan_cert.specs.Items.{items}
 use Rattle.plan_cert.specs.CertReading.{no_cert, cert_of, cert_file_of, version_in}
 use Rattle.plan_cert.proofs.NoteOrder.{ascend}
-use Rattle.plan_cert.proofs.WellRead.{IsSmall, rank, rank_less}
+use Rattle.plan_cert.proofs.WellRead.{IsSmall}
+use Rattle.plan_cert.proofs.RowOrder.{few_rows}
 use Rattle.plan_cert.proofs.ReadWell.{small_of, body_items, IsCertificate, claim_first}
 use Rattle.plan_cert.proofs.TextsGiven.{Behind, some_more, text_given}
 use Rattle.plan_cert.proofs.PlanLinesRead.{claim_alone}
@@ -130,30 +128,11 @@ unfolding cert_text1
 items_1 job cert valid form has =
     text_given Certificate Version1 job (plan_lines job cert) (body_items cert) refl valid has.told (plan_behind Version1 job cert tt (small_of job valid) form has.steps)
 
--- there are few rows
-few_rows : (job : JobData) (rows : List RowHead) → IsSmall job → All (IsRow job) rows → AllPairs KeyIsBefore (map (λ (r : RowHead). r.key) rows) → length rows ≤ 2 ^ 20
-few_rows job rows small each order = at_most (λ (r : RowHead). rank r.key) (2 ^ 20) rows apart below
-  where
-    apart : AllPairs (λ (a b : RowHead). rank a.key ≢ rank b.key) rows
-    apart i j d less within same =
-        let long : length (map (λ (r : RowHead). r.key) rows) ≡ length rows = simp length-map in
-        let before : KeyIsBefore (get_or (map (λ (r : RowHead). r.key) rows) i d.key) (get_or (map (λ (r : RowHead). r.key) rows) j d.key) = order i j d.key less (omega (arith, long, within)) in
-        let mine : KeyIsBefore (get_or rows i d).key (get_or rows j d).key = subst (λ k. KeyIsBefore k (get_or rows j d).key) (get_or-map (λ (r : RowHead). r.key) rows i d d.key (omega (arith, less, within)))
-        (subst (λ k. KeyIsBefore (get_or (map (λ (r : RowHead). r.key) rows) i d.key) k) (get_or-map (λ (r : RowHead). r.key) rows j d d.key within) before) in
-        let less' = rank_less job (get_or rows i d) (get_or rows j d) small.stages (each i d (omega (arith, less, within))) (each j d within) mine in
-        absurd (omega (arith, less', same))
-
-    below : All (λ (r : RowHead). rank r.key < 2 ^ 20) rows
-    below k d within =
-        let is = each k d within in
-        let masks : 2 ^ bend_count job ≤ 2 ^ 12 = pow-le-pow_right (omega arith) small.bends in
-        let mask : (get_or rows k d).key.mask.0 + 1 < 4096 = omega (arith, masks, is.mask) in
-        omega (arith, mask, is.attitude, is.stage, small.stages)
-
 -- the certificate of its items
-cert_back : (job : JobData) (cert : CertData) → IsSmall job → IsWellFormed job cert → cert_of no_cert (oks (body_items cert) ++ Ok given.End ∷ []) ≡ Ok cert
+cert_back : (job : JobData) (cert : CertData) → IsJob job → IsWellFormed job cert → cert_of no_cert (oks (body_items cert) ++ Ok given.End ∷ []) ≡ Ok cert
 unfolding cert_of rows_items
-cert_back job cert small form =
+cert_back job cert valid form =
+    let small = small_of job valid in
     let end = Ok given.End ∷ [] in
     let steps = map given.Step cert.steps in
     let rows = flat_map (row_items cert.notes) (enumerate_from 0 cert.rows) in
@@ -163,11 +142,11 @@ cert_back job cert small form =
     let notes : flat_map (own_notes cert.notes) (enumerate_from 0 cert.rows) ≡ cert.notes = all_own 0 cert.rows cert.notes (ascend 0 cert.notes (λ d some. omega arith) form.rows.note_order) (λ k d within. let inside = (form.rows.each_note k d within).row in omega (arith, inside)) in
     ap (λ (a : List (Result Item CertFault)). cert_of c1 a) cut
     ∙ fold_steps c1 cert.steps (oks rows ++ end) (few_steps cert.claim form.has_steps)
-    ∙ fold_rows c2 0 cert.rows cert.notes end refl (let few = few_rows job cert.rows small form.rows.each_row form.rows.row_order in omega (arith, few))
+    ∙ fold_rows c2 0 cert.rows cert.notes end refl (let few = few_rows job valid cert.rows (record { each = form.rows.each_row; order = form.rows.row_order }) in omega (arith, few))
     ∙ ap (λ (ns : List Note). Ok (record cert { notes = ns })) notes
   where
     few_steps : (claim : Worth) → HasSteps job claim cert.steps → 0 + length cert.steps ≤ 12
-    few_steps (Cost cost) has = omega (arith, has, small.bends)
+    few_steps (Cost cost) has = let bends = (small_of job valid).bends in omega (arith, has, bends)
     few_steps Blocked none = let empty : length cert.steps ≡ 0 = ap (λ (ss : List Step). length ss) none in omega (arith, empty)
 
 version_2 : (job : JobData) (cert : CertData) → version_in (cert_text2 job cert) ≡ 2
@@ -181,11 +160,11 @@ version_1 job cert = refl
 -- the text of version 2 gives the job and the certificate
 pub written_is_read : (job : JobData) (cert : CertData) → IsJob job → IsWellFormed job cert → cert_file_of (cert_text2 job cert) ≡ Ok (record { job = job; cert = cert; version = 2 })
 written_is_read job cert valid form =
-    file_of (cert_text2 job cert) job (oks (body_items cert) ++ Ok given.End ∷ []) cert (items_2 job cert valid form) (cert_back job cert (small_of job valid) form)
+    file_of (cert_text2 job cert) job (oks (body_items cert) ++ Ok given.End ∷ []) cert (items_2 job cert valid form) (cert_back job cert valid form)
     ∙ ap (λ (v : ℕ). Ok (record { job = job; cert = cert; version = v })) (version_2 job cert)
 
 -- that of version 1 does too
 pub old_is_read : (job : JobData) (cert : CertData) → IsJob job → IsWellFormed job cert → HasText1 job cert → cert_file_of (cert_text1 job cert) ≡ Ok (record { job = job; cert = cert; version = 1 })
 old_is_read job cert valid form has =
-    file_of (cert_text1 job cert) job (oks (body_items cert) ++ Ok given.End ∷ []) cert (items_1 job cert valid form has) (cert_back job cert (small_of job valid) form)
+    file_of (cert_text1 job cert) job (oks (body_items cert) ++ Ok given.End ∷ []) cert (items_1 job cert valid form has) (cert_back job cert valid form)
     ∙ ap (λ (v : ℕ). Ok (record { job = job; cert = cert; version = v })) (version_1 job cert)

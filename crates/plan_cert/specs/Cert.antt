@@ -6,7 +6,8 @@ use Rattle.plan_cert.specs.declared.cert.RowHead.{RowHead}
 use Rattle.plan_cert.specs.declared.cert.Note.{Note}
 use Rattle.plan_cert.specs.declared.cert.Cert.{Cert}
 
--- a claim, the steps of a plan of that cost, settled keys with what was proved of them, and the reasons that were found there
+-- a claim, the steps of a plan of that cost, settled keys with what was proved of them, and the
+-- reasons that were found there
 pub record CertData : Type 0 where
   pub claim : Worth
   pub steps : List Step
@@ -14,4 +15,9 @@ pub record CertData : Type 0 where
   pub notes : List Note
 
 abbrev pub cert_data : Cert → CertData
-cert_data c = record { claim = c.claim; steps = c.steps.items; rows = c.rows.items; notes = c.notes.items }
+cert_data c = record {
+  claim = c.claim;
+  steps = c.steps.items;
+  rows = c.rows.items;
+  notes = c.notes.items;
+}

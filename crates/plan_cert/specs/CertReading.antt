@@ -32,11 +32,20 @@ no_cert = record { claim = Blocked; steps = []; rows = []; notes = [] }
 
 -- a certificate has at most 12 steps
 abbrev pub with_step : CertData → Step → CertData
-with_step c step = if nat_lt (length c.steps) 12 then record c { steps = c.steps ++ step ∷ [] } else c
+with_step c step = if nat_lt (length c.steps) 12
+    then record c { steps = c.steps ++ step ∷ [] }
+    else c
 
--- a note is of the last row; its count stands still at the greatest u32, which no certificate reaches
+-- a note is of the last row; its count stands still at the greatest u32, which no certificate
+-- reaches
 abbrev pub with_note : CertData → ℕ → Reason → CertData
-with_note c action reason = record c { notes = c.notes ++ record { row = min (length c.rows - 1) (2 ^ 32 - 1); action = action; reason = reason } ∷ [] }
+with_note c action reason = record c {
+  notes = c.notes ++ record {
+    row = min (length c.rows - 1) (2 ^ 32 - 1);
+    action = action;
+    reason = reason;
+  } ∷ [];
+}
 
 -- what an item adds
 abbrev pub with_item : CertData → Item → CertData
@@ -58,7 +67,14 @@ cert_of c (Ok item ∷ more) = if is_last item then Ok c else cert_of (with_item
 
 -- the job of the first item, and the certificate of the others
 unfoldable pub with_job : List ℕ → List (Result Item CertFault) → Result CertFileData CertFault
-with_job text (Ok (given.Job job) ∷ more) = elim (cert_of no_cert more) [ Ok cert ↦ Ok (record { job = job; cert = cert; version = version_in text }) | Err fault ↦ Err fault ]
+with_job text (Ok (given.Job job) ∷ more) = elim (cert_of no_cert more) [
+  | Ok cert ↦ Ok (record {
+    job = job;
+    cert = cert;
+    version = version_in text;
+  })
+  | Err fault ↦ Err fault
+]
 with_job text (Err fault ∷ more) = Err fault
 with_job text _ = Err faults.Unended
 
@@ -73,13 +89,18 @@ answers_left r = drop r.answered (items r.kind r.text)
 abbrev pub AnswersLeft : Reading → Type 0
 AnswersLeft r = r.answered < length (items r.kind r.text)
 
--- an item was added: the last one, or one behind which the others are still to be added; or the certificate is refused
+-- an item was added: the last one, or one behind which the others are still to be added; or the
+-- certificate is refused
 abbrev pub Collects : Result Bool CertFault → CertData → Reading → CertData → Reading → Type 0
 Collects (Ok true) cert reader added behind = cert_of cert (answers_left reader) ≡ Ok added
-Collects (Ok false) cert reader added behind = (cert_of cert (answers_left reader) ≡ cert_of added (answers_left behind)) × AnswersLeft behind
-Collects (Err fault) cert reader added behind = (fault ≡ faults.NoMemory) ⊎ (cert_of cert (answers_left reader) ≡ Err fault)
+Collects (Ok false) cert reader added behind =
+    (cert_of cert (answers_left reader) ≡ cert_of added (answers_left behind)) × AnswersLeft behind
+Collects (Err fault) cert reader added behind =
+    (fault ≡ faults.NoMemory) ⊎ (cert_of cert (answers_left reader) ≡ Err fault)
 
 -- the first item is a job, behind which others are still to be read; or the certificate is refused
 abbrev pub BeginsWith : Reading → Result JobData CertFault → Reading → Type 0
-BeginsWith reader (Ok job) behind = (answers_left reader ≡ Ok (given.Job job) ∷ answers_left behind) × AnswersLeft behind × (0 < behind.answered)
+BeginsWith reader (Ok job) behind =
+    (answers_left reader ≡ Ok (given.Job job) ∷ answers_left behind) × AnswersLeft behind
+    × (0 < behind.answered)
 BeginsWith reader (Err fault) behind = cert_file_of reader.text ≡ Err fault

@@ -1,4 +1,5 @@
--- The texts of a certificate and of a table file: all have the lines of version 2, but for those that version 1 leaves out.
+-- The texts of a certificate and of a table file: all have the lines of version 2, but for those
+-- that version 1 leaves out.
 use Rattle.std.specs.Prelude.{ℕ, ◌==◌, Bool, true, false, List, [], ◌∷◌, ◌++◌, map, filter}
 use Rattle.std.specs.List.{flat_map, enumerate_from}
 use Rattle.job_setup.specs.Setup.{JobData, stage_count}
@@ -7,7 +8,7 @@ use Rattle.plan_cert.specs.declared.cert.Note.{Note}
 use Rattle.plan_cert.specs.declared.format.Format.{Format}
 use Rattle.plan_cert.specs.declared.format.Format.TheVariants.{Version1, Version2, Table}
 use Rattle.plan_cert.specs.Cert.{CertData}
-use Rattle.plan_cert.specs.Lines.{CertLine, format_line, gang_line, force_line, load_line, claim_line, step_line, row_line, note_line, end_line, lines_text, action_at}
+use Rattle.plan_cert.specs.Lines.{CertLine, format_line, gang_line, force_line, fine_line, load_line, claim_line, step_line, row_line, note_line, end_line, lines_text, action_at}
 use Rattle.plan_cert.specs.JobText.{job_lines}
 
 -- the line of a note on a machine with so many stages
@@ -16,16 +17,18 @@ line_of_note stages note = note_line (action_at stages note.action) note.reason
 
 -- a row, and its notes
 abbrev pub row_lines : ℕ → List Note → ℕ × RowHead → List CertLine
-row_lines stages notes row = row_line row.1 ∷ map (line_of_note stages) (filter (λ note. note.row == row.0) notes)
+row_lines stages notes row =
+    row_line row.1 ∷ map (line_of_note stages) (filter (λ note. note.row == row.0) notes)
 
 -- the rows in order, each with its notes
 unfoldable pub rows_lines : ℕ → List RowHead → List Note → List CertLine
 rows_lines stages rows notes = flat_map (row_lines stages notes) (enumerate_from 0 rows)
 
--- version 1 has no lines of gangs, of forces and of loads
+-- version 1 has no lines of gangs, of forces, of depths and of loads
 abbrev pub is_of_version1 : CertLine → Bool
 is_of_version1 (gang_line gang) = false
 is_of_version1 (force_line force) = false
+is_of_version1 (fine_line depth) = false
 is_of_version1 (load_line load limit) = false
 is_of_version1 _ = true
 
@@ -36,11 +39,14 @@ lines_of_format _ lines = lines
 
 -- the lines of a text: its format, the job, the lines behind the job, and the end
 abbrev pub format_lines : Format → JobData → List CertLine → List CertLine
-format_lines format job behind = format_line format ∷ lines_of_format format (job_lines job) ++ behind ++ end_line ∷ []
+format_lines format job behind =
+    format_line format ∷ lines_of_format format (job_lines job) ++ behind ++ end_line ∷ []
 
 -- the lines of a certificate behind its job
 abbrev pub plan_lines : JobData → CertData → List CertLine
-plan_lines job cert = claim_line cert.claim ∷ map step_line cert.steps ++ rows_lines (stage_count job) cert.rows cert.notes
+plan_lines job cert =
+    claim_line cert.claim ∷ map step_line cert.steps
+    ++ rows_lines (stage_count job) cert.rows cert.notes
 
 -- the text of a certificate that is written: version 2
 unfoldable pub cert_text2 : JobData → CertData → List ℕ
@@ -52,4 +58,5 @@ cert_text1 job cert = lines_text (format_lines Version1 job (plan_lines job cert
 
 -- the text of a table file: the rows of a job in order, each with its notes
 unfoldable pub table_text : JobData → List RowHead → List Note → List ℕ
-table_text job rows notes = lines_text (format_lines Table job (rows_lines (stage_count job) rows notes))
+table_text job rows notes =
+    lines_text (format_lines Table job (rows_lines (stage_count job) rows notes))

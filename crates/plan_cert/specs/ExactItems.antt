@@ -18,10 +18,15 @@ IsReadToEnd kind text = (body : List Item) × (items kind text ≡ map Ok (body 
 
 -- exactly a certificate's text is read to its end, and its items are the certificate's
 pub record ReadsCertTexts (text : List ℕ) : Type 0 where
-  pub each : (file : CertFileData) → IsTextOf file text → items kinds.Certificate text ≡ map Ok (cert_items file.job file.cert)
+  pub each : (file : CertFileData) → IsTextOf file text
+      → items kinds.Certificate text ≡ map Ok (cert_items file.job file.cert)
   pub only : IsReadToEnd kinds.Certificate text → (file : CertFileData) × IsTextOf file text
 
 -- exactly a table's text is read to its end, and its items are the table's
 pub record ReadsTableTexts (text : List ℕ) : Type 0 where
-  pub each : (job : JobData) (heads : List RowHead) (notes : List Note) → IsTableText job heads notes text → items kinds.Table text ≡ map Ok (table_items job heads notes)
-  pub only : IsReadToEnd kinds.Table text → (job : JobData) × (heads : List RowHead) × (notes : List Note) × IsTableText job heads notes text
+  pub each : (job : JobData) (heads : List RowHead) (notes : List Note)
+      → IsTableText job heads notes text
+      → items kinds.Table text ≡ map Ok (table_items job heads notes)
+  pub only : IsReadToEnd kinds.Table text
+      → (job : JobData) × (heads : List RowHead) × (notes : List Note)
+      × IsTableText job heads notes text

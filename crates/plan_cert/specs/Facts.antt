@@ -11,11 +11,14 @@ none_folded bend = false
 
 -- the mask holds the lesser bends that are in the bend's group where no bend is folded
 abbrev pub AreEarlier : JobData → ℕ → Mask → Type 0
-AreEarlier job bend mask = (other : ℕ) → has mask other ≡ (nat_lt other bend && in_group job none_folded bend other)
+AreEarlier job bend mask =
+    (other : ℕ) → has mask other ≡ (nat_lt other bend && in_group job none_folded bend other)
 
 -- a mask for each bend
 abbrev pub AreAllEarlier : JobData → List Mask → Type 0
-AreAllEarlier job masks = (bend : ℕ) (d : Mask) → 1 ≤ bend → bend ≤ bend_count job → AreEarlier job bend (slice_index_or masks (bend - 1) d)
+AreAllEarlier job masks =
+    (bend : ℕ) (d : Mask) → 1 ≤ bend → bend ≤ bend_count job
+    → AreEarlier job bend (slice_index_or masks (bend - 1) d)
 
 -- what is kept of a job
 pub record KeepsFacts (facts : JobFacts) (job : JobData) : Type 0 where

@@ -20,7 +20,7 @@ abbrev pub format_of : TextKind → List ℕ → Option Format
 format_of Certificate line = version_of line
 format_of TableKind line = table_of line
 
--- version 1 has neither gangs nor forces nor loads
+-- version 1 has neither gangs nor forces nor depths nor loads
 abbrev pub has_loads : Format → Bool
 has_loads Version1 = false
 has_loads _ = true

@@ -23,7 +23,8 @@ use Rattle.plan_cert.specs.LineReading.{keyword_in, behind_keyword}
 abbrev pub lines_in : List ℕ → List (List ℕ)
 lines_in text = slice_split is_line_feed text
 
--- the number of the next line; a count stands still at the greatest u32, which no certificate reaches
+-- the number of the next line; a count stands still at the greatest u32, which no certificate
+-- reaches
 abbrev pub next_number : ℕ → ℕ
 next_number n = min (n + 1) (2 ^ 32 - 1)
 
@@ -37,37 +38,50 @@ is_over sections.Over = true
 is_over _ = false
 
 -- what a line behind the job gives that is no claim, step, row or note where it stands
-abbrev pub end_or_fault : Format → JobData → ℕ → Section → List ℕ → List (List ℕ) → Result Item CertFault
-end_or_fault format job n section line rest = if is_end_line line && may_leave format (bend_count job) section then end_before rest else Err (faults.BadLine n)
+abbrev pub end_or_fault : Format → JobData → ℕ → Section → List ℕ → List (List ℕ)
+    → Result Item CertFault
+end_or_fault format job n section line rest =
+    if is_end_line line && may_leave format (bend_count job) section
+    then end_before rest
+    else Err (faults.BadLine n)
 
 -- what line n behind the job gives, and where the next one stands
-abbrev pub plan_item : Format → JobData → ℕ → Section → List ℕ → List (List ℕ) → Result Item CertFault × Section
+abbrev pub plan_item : Format → JobData → ℕ → Section → List ℕ → List (List ℕ)
+    → Result Item CertFault × Section
 plan_item format job n section line [] = (Err faults.Unended, sections.Over)
-plan_item format job n section line (next ∷ more) = elim (take_plan_line format job section (keyword_in line) (behind_keyword line)) [
-  | Some taken ↦ (Ok taken.0, taken.1)
-  | None ↦ (end_or_fault format job n section line (next ∷ more), sections.Over)
-]
+plan_item format job n section line (next ∷ more) =
+    elim (take_plan_line format job section (keyword_in line) (behind_keyword line)) [
+      | Some taken ↦ (Ok taken.0, taken.1)
+      | None ↦ (end_or_fault format job n section line (next ∷ more), sections.Over)
+    ]
 
 -- what the lines behind the job give, from line n on
-unfoldable pub plan_items : Format → JobData → ℕ → Section → List (List ℕ) → List (Result Item CertFault)
+unfoldable pub plan_items : Format → JobData → ℕ → Section → List (List ℕ)
+    → List (Result Item CertFault)
 plan_items format job n section [] = []
 plan_items format job n section (line ∷ rest) = if is_over section
     then []
-    else (plan_item format job n section line rest).0 ∷ plan_items format job (next_number n) (plan_item format job n section line rest).1 rest
+    else (plan_item format job n section line rest).0
+    ∷ plan_items format job (next_number n) (plan_item format job n section line rest).1 rest
 
 -- the job of the job lines and what stands behind them, from line n on
 abbrev pub judged_items : ℕ → JobLinesData → List (List ℕ) → List (Result Item CertFault)
 judged_items n lines rest = if lines.is_sound && is_job (job_of lines)
-    then Ok (given.Job (job_of lines)) ∷ plan_items lines.format (job_of lines) n (first_section lines.format) rest
+    then Ok (given.Job (job_of lines))
+    ∷ plan_items lines.format (job_of lines) n (first_section lines.format) rest
     else Err faults.BadJob ∷ []
 
 -- the job lines are complete, and the line may follow them
 abbrev pub may_be_judged : JobLinesData → List ℕ → Bool
-may_be_judged lines line = is_complete lines.format lines.last && may_follow_job lines.format (bend_count (job_of lines)) (stage_count (job_of lines)) line
+may_be_judged lines line =
+    is_complete lines.format lines.last
+    && may_follow_job lines.format (bend_count (job_of lines)) (stage_count (job_of lines)) line
 
 -- what stands behind the job lines, from line n on
 abbrev pub items_behind : ℕ → JobLinesData → List ℕ → List (List ℕ) → List (Result Item CertFault)
-items_behind n lines line rest = if may_be_judged lines line then judged_items n lines (line ∷ rest) else Err (faults.BadLine n) ∷ []
+items_behind n lines line rest = if may_be_judged lines line
+    then judged_items n lines (line ∷ rest)
+    else Err (faults.BadLine n) ∷ []
 
 -- the items from line n on, behind these job lines
 unfoldable pub job_items : ℕ → JobLinesData → List (List ℕ) → List (Result Item CertFault)

@@ -1,7 +1,7 @@
 -- The job lines so far: what they give, and what is given before the first.
 use Rattle.std.specs.Prelude.{◌≡◌, ℤ, pos, Bool, true, false, nat_lt, [], length, Option, Some, None}
 use Rattle.part_file.specs.Part.{PartData, part_data}
-use Rattle.machine_file.specs.declared.bounds.TheConstants.{MOST_STAGES}
+use Rattle.machine_file.specs.Bounds.{most_stages}
 use Rattle.machine_file.specs.declared.machine.GaugeRule.{GaugeRule}
 use Rattle.machine_file.specs.declared.machine.Costs.{Costs}
 use Rattle.tool_library.specs.Tools.{PunchData, DieData}
@@ -12,7 +12,7 @@ use Rattle.plan_cert.specs.declared.line_kind.LineKind.TheVariants as kinds
 use Rattle.plan_cert.specs.declared.job_reading.JobLines.{JobLines}
 
 -- the job lines so far: their format, the kind of the last one, the values that they give, the stage that isn't complete yet,
--- and whether no cost is negative and `gang` is 0 or 1
+-- and whether no cost is negative, `gang` is 0 or 1, and `fine` is 1 to 12
 pub record JobLinesData : Type 0 where
   pub format : Format
   pub last : LineKind
@@ -50,15 +50,15 @@ abbrev pub no_costs : Costs
 no_costs = record { stroke = 0; quarter = 0; half = 0; flip = 0; roll = 0; stage = 0 }
 
 abbrev pub no_setup : SetupData
-no_setup = record { bed = (pos 0, pos 0); frames = []; upper = []; lower = []; uncovered = pos 0; gauge = no_gauge; cost = no_costs; stages = []; gang = false; force = pos 0 }
+no_setup = record { bed = (pos 0, pos 0); frames = []; upper = []; lower = []; uncovered = pos 0; gauge = no_gauge; cost = no_costs; stages = []; gang = false; force = pos 0; fine = 0 }
 
--- nothing but the format is read; a job of version 1 has no gangs, no force and no loads
+-- nothing but the format is read; a job of version 1 has no gangs, no force, no depth and no loads
 abbrev pub no_lines : Format → JobLinesData
 no_lines format = record { format = format; last = kinds.Format; part = no_part; q = pos 0; setup = no_setup; stage = begun_stage (pos 0) (pos 0); is_sound = true }
 
 -- there is room for another stage
 abbrev pub has_room : JobLinesData → Bool
-has_room s = nat_lt (length s.setup.stages) MOST_STAGES
+has_room s = nat_lt (length s.setup.stages) most_stages
 
 -- the values that the job lines give
 abbrev pub job_of : JobLinesData → JobData

@@ -8,7 +8,7 @@ use Rattle.plan_cert.specs.LineKinds.{job_line_behind}
 use Rattle.plan_cert.specs.JobLines.{JobLinesData}
 use Rattle.plan_cert.specs.PartReading.{take_part, take_face}
 use Rattle.plan_cert.specs.FixtureReading.{take_bed, take_frame, take_upper, take_lower}
-use Rattle.plan_cert.specs.RuleReading.{take_uncovered, take_gauge, take_cost, take_gang, take_force}
+use Rattle.plan_cert.specs.RuleReading.{take_uncovered, take_gauge, take_cost, take_gang, take_force, take_fine}
 use Rattle.plan_cert.specs.StageReading.{take_stage, take_pieces, take_load}
 use Rattle.plan_cert.specs.ToolReading.{take_punch, take_punch_box, take_die, take_die_box}
 
@@ -26,6 +26,7 @@ take_words s kinds.Gauge text = take_gauge s text
 take_words s kinds.Cost text = take_cost s text
 take_words s kinds.Gang text = take_gang s text
 take_words s kinds.Force text = take_force s text
+take_words s kinds.Fine text = take_fine s text
 take_words s kinds.Stage text = take_stage s text
 take_words s kinds.Punch text = take_punch s text
 take_words s kinds.PunchBox text = take_punch_box s text

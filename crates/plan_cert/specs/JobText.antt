@@ -1,11 +1,11 @@
 -- The job lines of a certificate, in order.
-use Rattle.std.specs.Prelude.{ℕ, ℤ, pos, Bool, true, false, List, [], ◌∷◌, ◌++◌, map}
+use Rattle.std.specs.Prelude.{ℕ, ◌==◌, ℤ, pos, Bool, true, false, List, [], ◌∷◌, ◌++◌, map, if◌then◌else◌}
 use Rattle.std.specs.List.{flat_map}
 use Rattle.part_file.specs.Part.{PartData}
 use Rattle.machine_file.specs.declared.machine.Costs.{Costs}
 use Rattle.tool_library.specs.Tools.{PunchData, DieData}
 use Rattle.job_setup.specs.Setup.{StageData, SetupData, JobData}
-use Rattle.plan_cert.specs.Lines.{CertLine, part_line, face_line, bed_line, frame_line, upper_line, lower_line, uncovered_line, gauge_line, cost_line, gang_line, force_line, stage_line, punch_line, die_line, box_line, pieces_line, load_line, lines_text}
+use Rattle.plan_cert.specs.Lines.{CertLine, part_line, face_line, bed_line, frame_line, upper_line, lower_line, uncovered_line, gauge_line, cost_line, gang_line, force_line, fine_line, stage_line, punch_line, die_line, box_line, pieces_line, load_line, lines_text}
 
 -- the sheet and its bends' half deduction, then the faces
 abbrev pub part_lines : PartData → ℤ → List CertLine
@@ -23,10 +23,14 @@ gang_number false = pos 0
 abbrev pub fixture_lines : SetupData → List CertLine
 fixture_lines s = bed_line s.bed ∷ map frame_line s.frames ++ map upper_line s.upper ++ map lower_line s.lower
 
+-- how often in a row a piece may be halved, where it may at all
+abbrev pub fine_lines : ℕ → List CertLine
+fine_lines depth = if depth == 0 then [] else fine_line (pos depth) ∷ []
+
 -- the machine's rules and costs
 abbrev pub rule_lines : SetupData → List CertLine
 rule_lines s =
-    uncovered_line s.uncovered ∷ gauge_line s.gauge ∷ costs_line s.cost ∷ gang_line (gang_number s.gang) ∷ force_line s.force ∷ []
+    uncovered_line s.uncovered ∷ gauge_line s.gauge ∷ costs_line s.cost ∷ gang_line (gang_number s.gang) ∷ force_line s.force ∷ fine_lines s.fine
 
 abbrev pub punch_lines : PunchData → List CertLine
 punch_lines p = punch_line p.name p.height p.nose ∷ map box_line p.body

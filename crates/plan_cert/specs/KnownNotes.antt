@@ -16,14 +16,18 @@ use Rattle.plan_cert.specs.Items.{lines_in}
 pub record IsKnown (note : KnownNote) : Type 0 where
   pub alone : All (λ byte. byte ≢ 10) note.line.now
   pub keyword : plan_line_of (keyword_in note.line.now) ≡ Some kinds.Note
-  pub words : note_in note.bends note.stages (behind_keyword note.line.now) ≡ Some (note.action, note.reason)
+  pub words : note_in note.bends note.stages (behind_keyword note.line.now)
+      ≡ Some (note.action, note.reason)
 
 -- each note is so
 abbrev pub AreKnown : List (Option KnownNote) → Type 0
-AreKnown notes = (place : ℕ) (note : KnownNote) → slice_index_or notes place None ≡ Some note → IsKnown note
+AreKnown notes =
+    (place : ℕ) (note : KnownNote) → slice_index_or notes place None ≡ Some note → IsKnown note
 
 -- the first line of the text gives this where it stands, and this stands behind it
-pub record IsLineTaken (facts : JobFacts) (section : Section) (text : List ℕ) (taken : Item × Section) (rest : List ℕ) : Type 0 where
+pub record IsLineTaken (facts : JobFacts) (section : Section) (text : List ℕ)
+    (taken : Item × Section) (rest : List ℕ) : Type 0 where
   pub line : List ℕ
   pub cut : lines_in text ≡ line ∷ lines_in rest
-  pub gives : (job : JobData) → KeepsFacts facts job → take_plan_line facts.format job section (keyword_in line) (behind_keyword line) ≡ Some taken
+  pub gives : (job : JobData) → KeepsFacts facts job
+      → take_plan_line facts.format job section (keyword_in line) (behind_keyword line) ≡ Some taken

@@ -11,10 +11,12 @@ pub mod StageReading
 pub mod ToolReading
 pub mod JobReading
 pub mod JobText
+pub mod KeyPlaces
 pub mod WellFormed
 pub mod CertText
 pub mod FirstVersion
 pub mod GoodCert
+pub mod RowFaults
 pub mod PlanReading
 pub mod JobTest
 pub mod Facts

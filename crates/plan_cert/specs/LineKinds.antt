@@ -44,6 +44,10 @@ abbrev pub is_gang : LineKind → Bool
 is_gang kinds.Gang = true
 is_gang _ = false
 
+abbrev pub is_force : LineKind → Bool
+is_force kinds.Force = true
+is_force _ = false
+
 abbrev pub is_stage : LineKind → Bool
 is_stage kinds.Stage = true
 is_stage _ = false
@@ -70,6 +74,7 @@ is_complete Version1 kinds.Cost = true
 is_complete Version1 kinds.Pieces = true
 is_complete Version1 _ = false
 is_complete _ kinds.Force = true
+is_complete _ kinds.Fine = true
 is_complete _ kinds.Load = true
 is_complete _ _ = false
 
@@ -96,6 +101,7 @@ rule_line_behind last keyword = if bytes_eq keyword (codes "uncovered") then Som
     else if bytes_eq keyword (codes "cost") then Some kinds.Cost
     else if bytes_eq keyword (codes "gang") then Some kinds.Gang
     else if bytes_eq keyword (codes "force") then Some kinds.Force
+    else if bytes_eq keyword (codes "fine") then Some kinds.Fine
     else stage_line_behind last keyword
 
 abbrev pub fixture_line_behind : LineKind → List ℕ → Option LineKind

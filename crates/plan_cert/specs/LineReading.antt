@@ -1,4 +1,5 @@
--- What the reading of any line cites: its keyword, the text behind it, and what there is where a test passes.
+-- What the reading of any line cites: its keyword, the text behind it, and what there is where a
+-- test passes.
 use Rattle.std.specs.Prelude.{ℕ, Bool, true, false, List, take, drop, Option, None}
 use Rattle.cert_words.specs.LineWords.{word_length}
 

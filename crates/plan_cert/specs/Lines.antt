@@ -42,6 +42,7 @@ pub data CertLine : Type 0 where
   cost_line : ℤ → ℤ → ℤ → ℤ → ℤ → ℤ → CertLine
   gang_line : ℤ → CertLine
   force_line : ℤ → CertLine
+  fine_line : ℤ → CertLine
   stage_line : ℤ → ℤ → CertLine
   punch_line : List ℕ → ℤ → ℤ → CertLine
   die_line : List ℕ → ℤ → ℤ → ℤ → CertLine
@@ -137,6 +138,7 @@ keyword_of (gauge_line gauge) = codes "gauge"
 keyword_of (cost_line stroke quarter half flip roll stage) = codes "cost"
 keyword_of (gang_line gang) = codes "gang"
 keyword_of (force_line force) = codes "force"
+keyword_of (fine_line depth) = codes "fine"
 keyword_of (stage_line x0 x1) = codes "stage"
 keyword_of (punch_line name height nose) = codes "punch"
 keyword_of (die_line name height v least_flange) = codes "die"
@@ -163,6 +165,7 @@ words_of (gauge_line g) = map signed_decimal (g.near ∷ g.far ∷ g.inset ∷ g
 words_of (cost_line stroke quarter half flip roll stage) = map signed_decimal (stroke ∷ quarter ∷ half ∷ flip ∷ roll ∷ stage ∷ [])
 words_of (gang_line gang) = signed_decimal gang ∷ []
 words_of (force_line force) = signed_decimal force ∷ []
+words_of (fine_line depth) = signed_decimal depth ∷ []
 words_of (stage_line x0 x1) = map signed_decimal (x0 ∷ x1 ∷ [])
 words_of (punch_line name height nose) = name ∷ map signed_decimal (height ∷ nose ∷ [])
 words_of (die_line name height v least_flange) = name ∷ map signed_decimal (height ∷ v ∷ least_flange ∷ [])

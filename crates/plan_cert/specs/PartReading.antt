@@ -1,6 +1,6 @@
 -- Reading the lines of the part: the sheet, and the faces, each on an earlier one.
 use Rattle.std.specs.Prelude.{ℕ, ℤ, Bool, nat_lt, List, [], ◌∷◌, ◌++◌, length, Option, Some, None}
-use Rattle.part_file.specs.declared.bounds.TheConstants.{MOST_FACES}
+use Rattle.part_file.specs.Bounds.{most_faces}
 use Rattle.part_file.specs.Part.{FaceData, PartData}
 use Rattle.plan_cert.specs.declared.line_kind.LineKind.{LineKind}
 use Rattle.plan_cert.specs.declared.line_kind.LineKind.TheVariants as kinds
@@ -31,7 +31,7 @@ with_face s face = record s { last = kinds.Face; part = record s.part { faces = 
 
 -- there is room for another face
 abbrev pub may_take_face : JobLinesData → Bool
-may_take_face s = nat_lt (length s.part.faces) MOST_FACES
+may_take_face s = nat_lt (length s.part.faces) most_faces
 
 unfoldable pub take_face : JobLinesData → List ℕ → Option JobLinesData
 take_face s text = only_if (may_take_face s) (face_behind s.last (length s.part.faces) text >>= λ face. Some (with_face s face))

@@ -1,5 +1,5 @@
 -- Reading the lines behind the job: which line may stand where, and what it gives.
-use Rattle.std.specs.Prelude.{ℕ, ◌+◌, ◌==◌, ◌<◌, ◌≤◌, Bool, true, false, ◌&&◌, ◌||◌, nat_le, nat_lt, List, bytes_eq, codes, Option, Some, None, is_some, if◌then◌else◌}
+use Rattle.std.specs.Prelude.{ℕ, ◌+◌, ◌==◌, Bool, true, false, ◌&&◌, ◌||◌, nat_le, nat_lt, List, bytes_eq, codes, Option, Some, None, is_some, if◌then◌else◌}
 use Rattle.brake_base.specs.declared.stroke.Action.{Action}
 use Rattle.brake_base.specs.declared.stroke.Key.{Key}
 use Rattle.brake_base.specs.declared.stroke.Worth.{Worth}
@@ -119,9 +119,3 @@ may_follow_job _ bends stages line = is_claim_line line
 abbrev pub first_section : Format → Section
 first_section Table = sections.Rows
 first_section _ = sections.Claim
-
--- an action of one of so many bends and of so many stages
-pub record IsActionAmong (bends stages : ℕ) (action : Action) : Type 0 where
-  pub first : 1 ≤ action.bend
-  pub last : action.bend ≤ bends
-  pub stage : action.stage < stages

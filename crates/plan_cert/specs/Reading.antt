@@ -26,7 +26,8 @@ pub record Reading : Type 0 where
 pub record LeavesPlan (stand : Stand) (answers : List (Result Item CertFault)) : Type 0 where
   pub job : JobData
   pub kept : KeepsFacts stand.facts job
-  pub left : answers ≡ plan_items stand.facts.format job stand.number stand.section (lines_in stand.rest.now)
+  pub left : answers ≡ plan_items stand.facts.format job stand.number stand.section
+      (lines_in stand.rest.now)
 
 -- these answers are left behind the job
 abbrev pub LeavesIn : Section → Stand → List (Result Item CertFault) → Type 0
@@ -47,7 +48,9 @@ IsBegun answered begun = begun ≡ nat_lt 0 answered
 
 -- the first of the answers is given, and the others are left
 abbrev pub GivesNext : List (Result Item CertFault) → Result Item CertFault → Stand → Type 0
-GivesNext answers given stand = (more : List (Result Item CertFault)) × (answers ≡ given ∷ more) × (stand.is_begun ≡ true) × HasFew stand.facts × LeavesIn stand.section stand more
+GivesNext answers given stand =
+    (more : List (Result Item CertFault)) × (answers ≡ given ∷ more) × (stand.is_begun ≡ true)
+    × HasFew stand.facts × LeavesIn stand.section stand more
 
 -- the next line is no job line that may stand behind the job lines, or there is no whole one
 abbrev pub Stops : JobLinesData → List (List ℕ) → Type 0
@@ -57,10 +60,14 @@ Stops lines (line ∷ next ∷ more) = take_line lines line ≡ None
 
 -- the values of the job lines are a valid job, or not
 abbrev pub IsJudged : Option JobData → JobLinesData → Type 0
-IsJudged (Some job) lines = (job ≡ job_of lines) × ((lines.is_sound && is_job (job_of lines)) ≡ true)
+IsJudged (Some job) lines =
+    (job ≡ job_of lines) × ((lines.is_sound && is_job (job_of lines)) ≡ true)
 IsJudged None lines = (lines.is_sound && is_job (job_of lines)) ≡ false
 
 -- the answers that begin with the job of the job lines, or are its refusal
-abbrev pub GivesJob : JobLinesData → ℕ → List (List ℕ) → Result JobData CertFault → List (Result Item CertFault) → Type 0
-GivesJob lines n rest (Ok job) answers = (answers ≡ Ok (given.Job job) ∷ plan_items lines.format job n (first_section lines.format) rest) × IsJob job
+abbrev pub GivesJob : JobLinesData → ℕ → List (List ℕ) → Result JobData CertFault
+    → List (Result Item CertFault) → Type 0
+GivesJob lines n rest (Ok job) answers =
+    (answers ≡ Ok (given.Job job) ∷ plan_items lines.format job n (first_section lines.format) rest)
+    × IsJob job
 GivesJob lines n rest (Err fault) answers = answers ≡ Err fault ∷ []

@@ -1,13 +1,13 @@
--- Reading the lines of the machine's rules: what may stay uncovered, the backgauge, the costs, the gangs and the force.
+-- Reading the lines of the machine's rules: what may stay uncovered, the backgauge, the costs, the gangs, the force and the depth.
 use Rattle.std.specs.Prelude.{ℕ, ℤ, Bool, false, ◌&&◌, List, Option, Some, None}
 use Rattle.machine_file.specs.declared.machine.GaugeRule.{GaugeRule}
 use Rattle.machine_file.specs.declared.machine.Costs.{Costs}
 use Rattle.plan_cert.specs.declared.line_kind.LineKind.TheVariants as kinds
 use Rattle.cert_words.specs.LineWords.{◌>>=◌}
-use Rattle.cert_words.specs.JobWords.{number_in, gauge_in, costs_in, costs_of, gang_of}
+use Rattle.cert_words.specs.JobWords.{number_in, gauge_in, costs_in, costs_of, gang_of, fine_of}
 use Rattle.plan_cert.specs.LineReading.{only_if}
 use Rattle.plan_cert.specs.Formats.{has_loads}
-use Rattle.plan_cert.specs.LineKinds.{may_be_lower, is_uncovered, is_gauge, is_cost, is_gang}
+use Rattle.plan_cert.specs.LineKinds.{may_be_lower, is_uncovered, is_gauge, is_cost, is_gang, is_force}
 use Rattle.plan_cert.specs.JobLines.{JobLinesData}
 
 unfoldable pub with_uncovered : JobLinesData → ℤ → JobLinesData
@@ -56,3 +56,15 @@ may_take_force s = is_gang s.last
 
 unfoldable pub take_force : JobLinesData → List ℕ → Option JobLinesData
 take_force s text = only_if (may_take_force s) (number_in text >>= λ force. Some (with_force s force))
+
+-- another number than 1 to 12 makes no job
+unfoldable pub with_fine : JobLinesData → Option ℕ → JobLinesData
+with_fine s None = record s { last = kinds.Fine; is_sound = false }
+with_fine s (Some depth) = record s { last = kinds.Fine; setup = record s.setup { fine = depth } }
+
+-- version 1 has no depth
+abbrev pub may_take_fine : JobLinesData → Bool
+may_take_fine s = has_loads s.format && is_force s.last
+
+unfoldable pub take_fine : JobLinesData → List ℕ → Option JobLinesData
+take_fine s text = only_if (may_take_fine s) (number_in text >>= λ n. Some (with_fine s (fine_of n)))

@@ -1,7 +1,7 @@
 -- Reading the lines of a stage's tools: the punch, the die, and the boxes of each.
 use Rattle.std.specs.Prelude.{ℕ, Bool, ◌&&◌, nat_lt, List, [], ◌∷◌, ◌++◌, length, Option, Some}
 use Rattle.brake_base.specs.declared.plane.Rect.{Rect}
-use Rattle.tool_library.specs.declared.bounds.TheConstants.{MOST_BOXES}
+use Rattle.tool_library.specs.Bounds.{most_body_boxes}
 use Rattle.tool_library.specs.Tools.{PunchData, DieData}
 use Rattle.plan_cert.specs.declared.line_kind.LineKind.TheVariants as kinds
 use Rattle.cert_words.specs.LineWords.{◌>>=◌}
@@ -24,7 +24,7 @@ with_punch_box s box = record s { last = kinds.PunchBox; stage = record s.stage 
 
 -- there is room for another box of the punch
 abbrev pub may_take_punch_box : JobLinesData → Bool
-may_take_punch_box s = is_of_punch s.last && nat_lt (length s.stage.punch.body) MOST_BOXES
+may_take_punch_box s = is_of_punch s.last && nat_lt (length s.stage.punch.body) most_body_boxes
 
 unfoldable pub take_punch_box : JobLinesData → List ℕ → Option JobLinesData
 take_punch_box s text = only_if (may_take_punch_box s) (rect_in text >>= λ box. Some (with_punch_box s box))
@@ -43,7 +43,7 @@ with_die_box s box = record s { last = kinds.DieBox; stage = record s.stage { di
 
 -- there is room for another box of the die
 abbrev pub may_take_die_box : JobLinesData → Bool
-may_take_die_box s = is_of_die s.last && nat_lt (length s.stage.die.body) MOST_BOXES
+may_take_die_box s = is_of_die s.last && nat_lt (length s.stage.die.body) most_body_boxes
 
 unfoldable pub take_die_box : JobLinesData → List ℕ → Option JobLinesData
 take_die_box s text = only_if (may_take_die_box s) (rect_in text >>= λ box. Some (with_die_box s box))

@@ -1,6 +1,5 @@
 -- What a certificate of a job keeps to, whether it proves its claim or not.
 use Rattle.std.specs.Prelude.{◌≡◌, ◌+◌, ◌*◌, ◌^◌, ◌<◌, ◌≤◌, ◌⊎◌, IsTrue, List, [], length, map, All, AllPairs, slice_index_or}
-use Rattle.brake_base.specs.declared.stroke.Action.{Action}
 use Rattle.brake_base.specs.declared.stroke.Step.{Step}
 use Rattle.brake_base.specs.declared.stroke.Worth.{Worth}
 use Rattle.brake_base.specs.declared.stroke.Worth.TheVariants.{Cost, Blocked}
@@ -9,6 +8,7 @@ use Rattle.brake_base.specs.declared.reason.Reason.TheVariants.{Cover, Rest, Fra
 use Rattle.brake_base.specs.Keys.{KeyIsBefore}
 use Rattle.job_setup.specs.Setup.{JobData, bend_count, stage_count}
 use Rattle.job_setup.specs.StrokeGroup.{is_lead}
+use Rattle.handling_cost.specs.StepCost.{IsActionOf}
 use Rattle.plan_cert.specs.declared.cert.RowHead.{RowHead}
 use Rattle.plan_cert.specs.declared.cert.Note.{Note}
 use Rattle.plan_cert.specs.Cert.{CertData}
@@ -18,12 +18,6 @@ use Rattle.plan_cert.specs.Lines.{action_at}
 abbrev pub IsWorth : Worth → Type 0
 IsWorth (Cost cost) = cost ≤ 1000000000
 IsWorth Blocked = Unit {0}
-
--- the action is of a bend and a stage of the job
-pub record IsActionOf (job : JobData) (action : Action) : Type 0 where
-  pub first : 1 ≤ action.bend
-  pub last : action.bend ≤ bend_count job
-  pub stage : action.stage < stage_count job
 
 -- a step of a bend, a stage and two faces of the job
 pub record IsStep (job : JobData) (step : Step) : Type 0 where
@@ -60,11 +54,18 @@ pub record IsNote (job : JobData) (rows : List RowHead) (note : Note) : Type 0 w
   pub row : note.row < length rows
   pub action : note.action < 2 * bend_count job * stage_count job
   pub reason : IsReasonInRange job note.reason
-  pub lead : (d : RowHead) → IsTrue (is_lead job (slice_index_or rows note.row d).key.mask (action_at (stage_count job) note.action).bend)
+  pub lead : (d : RowHead)
+      → IsTrue (is_lead job (slice_index_or rows note.row d).key.mask
+      (action_at (stage_count job) note.action).bend)
 
 -- notes stand in the order of their rows, then of their actions
 abbrev pub NoteIsBefore : Note → Note → Type 0
 NoteIsBefore a b = (a.row < b.row) ⊎ ((a.row ≡ b.row) × (a.action < b.action))
+
+-- rows of the job, in strict order of their keys
+pub record AreRowsOf (job : JobData) (rows : List RowHead) : Type 0 where
+  pub each : All (IsRow job) rows
+  pub order : AllPairs KeyIsBefore (map (λ row. row.key) rows)
 
 -- rows of the job in strict order of their keys, and notes in strict order
 pub record AreRows (job : JobData) (rows : List RowHead) (notes : List Note) : Type 0 where

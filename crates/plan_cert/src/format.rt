@@ -18,7 +18,7 @@ pub enum Format {
 }
 
 impl Format {
-    /// Whether the format has gangs, a force and loads.
+    /// Whether the format has gangs, a force, a depth and loads.
     pub(crate) fn has_loads(self) -> bool
         ensures { result ≡ has_loads self }
     {

@@ -8,7 +8,8 @@ ghost use Rattle.machine_file.specs.Machine.{IsCosts};
 ghost use Rattle.job_setup.specs.Setup.{stage_data, setup_data};
 ghost use Rattle.job_setup.specs.ValidJob.{IsJob};
 ghost use Rattle.plan_cert.specs.Lines.{number, side_word, dir_word, spaced, face_words, fixed_words, text_line, line_text, lines_text, face_line, bed_line, frame_line, upper_line, lower_line, gauge_line, box_line};
-ghost use Rattle.plan_cert.specs.JobText.{costs_line, part_lines, fixture_lines, rule_lines, punch_lines, die_lines, stage_lines, job_text};
+ghost use Rattle.plan_cert.specs.JobText.{costs_line, part_lines, fixture_lines, fine_lines, rule_lines, punch_lines, die_lines, stage_lines, job_text};
+ghost use Rattle.plan_cert.specs.ExactTexts.{IsOnlyJobOf};
 
 use crate::words::{put_count, put_named_line, put_number_line, put_numbers, put_spaced};
 use brake_base::Rect;
@@ -235,6 +236,17 @@ fn put_costs(out: &mut Vec<u8>, cost: &Costs) -> Result<(), AllocError>
     )
 }
 
+/// The line that says how often in a row a piece may be halved, where it may at all.
+#[tactic(auto, using(crate::proofs::Texts::pieces), unfolding(crate::specs::Lines::line_text))]
+fn put_fine(out: &mut Vec<u8>, fine: u8) -> Result<(), AllocError>
+    ensures { OnOk result (out.new.items ≡ out.old.items ++ lines_text (fine_lines fine)) }
+{
+    if fine == 0 {
+        return Ok(());
+    }
+    put_number_line(out, b"fine", &[i64::from(fine)])
+}
+
 /// The lines of the machine's rules and costs.
 #[tactic(auto, using(crate::proofs::Texts::pieces), unfolding(crate::specs::Lines::line_text))]
 fn put_rules(out: &mut Vec<u8>, setup: &Setup) -> Result<(), AllocError>
@@ -246,7 +258,8 @@ fn put_rules(out: &mut Vec<u8>, setup: &Setup) -> Result<(), AllocError>
     put_gauge(out, &setup.gauge)?;
     put_costs(out, &setup.cost)?;
     put_number_line(out, b"gang", &[i64::from(setup.gang)])?;
-    put_number_line(out, b"force", &[setup.force])
+    put_number_line(out, b"force", &[setup.force])?;
+    put_fine(out, setup.fine)
 }
 
 /// The line of a box of a tool.
@@ -336,10 +349,10 @@ pub(crate) fn put_job(out: &mut Vec<u8>, job: &Job) -> Result<(), AllocError>
     Ok(())
 }
 
-/// The lines of a job alone, as a certificate of version 2 has them. Two jobs have one text only
-/// where they are equal.
+/// The lines of a job alone, as a certificate of version 2 has them. No other job has this text.
 pub fn write_job(alloc: Global, job: &Job) -> Result<Vec<u8>, AllocError>
-    ensures { IfOk result (λ text. text.items ≡ job_text job.now) }
+    ensures text { IfOk result (λ text. text.items ≡ job_text job.now) }
+    ensures only { IfOk result (λ text. IsOnlyJobOf job.now text.items) }
 {
     let mut out = Vec::new(alloc);
     put_job(&mut out, job)?;

@@ -18,7 +18,8 @@ use job_setup::{Setup, Stage};
 use part_file::Part;
 
 /// The job lines so far: their format, the kind of the last one, the values that they give, the
-/// stage that isn't complete yet, and whether no cost is negative and `gang` is 0 or 1.
+/// stage that isn't complete yet, and whether no cost is negative, `gang` is 0 or 1, and `fine` is 1
+/// to 12.
 #[derive(Drop)]
 pub(crate) struct JobLines {
     pub(crate) format: Format,
@@ -30,7 +31,7 @@ pub(crate) struct JobLines {
     pub(crate) is_sound: bool,
 }
 
-/// A setup of which nothing is known. A job of version 1 has no gangs and no force.
+/// A setup of which nothing is known. A job of version 1 has no gangs, no force and no depth.
 fn no_setup() -> Setup
     ensures { setup_data result ≡ no_setup }
 {
@@ -45,6 +46,7 @@ fn no_setup() -> Setup
         stages: ArrayVec::new(),
         gang: false,
         force: 0,
+        fine: 0,
     }
 }
 
@@ -83,6 +85,7 @@ impl JobLines {
             LineKind::Cost => self.take_cost(text),
             LineKind::Gang => self.take_gang(text),
             LineKind::Force => self.take_force(text),
+            LineKind::Fine => self.take_fine(text),
             LineKind::Stage => self.take_stage(text),
             LineKind::Punch => self.take_punch(text),
             LineKind::PunchBox => self.take_punch_box(text),

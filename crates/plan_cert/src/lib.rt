@@ -32,6 +32,6 @@ pub use format::TextKind;
 pub use item::{CertFault, Item, PlanItem};
 pub use job_lines::write_job;
 pub use reader::CertReader;
-pub use rows::{put_reason, put_worth};
+pub use rows::{put_reason, put_rows, put_worth};
 pub use words::put_count;
 pub use writing::write_cert;

@@ -1,7 +1,7 @@
 //! The kinds of lines up to the end of the job: what is asked of the last one, and which one a
 //! keyword names.
 ghost use Rattle.std.specs.Prelude.{◌≡◌};
-ghost use Rattle.plan_cert.specs.LineKinds.{begins_job, may_be_frame, may_be_upper, may_be_lower, is_face, is_uncovered, is_gauge, is_cost, is_gang, is_stage, is_of_punch, is_of_die, is_pieces, is_complete, tool_line_behind, stage_line_behind, rule_line_behind, fixture_line_behind, job_line_behind, box_behind};
+ghost use Rattle.plan_cert.specs.LineKinds.{begins_job, may_be_frame, may_be_upper, may_be_lower, is_face, is_uncovered, is_gauge, is_cost, is_gang, is_force, is_stage, is_of_punch, is_of_die, is_pieces, is_complete, tool_line_behind, stage_line_behind, rule_line_behind, fixture_line_behind, job_line_behind, box_behind};
 
 use crate::format::Format;
 
@@ -20,6 +20,7 @@ pub(crate) enum LineKind {
     Cost,
     Gang,
     Force,
+    Fine,
     Stage,
     Punch,
     PunchBox,
@@ -96,6 +97,13 @@ impl LineKind {
         matches!(self, LineKind::Gang)
     }
 
+    /// Whether the line is that of the force.
+    pub(crate) fn is_force(self) -> bool
+        ensures { result ≡ is_force self }
+    {
+        matches!(self, LineKind::Force)
+    }
+
     /// Whether the line begins a stage.
     pub(crate) fn is_stage(self) -> bool
         ensures { result ≡ is_stage self }
@@ -130,7 +138,7 @@ impl LineKind {
     {
         match format {
             Format::Version1 => matches!(self, LineKind::Cost | LineKind::Pieces),
-            _ => matches!(self, LineKind::Force | LineKind::Load),
+            _ => matches!(self, LineKind::Force | LineKind::Fine | LineKind::Load),
         }
     }
 }
@@ -188,6 +196,8 @@ impl LineKind {
             Some(LineKind::Gang)
         } else if keyword == b"force".as_slice() {
             Some(LineKind::Force)
+        } else if keyword == b"fine".as_slice() {
+            Some(LineKind::Fine)
         } else {
             self.stage_line_behind(keyword)
         }

@@ -1,11 +1,12 @@
 //! Reading the lines behind the job: which line may stand where, and what it gives.
 ghost use Rattle.std.specs.Prelude.{◌≡◌, ◌+◌, ◌≤◌, ◌<◌, ℕ, IsTrue, IfSome};
+ghost use Rattle.brake_base.specs.Actions.{IsActionAmong};
 ghost use Rattle.job_setup.specs.Setup.{JobData};
 ghost use Rattle.plan_cert.specs.LineReading.{keyword_in, behind_keyword};
 ghost use Rattle.cert_words.specs.LineWords.{Reads};
 ghost use Rattle.plan_cert.specs.Facts.{KeepsFacts};
 ghost use Rattle.plan_cert.specs.PlanItem.{placed};
-ghost use Rattle.plan_cert.specs.PlanReading.{behind_claim, are_enough, may_leave, may_be_row, take_claim, step_behind, take_step, row_behind, take_row, take_note, noted, note_behind, IsActionAmong, plan_line_of, take_plan_words, take_plan_line, is_end_line, is_claim_line, is_row_line, may_follow_job, first_section};
+ghost use Rattle.plan_cert.specs.PlanReading.{behind_claim, are_enough, may_leave, may_be_row, take_claim, step_behind, take_step, row_behind, take_row, take_note, noted, note_behind, plan_line_of, take_plan_words, take_plan_line, is_end_line, is_claim_line, is_row_line, may_follow_job, first_section};
 
 use crate::cert::RowHead;
 use crate::format::Format;

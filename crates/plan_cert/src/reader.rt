@@ -2,6 +2,7 @@
 ghost use Rattle.std.specs.Prelude.{◌≡◌, ◌+◌, ◌<◌, length, slice_get, Some};
 ghost use Rattle.plan_cert.specs.Items.{items};
 ghost use Rattle.plan_cert.specs.PlanItem.{plan_answer, job_answer};
+ghost use Rattle.plan_cert.specs.ExactItems.{ReadsCertTexts, ReadsTableTexts};
 
 use crate::format::TextKind;
 use crate::item::{CertFault, Item, PlanItem};
@@ -60,16 +61,22 @@ fn item_behind_job(answer: Result<PlanItem, CertFault>) -> Result<Item, CertFaul
 }
 
 impl<'a> CertReader<'a> {
-    /// A reader of a certificate, in version 1 or 2.
+    /// A reader of a certificate, in version 1 or 2. Its answers end with the end exactly where the
+    /// text is a certificate's, and are then the certificate's items.
     pub fn new(text: &'a [u8]) -> Self
-        ensures { result ≡ record { kind = TextKind.Certificate; text = text.now; answered = 0 } }
+        ensures reader { result
+            ≡ record { kind = TextKind.Certificate; text = text.now; answered = 0 } }
+        ensures exact { ReadsCertTexts text.now }
     {
         CertReader::of(TextKind::Certificate, text)
     }
 
-    /// A reader of a table file.
+    /// A reader of a table file. Its answers end with the end exactly where the text is a table's,
+    /// and are then the table's items.
     pub fn table(text: &'a [u8]) -> Self
-        ensures { result ≡ record { kind = TextKind.Table; text = text.now; answered = 0 } }
+        ensures reader { result
+            ≡ record { kind = TextKind.Table; text = text.now; answered = 0 } }
+        ensures exact { ReadsTableTexts text.now }
     {
         CertReader::of(TextKind::Table, text)
     }

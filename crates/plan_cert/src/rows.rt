@@ -1,7 +1,6 @@
 //! The lines of the rows of a certificate, and of their notes.
 ghost use Rattle.std.specs.Prelude.{◌≡◌, ◌++◌, ◌∷◌, [], ◌<◌, ◌≤◌, ◌*◌, ◌^◌, ◌==◌, take, drop, All, AllPairs, OnOk};
 ghost use Rattle.std.specs.List.{flat_map, prefix_len};
-ghost use Rattle.brake_base.specs.Actions.{IsAction};
 ghost use Rattle.plan_cert.specs.Lines.{back_word, half_word, worth_word, spaced, action_words, meeting_words, argument_words, reason_words, action_at, line_text, lines_text, row_line, note_line};
 ghost use Rattle.plan_cert.specs.WellFormed.{IsWorth, NoteIsBefore};
 ghost use Rattle.plan_cert.specs.CertText.{line_of_note, rows_lines};
@@ -163,7 +162,7 @@ fn front_count(notes: &[Note], row: usize) -> usize
 }
 
 /// The rows in order, each with its notes.
-pub(crate) fn put_rows(
+pub fn put_rows(
     out: &mut Vec<u8>,
     stages: u8,
     rows: &[RowHead],

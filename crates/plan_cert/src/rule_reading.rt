@@ -1,12 +1,12 @@
 //! Reading the lines of the machine's rules: what may stay uncovered, the backgauge, the costs, the
-//! gangs and the force.
+//! gangs, the force and the depth.
 ghost use Rattle.std.specs.Prelude.{◌≡◌};
 ghost use Rattle.plan_cert.specs.JobLines.{job_lines_data, Takes, no_gauge, no_costs};
-ghost use Rattle.plan_cert.specs.RuleReading.{with_uncovered, take_uncovered, with_gauge, take_gauge, with_costs, take_cost, with_gang, may_take_gang, take_gang, with_force, take_force};
+ghost use Rattle.plan_cert.specs.RuleReading.{with_uncovered, take_uncovered, with_gauge, take_gauge, with_costs, take_cost, with_gang, may_take_gang, take_gang, with_force, take_force, with_fine, may_take_fine, take_fine};
 
 use crate::job_reading::JobLines;
 use crate::line_kind::LineKind;
-use cert_words::{cost_numbers, costs_of, gang_of, gauge, number};
+use cert_words::{cost_numbers, costs_of, fine_of, gang_of, gauge, number};
 use machine_file::{Costs, GaugeRule};
 
 /// A backgauge of which nothing is known.
@@ -155,6 +155,36 @@ impl JobLines {
         }
         let force = number(text)?;
         self.set_force(force);
+        Some(())
+    }
+
+    fn may_take_fine(&self) -> bool
+        ensures { result ≡ may_take_fine (job_lines_data self.now) }
+    {
+        self.format.has_loads() && self.last.is_force()
+    }
+
+    #[tactic(auto, unfolding(crate::specs::RuleReading::with_fine))]
+    fn set_fine(&mut self, fine: Option<u8>)
+        ensures { job_lines_data self.new ≡ with_fine (job_lines_data self.old) fine }
+    {
+        self.last = LineKind::Fine;
+        match fine {
+            Some(fine) => self.setup.fine = fine,
+            None => self.is_sound = false,
+        }
+    }
+
+    /// How often in a row a piece may be halved, which makes no job where it isn't 1 to 12.
+    #[tactic(auto, unfolding(crate::specs::RuleReading::take_fine))]
+    pub(crate) fn take_fine(&mut self, text: &[u8]) -> Option<()>
+        ensures { Takes result self.old self.new (take_fine (job_lines_data self.old) text.now) }
+    {
+        if !self.may_take_fine() {
+            return None;
+        }
+        let fine = number(text)?;
+        self.set_fine(fine_of(fine));
         Some(())
     }
 }

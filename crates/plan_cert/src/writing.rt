@@ -1,5 +1,5 @@
 //! The text of a certificate.
-ghost use Rattle.std.specs.Prelude.{◌≡◌, ◌++◌, ◌∷◌, [], All, OnOk, IfOk};
+ghost use Rattle.std.specs.Prelude.{◌≡◌, ◌<◌, ◌^◌, ◌++◌, ◌∷◌, [], length, All, OnOk, IfOk};
 ghost use Rattle.std.specs.List.{flat_map};
 ghost use Rattle.plan_cert.specs.Cert.{cert_data};
 ghost use Rattle.plan_cert.specs.Lines.{line_text, claim_line, step_line};
@@ -50,11 +50,12 @@ fn put_steps(out: &mut Vec<u8>, steps: &[Step]) -> Result<(), AllocError>
 }
 
 /// The text of a certificate of a job, in version 2: the job's lines, the claim, the steps, and
-/// the rows in order, each with its notes.
+/// the rows in order, each with its notes. It is shorter than 2^30 bytes.
 #[tactic(auto, using(crate::proofs::Texts::pieces), unfolding(crate::specs::CertText::cert_text2))]
 pub fn write_cert(alloc: Global, job: &Job, cert: &Cert) -> Result<Vec<u8>, AllocError>
     requires { IsWellFormed job.now (cert_data cert.now) }
-    ensures { IfOk result (λ text. text.items ≡ cert_text2 job.now (cert_data cert.now)) }
+    ensures text { IfOk result (λ text. text.items ≡ cert_text2 job.now (cert_data cert.now)) }
+    ensures short { IfOk result (λ text. length text.items < 2 ^ 30) }
 {
     let mut out = Vec::new(alloc);
     put_word(&mut out, b"brake-cert 2\n")?;

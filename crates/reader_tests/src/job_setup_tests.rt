@@ -1,8 +1,8 @@
 //! Jobs of three files, and their refusals.
 
-use brake_base::Mask;
+use brake_base::{Mask, Rect};
 use common_files::{EAST_FLANGE, L_SECTION, MACHINE, STAGE, TOOLS, TWO_FLANGES};
-use job_setup::{Job, JobFault, group, meets_at};
+use job_setup::{Group, Job, JobFault, Obstacle, group, meets_at, obstacles};
 use std::alloc::Global;
 use std::test::Fail;
 use test_jobs::made_of;
@@ -145,6 +145,65 @@ fn first_strokes(rt: HostRuntime) -> Result<(), Fail> {
     ] {
         let found = stroke_of(rt.alloc(), part, length, lines, pieces)?;
         assert!(rt; found == Some(stroke));
+    }
+    Ok(())
+}
+
+/// The machine's beam and bed, along the whole bed.
+fn along_the_bed(index: u8, y: (i64, i64), z: (i64, i64), group: Group) -> Obstacle {
+    Obstacle {
+        index,
+        x0: 0,
+        x1: 3_000_000,
+        rect: rect(y, z),
+        group,
+    }
+}
+
+/// A box of a tool, along the stage.
+fn along_the_stage(index: u8, y: (i64, i64), z: (i64, i64), group: Group) -> Obstacle {
+    Obstacle {
+        index,
+        x0: 200_000,
+        x1: 300_000,
+        rect: rect(y, z),
+        group,
+    }
+}
+
+fn rect(y: (i64, i64), z: (i64, i64)) -> Rect {
+    Rect {
+        y0: y.0,
+        y1: y.1,
+        z0: z.0,
+        z1: z.1,
+    }
+}
+
+/// The beam lies on the punch, 100,000 high; the bed under the die, 60,000 high. Lower boxes are
+/// lowered by the thickness, 2,000, and their tops raised by half the opening, 8,000. A groove that
+/// is a micrometre less deep than that half isn't sunk.
+#[test]
+fn obstacles_of_a_stroke(rt: HostRuntime) -> Result<(), Fail> {
+    let alloc = rt.alloc();
+    let machine = format!(in alloc; "{MACHINE}{STAGE}")?;
+    for (groove, top, sunk) in [("-8000]", -2000, true), ("-7999]", -1999, false)] {
+        let tools = TOOLS.replacen(alloc, "-8000]", groove, 1)?;
+        let job = made_of(alloc, L_SECTION, &tools, &machine)??;
+        assert!(rt; job.stages() > 0);
+        let mut given = obstacles(&job, 0);
+        let (upper, sunk_lower) = (Group::Upper, Group::Lower { sunk: true });
+        for wanted in [
+            along_the_bed(0, (-60_000, 60_000), (100_000, 400_000), upper),
+            along_the_stage(1, (-6000, 6000), (6000, 100_000), upper),
+            along_the_bed(0, (-30_000, 30_000), (-362_000, -54_000), sunk_lower),
+            along_the_stage(1, (-20_000, -8000), (-62_000, 6000), sunk_lower),
+            along_the_stage(2, (-8000, 8000), (-62_000, top), Group::Lower { sunk }),
+            along_the_stage(3, (8000, 20_000), (-62_000, 6000), sunk_lower),
+        ] {
+            assert!(rt; given.next() == Some(wanted));
+        }
+        assert!(rt; given.next().is_none());
     }
     Ok(())
 }

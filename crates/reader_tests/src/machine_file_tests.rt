@@ -13,6 +13,7 @@ lower = [[0, 3000000, -30000, 30000, -300000, 0]]
 uncovered = 5000
 gang = 1
 force = 900000
+fine = 10
 [gauge]
 near = 5000
 far = 600000
@@ -65,7 +66,8 @@ const KEYS: &str =
 3 | 25 | at = 200000 | at = -20000000 | at = 20000000 | at = '0' | at = -20000001 | at = 20000001
 3 | 26 | pieces = [100000] | pieces = [1] | pieces = [10000000, 1] | pieces = [] | pieces = [0] | pieces = [1, 10000001]
 0 | 27 | gang = 1 | gang = 0 | gang = 1 | gang = true | gang = -1 | gang = 2
-0 | 28 | force = 900000 | force = 0 | force = 100000000 | force = 1.0 | force = -1 | force = 100000001";
+0 | 28 | force = 900000 | force = 0 | force = 100000000 | force = 1.0 | force = -1 | force = 100000001
+0 | 29 | fine = 10 | fine = 0 | fine = 12 | fine = true | fine = -1 | fine = 13";
 
 /// A line of the file, another in its place, and the refusal that this brings.
 const REFUSALS: [(&str, &str, MachineFault); 13] = [
@@ -196,6 +198,8 @@ fn the_machine_of_a_file(rt: HostRuntime) -> Result<(), MachineFault> {
     let stage = machine.stages.as_slice().first().expect(&rt, "a stage");
     assert!(rt; stage.punch.as_str() == "P100" && stage.die.as_str() == "D16");
     assert!(rt; stage.at == 200_000 && are_within(stage.pieces.as_slice(), 100_000, 100_000));
-    assert!(rt; machine.gang && machine.force == 900_000 && machine.uncovered == 5000);
+    assert!(rt;
+        machine.gang && machine.force == 900_000 && machine.fine == 10 && machine.uncovered == 5000
+    );
     Ok(())
 }

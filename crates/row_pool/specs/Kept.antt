@@ -14,7 +14,11 @@ pub record NotesData : Type 0 where
 
 -- all three
 abbrev pub notes_data : Notes → NotesData
-notes_data notes = record { marks = notes.marks.items; common = notes.common.items; own = notes.own.items }
+notes_data notes = record {
+  marks = notes.marks.items;
+  common = notes.common.items;
+  own = notes.own.items;
+}
 
 -- nothing is marked or noted
 abbrev pub no_notes : NotesData
@@ -26,7 +30,8 @@ is_marked marks place = bit_at (slice_index_or marks (place / 16) 0) (place % 16
 
 -- the reason of a place with this common place, if it has one
 abbrev pub reason_in : NotesData → ℕ → ℕ → Option Reason
-reason_in notes common place = if is_marked notes.marks place then noted_at notes.common common else noted_at notes.own place
+reason_in notes common place = if is_marked notes.marks place then noted_at notes.common common
+    else noted_at notes.own place
 
 -- where the place is marked, its common place has a reason
 abbrev pub IsHeld : NotesData → ℕ → ℕ → Type 0
@@ -34,4 +39,5 @@ IsHeld notes common place = is_marked notes.marks place ≡ true → noted_at no
 
 -- no note changes but one that wasn't set
 abbrev pub StandsAfter : List KeptReason → List KeptReason → ℕ → Type 0
-StandsAfter before after place = (k : ℕ) → (noted_at after k ≡ noted_at before k) ⊎ ((k ≡ place) × (noted_at before k ≡ None))
+StandsAfter before after place =
+    (k : ℕ) → (noted_at after k ≡ noted_at before k) ⊎ ((k ≡ place) × (noted_at before k ≡ None))

@@ -15,3 +15,4 @@ pub mod Radii
 pub mod Cases
 pub mod Comparisons
 pub mod PieceLaws
+pub mod FreeLaw

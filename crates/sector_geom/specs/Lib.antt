@@ -4,4 +4,5 @@ pub mod Pieces
 pub mod Corners
 pub mod Covers
 pub mod Clear
+pub mod Free
 pub mod SpecialPoints

@@ -4,6 +4,7 @@
 
 mod clearance;
 mod covers;
+mod halving;
 mod noses;
 mod pieces;
 mod sector;
@@ -11,6 +12,7 @@ mod special_points;
 
 pub use clearance::clear;
 pub use covers::cover;
+pub use halving::free;
 pub use noses::clear_nose;
 pub use pieces::{split, widened};
 pub use sector::{Sector, Sweep};

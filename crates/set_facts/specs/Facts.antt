@@ -1,5 +1,5 @@
 -- What all keys of one set of folded bends have in common.
-use Rattle.std.specs.Prelude.{◌≡◌, ℕ, ◌+◌, ◌-◌, ◌*◌, ◌<◌, ◌≤◌, List, length, slice_index_or}
+use Rattle.std.specs.Prelude.{◌≡◌, false, ℕ, ◌+◌, ◌-◌, ◌*◌, ◌<◌, ◌≤◌, List, length, slice_index_or}
 use Rattle.brake_base.specs.declared.mask.Mask.{Mask}
 use Rattle.brake_base.specs.declared.stroke.Back.{Back}
 use Rattle.brake_base.specs.declared.stroke.Action.{Action}
@@ -17,19 +17,29 @@ side_place bend back = (bend - 1) * 2 + back_number back
 
 -- a set has the leads of the strokes that may come next where the bends of the mask are folded
 abbrev pub AreLeads : JobData → Mask → Mask → Type 0
-AreLeads job mask leads = (bend : ℕ) → 1 ≤ bend → bend ≤ bend_count job → has leads bend ≡ is_lead job mask bend
+AreLeads job mask leads =
+    (bend : ℕ) → 1 ≤ bend → bend ≤ bend_count job → has leads bend ≡ is_lead job mask bend
+
+-- no bend past the job's last is in the set
+abbrev pub HasNoneBeyond : JobData → Mask → Type 0
+HasNoneBeyond job bends = (bend : ℕ) → bend_count job < bend → has bends bend ≡ false
 
 -- the bound of each key where the bends of the mask are folded, by its stage, in tenths of a second
 abbrev pub AreBounds : JobData → Mask → List ℕ → Type 0
-AreBounds job mask bounds = (stage d : ℕ) → stage < stage_count job → slice_index_or bounds stage d ≡ bound_with job mask (length (leads_left job mask)) (farthest job mask stage)
+AreBounds job mask bounds =
+    (stage d : ℕ) → stage < stage_count job
+    → slice_index_or bounds stage d
+    ≡ bound_with job mask (length (leads_left job mask)) (farthest job mask stage)
 
 -- how the part is held in the strokes of each bend where the bends of the mask are folded
 abbrev pub AreAttitudes : JobData → Mask → List ℕ → Type 0
 AreAttitudes job mask attitudes =
-    (action : Action) (d : ℕ) → 1 ≤ action.bend → action.bend ≤ bend_count job → slice_index_or attitudes (side_place action.bend action.back) d ≡ attitude_at job mask action
+    (action : Action) (d : ℕ) → 1 ≤ action.bend → action.bend ≤ bend_count job
+    → slice_index_or attitudes (side_place action.bend action.back) d ≡ attitude_at job mask action
 
 -- the leads, the bound at each stage, and how the part is held in each stroke
 pub record IsFacts (job : JobData) (mask : Mask) (facts : SetFacts) : Type 0 where
   pub leads : AreLeads job mask facts.leads
+  pub only : HasNoneBeyond job facts.leads
   pub bounds : AreBounds job mask facts.bounds
   pub held : AreAttitudes job mask facts.attitudes

@@ -8,4 +8,6 @@ use Rattle.set_facts.specs.Facts.{IsFacts}
 -- there is a place for each set of the job's bends, and what stands there belongs to it
 pub record IsFactTable (job : JobData) (facts : List (Option SetFacts)) : Type 0 where
   pub places : length facts ≡ 2 ^ bend_count job
-  pub each : (mask : Mask) (of_set : SetFacts) → slice_index_or facts mask.0 None ≡ Some of_set → IsFacts job mask of_set
+  pub each :
+      (mask : Mask) (of_set : SetFacts) → slice_index_or facts mask.0 None ≡ Some of_set
+      → IsFacts job mask of_set

@@ -1,6 +1,6 @@
 //! What belongs to a set of folded bends, and how it is found.
 ghost use Rattle.std.specs.Prelude.{◌≡◌, ◌<◌, ◌≤◌, slice_index_or};
-ghost use Rattle.set_facts.specs.Facts.{AreLeads, AreBounds, AreAttitudes, IsFacts, side_place};
+ghost use Rattle.set_facts.specs.Facts.{AreLeads, HasNoneBeyond, AreBounds, AreAttitudes, IsFacts, side_place};
 
 use brake_base::{Back, Mask, Turn};
 use fold_boxes::attitude;
@@ -10,7 +10,7 @@ use job_setup::Job;
 /// What belongs to a set of folded bends.
 #[derive(Clone, Copy, Debug)]
 pub struct SetFacts {
-    /// The leads of the strokes that may come next.
+    /// The leads of the strokes that may come next, and no other bend.
     pub leads: Mask,
     /// At each stage the bound of the keys with this set, in tenths of a second.
     pub bounds: [u32; 6],
@@ -55,7 +55,8 @@ impl SetFacts {
 
 /// The leads where the bends of the mask are folded.
 fn leads_of(job: &Job, mask: Mask) -> Mask
-    ensures { AreLeads job.now mask result }
+    ensures leads { AreLeads job.now mask result }
+    ensures only { HasNoneBeyond job.now result }
 {
     let shape = job.shape();
     let mut leads = Mask::empty();

@@ -6,5 +6,4 @@ pub mod Bounds
 pub mod OrderSteps
 pub mod Groups
 pub mod PlanTold
-pub mod PosedFaces
 pub mod OrderCosts

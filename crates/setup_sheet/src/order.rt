@@ -5,24 +5,22 @@ ghost use Rattle.part_file.specs.Part.{face_at};
 ghost use Rattle.machine_file.specs.Machine.{IsGaugeRule};
 ghost use Rattle.fold_boxes.specs.Pose.{pose_data};
 ghost use Rattle.fold_boxes.specs.Posing.{IsNearPoseBox};
-ghost use Rattle.job_setup.specs.Setup.{stage_data};
-ghost use Rattle.job_setup.specs.StageOf.{stage_of};
 ghost use Rattle.job_setup.specs.ValidJob.{IsJob};
 ghost use Rattle.handling_cost.specs.StepCost.{IsKeyOf, IsActionAt, attitude_at, change, kind_of_change};
 ghost use Rattle.handling_cost.specs.Plan.{start};
 ghost use Rattle.setup_sheet.specs.Sheets.{field};
-ghost use Rattle.setup_sheet.specs.OrderSheet.{IsStepAt, AreSteps, back_word, change_word, bent_with, with_words, bend_words, hold_words, finger_words, gauge_words, gauge_words_of, posed_face, pose_before, step_line, step_lines, order_line, total_line, order_text};
+ghost use Rattle.setup_sheet.specs.OrderSheet.{IsStepAt, AreSteps, back_word, change_word, bent_with, with_words, bend_words, hold_words, finger_words, gauge_words, gauge_words_of, posed_face, step_line, step_lines, order_line, total_line, order_text};
 
 use crate::words::put_field;
 use arrayvec::ArrayVec;
 use brake_base::{Action, Back, Gauge, Key, Mask, Step};
 use brake_text::put_word;
-use fold_boxes::{Pose, PoseBox, pose};
+use fold_boxes::{Pose, PoseBox};
 use gauge_rules::{left_finger, right_finger};
 use handling_cost::{
-    Change, change_between, is_action_at, next_key, plan_cost, start_key, step_cost,
+    Change, change_between, is_action_at, next_key, plan_cost, pose_before, start_key, step_cost,
 };
-use job_setup::{Job, Stage, group};
+use job_setup::{Job, group};
 use machine_file::GaugeRule;
 use std::alloc::{AllocError, Global};
 
@@ -168,34 +166,6 @@ fn change_for(job: &Job, key: &Key, action: Action) -> Change
         (change key.now.attitude (attitude_at job.now key.now.mask action)) }
 {
     change_between(key.attitude, next_key(job, *key, action).attitude)
-}
-
-/// The stage of a number.
-fn stage_at(job: &Job, stage: u8) -> &Stage
-    requires { stage < length job.now.setup.stages }
-    ensures value { stage_data result.now ≡ stage_of job.now stage }
-    ensures valid { IsJob job.now }
-{
-    &job.setup().stages.as_slice()[usize::from(stage)]
-}
-
-/// The part on the machine before the stroke of an action.
-fn pose_before(job: &Job, key: &Key, action: Action) -> Pose
-    requires { IsActionAt job.now key.now action }
-    ensures value { pose_data result ≡ pose_before job.now key.now.mask action }
-    ensures near { All IsNearPoseBox result.boxes.items }
-    ensures faces { length job.now.part.faces ≤ length result.boxes.items }
-{
-    let stage = stage_at(job, action.stage);
-    let group = group(job, key.mask, action.bend);
-    pose(
-        job.shape(),
-        key.mask,
-        group,
-        action.back,
-        stage.x0,
-        stage.x1,
-    )
 }
 
 /// The box of a face in a pose.

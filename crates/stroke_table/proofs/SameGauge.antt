@@ -18,7 +18,7 @@ use Rattle.fold_boxes.specs.declared.posed_part.PoseBox.{PoseBox}
 use Rattle.fold_boxes.specs.Pose.{PoseData, span_start, pose_of}
 use Rattle.job_setup.specs.Setup.{JobData, shape_of}
 use Rattle.job_setup.specs.StageOf.{stage_of}
-use Rattle.job_setup.specs.LegalGauge.{IsLevel, IsFlatFace, IsFingerFree, IsPair, IsLegalPair, far_edge, left_finger, right_finger, finger_box}
+use Rattle.job_setup.specs.LegalGauge.{IsLevel, IsFlatFace, IsFingerFree, IsPair, IsRightOf, IsLeftOfPair, IsLegalPair, far_edge, left_finger, right_finger, finger_box}
 use Rattle.job_setup.specs.Reasons.{pose_at}
 use Rattle.gauge_rules.specs.Pairs.{IsFirstLegal}
 use Rattle.stroke_table.specs.Moved.{moved_body, moved_box, moved_map, moved_pose}
@@ -44,14 +44,15 @@ module _ (by x0 x1 : ℤ) (pose : PoseData) where
 
   flat_moved : (thickness : ℤ) (face : ℕ) (box : PoseBox) → IsFlatFace thickness pose face box → IsFlatFace thickness there face (moved_box by box)
   flat_moved thickness face box flat =
-      let turn = ap (λ (m : Map). m.turn) (get_or-map (moved_map by) pose.places face stay stay flat.within) in
+      let turn = ap (λ (m : Map). m.turn) (get_or-map (moved_map by) pose.places face stay stay flat.level.within) in
       record {
-        within = omega (arith, flat.within, length-map pose.places (moved_map by));
         number = flat.number;
         half = flat.half;
-        level = subst IsLevel (sym turn) flat.level;
-        low = flat.low;
-        high = flat.high;
+        level = record {
+          within = omega (arith, flat.level.within, length-map pose.places (moved_map by));
+          level = subst IsLevel (sym turn) flat.level.level;
+        };
+        fills = record { low = flat.fills.low; high = flat.fills.high };
       }
 
   free_moved : (finger other : Box3) → other ≡ moved_body by finger → IsFingerFree pose finger → IsFingerFree there other
@@ -68,26 +69,30 @@ module _ (by x0 x1 : ℤ) (pose : PoseData) where
 
     pair_moved : IsPair rule thickness pose left right → IsPair rule thickness there (moved_box by left) (moved_box by right)
     pair_moved pair = record {
-      edge = pair.edge;
-      near = pair.near;
-      far = pair.far;
-      left_end = omega (arith, ints, pair.left_end);
-      right_end = omega (arith, ints, pair.right_end);
-      gap = omega (arith, ints, pair.gap);
-      left_free = free_moved _ _ left_finger_moved pair.left_free;
-      right_free = free_moved _ _ right_finger_moved pair.right_free;
+      reach = record {
+        edge = record { edge = pair.reach.edge.edge; near = pair.reach.edge.near; far = pair.reach.edge.far };
+        room = record {
+          left_end = omega (arith, ints, pair.reach.room.left_end);
+          right_end = omega (arith, ints, pair.reach.room.right_end);
+          gap = omega (arith, ints, pair.reach.room.gap);
+        };
+      };
+      free = record {
+        left_free = free_moved _ _ left_finger_moved pair.free.left_free;
+        right_free = free_moved _ _ right_finger_moved pair.free.right_free;
+      };
     }
 
   pub legal_moved : (job : JobData) (gauge : Gauge) → IsLegalPair job pose gauge → IsLegalPair job there gauge
   legal_moved job gauge legal =
-      some_moved by (λ left. IsFlatFace job.part.thickness there gauge.left_face left × Any (λ right. IsFlatFace job.part.thickness there gauge.right_face right × IsPair job.setup.gauge job.part.thickness there left right) (map (moved_box by) pose.boxes)) pose.boxes (
+      some_moved by (IsLeftOfPair job there gauge) pose.boxes (
         legal.0,
         legal.1,
         legal.2,
         legal.3,
         (
           flat_moved job.part.thickness gauge.left_face legal.1 legal.4.0,
-          some_moved by (λ right. IsFlatFace job.part.thickness there gauge.right_face right × IsPair job.setup.gauge job.part.thickness there (moved_box by legal.1) right) pose.boxes
+          some_moved by (IsRightOf job there gauge (moved_box by legal.1)) pose.boxes
               (let rest = legal.4.1 in (rest.0, rest.1, rest.2, rest.3, (flat_moved job.part.thickness gauge.right_face rest.1 rest.4.0, pair_moved job.setup.gauge job.part.thickness legal.1 rest.1 rest.4.1))),
         ),
       )

@@ -12,11 +12,14 @@ use Rattle.stroke_table.specs.Strokes.{IsFirstAt, reason_at}
 
 -- it is the first legal pair of the stroke at each stage
 abbrev pub IsGaugeOf : JobData → Mask → Mask → Back → Option Gauge → Type 0
-IsGaugeOf job mask group back gauge = (stage : ℕ) → stage < length job.setup.stages → IsFirstLegal job (pose_at job mask group back stage) gauge
+IsGaugeOf job mask group back gauge =
+    (stage : ℕ) → stage < length job.setup.stages
+    → IsFirstLegal job (pose_at job mask group back stage) gauge
 
 -- they are the first reasons at the stages below a number
 abbrev pub AreFirst : JobData → Mask → Mask → Back → ℕ → List (Option Reason) → Type 0
-AreFirst job mask group back stages reasons = (stage : ℕ) → stage < stages → IsFirstAt job mask group back stage (reason_at reasons stage)
+AreFirst job mask group back stages reasons =
+    (stage : ℕ) → stage < stages → IsFirstAt job mask group back stage (reason_at reasons stage)
 
 -- the first reason of all, from the first that isn't NoGauge and the first legal pair
 abbrev pub with_gauge : Option Reason → Option Gauge → Option Reason

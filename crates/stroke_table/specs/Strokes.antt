@@ -15,7 +15,8 @@ use Rattle.stroke_table.specs.declared.stroke.StageStroke.{StageStroke}
 
 -- the first reason against a stroke at a stage; none exactly where no reason holds, so that the stroke is legal there
 abbrev pub IsFirstAt : JobData → Mask → Mask → Back → ℕ → Option Reason → Type 0
-IsFirstAt job mask group back stage None = (reason : Reason) → IsReason job mask group back stage reason → ⊥
+IsFirstAt job mask group back stage None =
+    (reason : Reason) → IsReason job mask group back stage reason → ⊥
 IsFirstAt job mask group back stage (Some reason) = IsFirstReason job mask group back stage reason
 
 -- the reason of a stage in a list of one for each stage
@@ -24,11 +25,16 @@ reason_at reasons stage = slice_index_or reasons stage None
 
 -- The attitude of the part in the stroke, the first legal pair, which is the same at each stage, and the first reason at each stage,
 -- of which there are at most six.
-pub record IsStrokeOf (job : JobData) (mask : Mask) (lead : ℕ) (back : Back) (stroke : Stroke) : Type 0 where
+pub record IsStrokeOf (job : JobData) (mask : Mask) (lead : ℕ) (back : Back) (stroke : Stroke)
+    : Type 0 where
   pub attitude : stroke.attitude ≡ attitude_of (shape_of job) mask lead back
-  pub gauge : (stage : ℕ) → stage < length job.setup.stages → IsFirstLegal job (pose_at job mask (group_of job mask lead) back stage) stroke.gauge
+  pub gauge :
+      (stage : ℕ) → stage < length job.setup.stages
+      → IsFirstLegal job (pose_at job mask (group_of job mask lead) back stage) stroke.gauge
   pub few : length job.setup.stages ≤ 6
-  pub reasons : (stage : ℕ) → stage < length job.setup.stages → IsFirstAt job mask (group_of job mask lead) back stage (reason_at stroke.reasons stage)
+  pub reasons :
+      (stage : ℕ) → stage < length job.setup.stages
+      → IsFirstAt job mask (group_of job mask lead) back stage (reason_at stroke.reasons stage)
 
 -- what a stroke has at a stage
 pub record IsOfStage (stroke : Stroke) (stage : ℕ) (found : StageStroke) : Type 0 where
@@ -37,11 +43,11 @@ pub record IsOfStage (stroke : Stroke) (stage : ℕ) (found : StageStroke) : Typ
   pub reason : found.reason ≡ reason_at stroke.reasons stage
 
 -- The attitude of the part in the stroke of an action, and the first legal pair and the first reason at its stage.
-pub record IsStrokeAt (job : JobData) (mask : Mask) (action : Action) (found : StageStroke) : Type 0 where
+pub record IsStrokeAt (job : JobData) (mask : Mask) (action : Action) (found : StageStroke)
+    : Type 0 where
   pub attitude : found.attitude ≡ attitude_of (shape_of job) mask action.bend action.back
-  pub gauge : IsFirstLegal job (pose_at job mask (group_of job mask action.bend) action.back action.stage) found.gauge
-  pub reason : IsFirstAt job mask (group_of job mask action.bend) action.back action.stage found.reason
-
--- the reason holds against the action where the bends of the mask are folded
-abbrev pub HoldsAgainst : JobData → Mask → Action → Reason → Type 0
-HoldsAgainst job mask action reason = IsReason job mask (group_of job mask action.bend) action.back action.stage reason
+  pub gauge :
+      IsFirstLegal job
+      (pose_at job mask (group_of job mask action.bend) action.back action.stage) found.gauge
+  pub reason :
+      IsFirstAt job mask (group_of job mask action.bend) action.back action.stage found.reason

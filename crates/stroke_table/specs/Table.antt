@@ -24,5 +24,7 @@ place_count job = 24 * 2 ^ (length job.part.faces - 1)
 pub record IsTable (job : JobData) (strokes : List (Option Stroke)) : Type 0 where
   pub few : length job.part.faces ≤ 13
   pub count : length strokes ≡ place_count job
-  pub each : (mask : Mask) (lead : ℕ) (back : Back) (stroke : Stroke) → 1 ≤ lead → lead ≤ 12 → slice_index_or strokes (place_of mask lead back) None ≡ Some stroke
+  pub each :
+      (mask : Mask) (lead : ℕ) (back : Back) (stroke : Stroke) → 1 ≤ lead → lead ≤ 12
+      → slice_index_or strokes (place_of mask lead back) None ≡ Some stroke
       → IsStrokeOf job mask lead back stroke

@@ -9,7 +9,6 @@ ghost use Rattle.stroke_table.specs.Moved.{moved_point, moved_box};
 ghost use Rattle.stroke_table.specs.BoxReasons.{shift_of, IsBoxOf, AreFirstOf, AreAround, AreKept, IsEarlier, AreEarlier};
 
 use crate::box_records::BoxRecords;
-use crate::finding::stage_range;
 use brake_base::{Box3, Mask, Reason, V3};
 use fold_boxes::{Pose, PoseBox, span, start_of_span};
 use job_setup::Job;
@@ -103,7 +102,7 @@ fn start_at(job: &Job, lines: (i64, i64), stage: u8) -> i64
     ensures value { result ≡ start_of_span lines (stage_of job.now stage).x0 (stage_of job.now stage).x1 }
     ensures near { IsNear 1130000000 result }
 {
-    let (x0, x1) = stage_range(job, stage);
+    let (x0, x1) = job.stage_range(stage);
     start_of_span(lines, x0, x1)
 }
 

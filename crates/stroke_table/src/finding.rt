@@ -1,13 +1,11 @@
 //! A stroke is found: the part is moved onto the machine, and the rules are asked.
-ghost use Rattle.std.specs.Prelude.{false, ◌≡◌, ◌<◌, ◌≤◌, ◌<ℤ◌, length, All};
+ghost use Rattle.std.specs.Prelude.{false, ◌≡◌, ◌<◌, ◌≤◌, length, All};
 ghost use Rattle.brake_base.specs.Masks.{has};
-ghost use Rattle.unfolder.specs.Near.{IsWithin as IsNear};
 ghost use Rattle.fold_boxes.specs.Places.{ArePlaces};
 ghost use Rattle.fold_boxes.specs.Pose.{PoseData, IsGroup, pose_data};
 ghost use Rattle.fold_boxes.specs.Posing.{IsNearPoseBox};
 ghost use Rattle.job_setup.specs.Setup.{shape_of};
 ghost use Rattle.job_setup.specs.StrokeGroup.{group_of};
-ghost use Rattle.job_setup.specs.StageOf.{stage_of};
 ghost use Rattle.job_setup.specs.Reasons.{pose_at, IsPoseAt};
 ghost use Rattle.gauge_rules.specs.Pairs.{IsFirstLegal};
 ghost use Rattle.stroke_table.specs.Strokes.{IsStrokeOf};
@@ -75,21 +73,8 @@ pub fn pose_at(job: &Job, places: &[Place], mask: Mask, group: Mask, back: Back,
     ensures value { pose_data result ≡ pose_at job.now mask group back stage }
     ensures near { All IsNearPoseBox result.boxes.items }
 {
-    let (x0, x1) = stage_range(job, stage);
+    let (x0, x1) = job.stage_range(stage);
     pose_from(job.shape(), places, mask, group, back, x0, x1)
-}
-
-/// The range of a stage along the bed.
-pub(crate) fn stage_range(job: &Job, stage: u8) -> (i64, i64)
-    requires { stage < length job.now.setup.stages }
-    ensures from { result.0 ≡ (stage_of job.now stage).x0 }
-    ensures to { result.1 ≡ (stage_of job.now stage).x1 }
-    ensures range { result.0 <ℤ result.1 }
-    ensures near_from { IsNear 1000000000 result.0 }
-    ensures near_to { IsNear 1000000000 result.1 }
-{
-    let stage = &job.setup().stages.as_slice()[usize::from(stage)];
-    (stage.x0, stage.x1)
 }
 
 /// The first reason at each stage, in a pose at stage 0 with this side at the back and this first

@@ -5,7 +5,8 @@ ghost use Rattle.brake_base.specs.Masks.{has};
 ghost use Rattle.fold_boxes.specs.Places.{ArePlaces};
 ghost use Rattle.job_setup.specs.Setup.{shape_of};
 ghost use Rattle.job_setup.specs.StrokeGroup.{group_of};
-ghost use Rattle.stroke_table.specs.Strokes.{IsStrokeOf, HoldsAgainst};
+ghost use Rattle.handling_cost.specs.Plan.{IsReasonFor};
+ghost use Rattle.stroke_table.specs.Strokes.{IsStrokeOf};
 ghost use Rattle.stroke_table.specs.Finding.{IsGaugeOf};
 
 use crate::finding::{pose_at, stroke_group};
@@ -31,7 +32,7 @@ pub(crate) fn holds_by(
     requires flat { has mask action.bend ≡ false }
     requires stage { action.stage < length job.now.setup.stages }
     requires stroke { IsStrokeOf job.now mask action.bend action.back stroke.now }
-    ensures { IsTrue result ↔ HoldsAgainst job.now mask action reason }
+    ensures { IsTrue result ↔ IsReasonFor job.now mask action reason }
 {
     match stroke.reason(action.stage) {
         Some(first) => {
@@ -70,7 +71,7 @@ fn holds_anew(
     requires flat { has mask action.bend ≡ false }
     requires stage { action.stage < length job.now.setup.stages }
     requires gauge { IsGaugeOf job.now mask (group_of job.now mask action.bend) action.back gauge }
-    ensures { IsTrue result ↔ HoldsAgainst job.now mask action reason }
+    ensures { IsTrue result ↔ IsReasonFor job.now mask action reason }
 {
     match reason {
         Reason::NoGauge => gauge.is_none(),
@@ -87,7 +88,7 @@ fn holds_at(job: &Job, places: &[Place], mask: Mask, action: Action, reason: Rea
     requires flat { has mask action.bend ≡ false }
     requires stage { action.stage < length job.now.setup.stages }
     requires other { reason ≢ NoGauge }
-    ensures { IsTrue result ↔ HoldsAgainst job.now mask action reason }
+    ensures { IsTrue result ↔ IsReasonFor job.now mask action reason }
 {
     let group = stroke_group(job, mask, action.bend);
     let pose = pose_at(job, places, mask, group, action.back, action.stage);

@@ -3,8 +3,9 @@ ghost use Rattle.std.specs.Prelude.{false, ◌≡◌, ◌↔◌, ◌-◌, ◌^�
 ghost use Rattle.brake_base.specs.Masks.{has};
 ghost use Rattle.fold_boxes.specs.Places.{ArePlaces};
 ghost use Rattle.job_setup.specs.Setup.{shape_of};
+ghost use Rattle.handling_cost.specs.Plan.{IsReasonFor};
 ghost use Rattle.stroke_table.specs.declared.stroke.Stroke.{Stroke};
-ghost use Rattle.stroke_table.specs.Strokes.{IsStrokeOf, IsStrokeAt, IsOfStage, HoldsAgainst};
+ghost use Rattle.stroke_table.specs.Strokes.{IsStrokeOf, IsStrokeAt, IsOfStage};
 ghost use Rattle.stroke_table.specs.Table.{place_of, place_count};
 
 use crate::box_records::BoxRecords;
@@ -129,7 +130,7 @@ impl StrokeTable {
         requires flat { has mask action.bend ≡ false }
         requires stage { action.stage < length job.now.setup.stages }
         ensures job { self.new ≡ self.old }
-        ensures holds { IsTrue result ↔ HoldsAgainst job.now mask action reason }
+        ensures holds { IsTrue result ↔ IsReasonFor job.now mask action reason }
     {
         let stroke = self.stroke(job, places, mask, action.bend, action.back);
         holds_by(job, places, mask, action, reason, &stroke)

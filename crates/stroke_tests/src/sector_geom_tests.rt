@@ -1,7 +1,10 @@
 //! Values from outside: flanges beside a punch, at the limit and one micrometre beyond, and the two halves of a sheet.
 
+ghost use Rattle.sector_geom.specs.Plane.{HasInterior, IsInRange};
+ghost use Rattle.sector_geom.specs.Pieces.{LiesIn};
+
 use brake_base::{Quarter, Rect};
-use sector_geom::{Sweep, clear, clear_nose, cover, split, widened};
+use sector_geom::{Sweep, clear, clear_nose, cover, free, split, widened};
 
 const PUNCH: Rect = Rect {
     y0: -6000,
@@ -114,4 +117,130 @@ fn a_half_does_not_grow_past_the_bend_line(rt: HostRuntime) {
     assert_eq!(rt; pieces[1], Some(Rect { y1: 0, ..PUNCH }));
     assert_eq!(rt; pieces[2], None);
     assert_eq!(rt; pieces[3], None);
+}
+
+/// The least depth up to 12 at which the piece is free of the rectangle.
+fn least_depth(piece: Rect, quarter: Quarter, sweep: Sweep, other: &Rect) -> Option<u8>
+    requires in_range { IsInRange piece }
+    requires in_quarter { LiesIn quarter piece }
+    requires interior { HasInterior piece }
+    requires other_in_range { IsInRange other.now }
+    requires other_interior { HasInterior other.now }
+{
+    for depth in 0..13 {
+        if free(piece, quarter, sweep, other, depth) {
+            return Some(depth);
+        }
+    }
+    None
+}
+
+/// The cross section of a web that reaches far behind the bend line.
+const WEB: Rect = Rect {
+    y0: 2000,
+    y1: 396000,
+    z0: 0,
+    z1: 23500,
+};
+
+#[test]
+fn a_web_is_free_in_four_parts(rt: HostRuntime) {
+    let punch = Rect {
+        y0: -20000,
+        y1: 20000,
+        z0: 90000,
+        z1: 190000,
+    };
+    let beam = Rect {
+        y0: -60000,
+        y1: 60000,
+        z0: 190000,
+        z1: 590000,
+    };
+    let (quarter, sweep) = (Quarter::Q1, Sweep::Eighth);
+    assert_eq!(rt; least_depth(WEB, quarter, sweep, &punch), Some(3));
+    assert_eq!(rt; least_depth(WEB, quarter, sweep, &beam), Some(2));
+}
+
+#[test]
+fn the_parts_of_a_web_are_clear(rt: HostRuntime) {
+    let first = cover(
+        Rect {
+            y0: 2000,
+            y1: 51250,
+            ..WEB
+        },
+        Quarter::Q1,
+        Sweep::Eighth,
+    );
+    let second = cover(
+        Rect {
+            y0: 51250,
+            y1: 100500,
+            ..WEB
+        },
+        Quarter::Q1,
+        Sweep::Eighth,
+    );
+    assert_eq!(rt; first.far2, 3178812500);
+    assert_eq!(rt; second.near2, 2626562500);
+    assert_eq!(rt; second.upper, (27750, 74750));
+}
+
+#[test]
+fn a_hanging_flange_is_cut_upwards(rt: HostRuntime) {
+    let flange = Rect {
+        y0: 37000,
+        y1: 38500,
+        z0: -114000,
+        z1: 0,
+    };
+    let bed = Rect {
+        y0: -30000,
+        y1: 30000,
+        z0: -141500,
+        z1: -55500,
+    };
+    assert_eq!(rt;
+        least_depth(flange, Quarter::Q4, Sweep::Eighth, &bed),
+        Some(3)
+    );
+}
+
+#[test]
+fn a_wall_that_meets_is_free_at_no_depth(rt: HostRuntime) {
+    let opposite = Rect {
+        y0: -12000,
+        y1: -10000,
+        ..WALL
+    };
+    let low = Rect {
+        y0: -8000,
+        y1: 6000,
+        z0: 5000,
+        z1: 7000,
+    };
+    let (quarter, sweep) = (Quarter::Q1, Sweep::Fourth);
+    assert_eq!(rt; least_depth(WALL, quarter, sweep, &opposite), None);
+    assert_eq!(rt; least_depth(WALL, quarter, sweep, &low), Some(2));
+}
+
+#[test]
+fn a_middle_below_0_is_rounded_down(rt: HostRuntime) {
+    let piece = Rect {
+        y0: -13,
+        y1: -4,
+        z0: -17,
+        z1: -8,
+    };
+    let other = Rect {
+        y0: -10,
+        y1: -8,
+        z0: -6,
+        z1: -2,
+    };
+    assert_eq!(rt;
+        least_depth(piece, Quarter::Q3, Sweep::Eighth, &other),
+        Some(1)
+    );
 }

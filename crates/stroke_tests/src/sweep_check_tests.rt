@@ -4,7 +4,7 @@ ghost use Rattle.job_setup.specs.Setup.{shape_of};
 ghost use Rattle.job_setup.specs.Reasons.{IsPoseAt};
 
 use brake_base::{Back, Half, Mask, Quarter, Reason};
-use common_files::{L_SECTION, MACHINE, STAGE, TOOLS, TWO_FLANGES, U_CHANNEL};
+use common_files::{L_SECTION, LID, MACHINE, STAGE, TOOLS, TWO_FLANGES, U_CHANNEL};
 use fold_boxes::{Pose, is_group, place, pose};
 use job_setup::Job;
 use std::alloc::Global;
@@ -12,6 +12,40 @@ use std::test::Fail;
 use stroke_table::pose_at;
 use sweep_check::{first_reason, holds};
 use test_jobs::job_of;
+
+/// A base and a flange on its side N, each 100,000 by 30,000 with a wall of 28,000 at its far edge.
+const TWO_WALLS: &str = "material = \"S235\"
+thickness = 2000
+radius = 2000
+[[face]]
+name = \"base\"
+width = 100000
+length = 30000
+[[face]]
+name = \"flange\"
+on = \"base\"
+side = \"N\"
+at = 0
+width = 100000
+length = 30000
+dir = \"up\"
+[[face]]
+name = \"base_wall\"
+on = \"base\"
+side = \"S\"
+at = 0
+width = 100000
+length = 28000
+dir = \"up\"
+[[face]]
+name = \"flange_wall\"
+on = \"flange\"
+side = \"N\"
+at = 0
+width = 100000
+length = 28000
+dir = \"up\"
+";
 
 /// The common machine with these keys more, and its stage with these pieces.
 fn machine_with(alloc: Global, keys: &str, pieces: &str) -> Result<String, Fail> {
@@ -130,6 +164,82 @@ fn a_punch_touches_and_meets_the_leg(rt: HostRuntime) -> Result<(), Fail> {
         let first = reason_of(&job, Mask(mask), Mask(group), back);
         assert!(rt; first == is_met.then_some(reason));
         assert!(rt; is_reason(&job, Mask(mask), Mask(group), back, reason) == is_met);
+    }
+    Ok(())
+}
+
+/// The first leg's widened section begins 56,000 behind the bend line, upright on it, so that the
+/// nearest corner is 56,000 from the tip. A wedge of 39,597 reaches to 39,597 times the root of 2,
+/// which is 55,998.6; one of 39,598 to 56,000.03. The punch's body is out of reach.
+#[test]
+fn a_nose_meets_the_leg(rt: HostRuntime) -> Result<(), Fail> {
+    let alloc = rt.alloc();
+    let machine = machine_with(alloc, "", "[100000]")?;
+    let high = TOOLS.replacen(alloc, "6000, 100000]]", "90000, 100000]]", 1)?;
+    let reason = Reason::Nose(1, Quarter::Q1, 0);
+    for (nose, is_met) in [("nose = 39597", false), ("nose = 39598", true)] {
+        let tools = high.replacen(alloc, "nose = 6000", nose, 1)?;
+        let job = job_of(alloc, U_CHANNEL, &tools, &machine)?;
+        assert!(rt; is_group(job.shape(), Mask(1), Mask(2)));
+        for back in [Back::Parent, Back::Child] {
+            let first = reason_of(&job, Mask(1), Mask(2), back);
+            assert!(rt; first == is_met.then_some(reason));
+            assert!(rt; is_reason(&job, Mask(1), Mask(2), back, reason) == is_met);
+        }
+    }
+    Ok(())
+}
+
+/// Both walls begin 26,000 from the bend line and are 26,000 high, seen upright. The inner upper
+/// edge of each is then in the direction of 45 degrees, so that both come to touch as their halves
+/// turn by 45 degrees. A wall that is a micrometre higher meets the other. There is no punch.
+#[test]
+fn two_walls_touch_and_meet(rt: HostRuntime) -> Result<(), Fail> {
+    let alloc = rt.alloc();
+    let machine = machine_with(alloc, "", "[100000]")?;
+    let tools = TOOLS.replacen(alloc, "[[-6000, 6000, 6000, 100000]]", "[]", 1)?;
+    let high = TWO_WALLS.replacen(alloc, "28000", "28001", 1)?;
+    let flange_wall = Reason::SelfHit(3, Quarter::Q1, 2);
+    let base_wall = Reason::SelfHit(2, Quarter::Q1, 3);
+    for (part, back, reason, is_met) in [
+        (TWO_WALLS, Back::Child, flange_wall, false),
+        (TWO_WALLS, Back::Parent, base_wall, false),
+        (high.as_str(), Back::Child, flange_wall, true),
+        (high.as_str(), Back::Parent, base_wall, true),
+    ] {
+        let job = job_of(alloc, part, &tools, &machine)?;
+        assert!(rt; is_group(job.shape(), Mask(6), Mask(1)));
+        let first = reason_of(&job, Mask(6), Mask(1), back);
+        assert!(rt; first == is_met.then_some(reason));
+        assert!(rt; is_reason(&job, Mask(6), Mask(1), back, reason) == is_met);
+    }
+    Ok(())
+}
+
+#[test]
+fn halves_of_a_wall_clear_the_beam(rt: HostRuntime) -> Result<(), Fail> {
+    let alloc = rt.alloc();
+    let high = U_CHANNEL.replacen(alloc, "30000", "47105", 2)?;
+    let larger = LID.replacen(alloc, "105000", "110000", 2)?;
+    let large = larger.replacen(alloc, "101000", "106000", 4)?;
+    let wall = Reason::Upper(1, Quarter::Q1, 1);
+    let beside = Reason::Upper(1, Quarter::Q1, 0);
+    let cases = [
+        (high.as_str(), "fine = 0\n", 1, 2, wall, true),
+        (high.as_str(), "fine = 1\n", 1, 2, wall, false),
+        (LID, "", 3, 4, beside, true),
+        (LID, "fine = 1\n", 3, 4, beside, false),
+        (large.as_str(), "fine = 1\n", 3, 4, beside, true),
+        (large.as_str(), "fine = 2\n", 3, 4, beside, false),
+        (large.as_str(), "fine = 12\n", 3, 4, beside, false),
+    ];
+    for (part, keys, mask, group, reason, is_met) in cases {
+        let machine = machine_with(alloc, keys, "[100000]")?;
+        let job = job_of(alloc, part, TOOLS, &machine)?;
+        assert!(rt; is_group(job.shape(), Mask(mask), Mask(group)));
+        let first = reason_of(&job, Mask(mask), Mask(group), Back::Child);
+        assert!(rt; first == is_met.then_some(reason));
+        assert!(rt; is_reason(&job, Mask(mask), Mask(group), Back::Child, reason) == is_met);
     }
     Ok(())
 }

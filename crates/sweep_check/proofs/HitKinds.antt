@@ -12,7 +12,8 @@ use Rattle.fold_boxes.specs.declared.posed_part.PoseBox.{PoseBox}
 use Rattle.fold_boxes.specs.Pose.{PoseData}
 use Rattle.sector_geom.specs.declared.sector.Sweep.TheVariants.{Eighth, Fourth}
 use Rattle.sector_geom.specs.Covers.{cover_of}
-use Rattle.sector_geom.specs.Clear.{IsClear, IsClearOfNose}
+use Rattle.sector_geom.specs.Clear.{IsClearOfNose}
+use Rattle.sector_geom.specs.Free.{IsFree}
 use Rattle.sector_geom.specs.Pieces.{widened_by}
 use Rattle.job_setup.specs.declared.obstacle.Group.{Group}
 use Rattle.job_setup.specs.declared.obstacle.Group.TheVariants.{Upper as UpperGroup, Lower as LowerGroup}
@@ -47,9 +48,9 @@ box_meets job obstacles i n quarter box named =
   where
     by_piece : (o : Option Rect) → piece_at job box quarter ≡ o → IsHit job box quarter named.1.1 → SomeObstacle obstacles i (IsHit job box quarter) → Any (Meets obstacles i n quarter) (box_pieces job Eighth box)
     by_piece None is hit some =
-        absurd (subst (λ (o : Option Rect). IsSomeAnd o (λ piece. (is_untested job.part.thickness quarter piece named.1.1.group ≡ false) × IsSwept Eighth quarter piece (seen_from box.half named.1.1.rect))) is hit.across)
+        absurd (subst (λ (o : Option Rect). IsSomeAnd o (λ piece. (is_untested job.part.thickness quarter piece named.1.1.group ≡ false) × IsSwept job Eighth quarter piece (seen_from box.half named.1.1.rect))) is hit.across)
     by_piece (Some rect) is hit some =
-        let both = subst (λ (o : Option Rect). IsSomeAnd o (λ piece. (is_untested job.part.thickness quarter piece named.1.1.group ≡ false) × IsSwept Eighth quarter piece (seen_from box.half named.1.1.rect))) is hit.across in
+        let both = subst (λ (o : Option Rect). IsSomeAnd o (λ piece. (is_untested job.part.thickness quarter piece named.1.1.group ≡ false) × IsSwept job Eighth quarter piece (seen_from box.half named.1.1.rect))) is hit.across in
         let met : IsPieceMet (piece_from job Eighth box quarter rect) named.1.1 = record {
           near = record { along = hit.along; tested = untested_is job.part.thickness quarter rect named.1.1.group ∙ both.0 };
           swept = both.1;
@@ -72,7 +73,7 @@ meets_box job obstacles i n quarter box some =
         let met : IsPieceMet (piece_from job Eighth box q rect) obstacle = holds.1.4.1 in
         let hit : IsHit job box q obstacle = record {
           along = met.near.along;
-          across = subst (λ (o : Option Rect). IsSomeAnd o (λ piece. (is_untested job.part.thickness q piece obstacle.group ≡ false) × IsSwept Eighth q piece (seen_from box.half obstacle.rect))) (sym is)
+          across = subst (λ (o : Option Rect). IsSomeAnd o (λ piece. (is_untested job.part.thickness q piece obstacle.group ≡ false) × IsSwept job Eighth q piece (seen_from box.half obstacle.rect))) (sym is)
               (sym (untested_is job.part.thickness q rect obstacle.group) ∙ met.near.tested, met.swept);
         } in
         (holds.0.0, subst (λ (z : Quarter). SomeObstacle obstacles i (IsHit job box z)) holds.0.1 (holds.1.0, obstacle, holds.1.2, holds.1.3, (holds.1.4.0, hit)))
@@ -185,11 +186,11 @@ of_front job pose m piece some =
 -- the piece of a box of the back half meets the other box
 self_met : (job : JobData) (box other : PoseBox) (quarter : Quarter) (rect : Rect) → piece_at job box quarter ≡ Some rect → IsSelfHit job box quarter other → (other.half ≡ FrontHalf) × IsPieceMet (piece_from job Fourth box quarter rect) (front_obstacle job other)
 self_met job box other quarter rect is hit =
-    let swept = subst (λ (o : Option Rect). IsSomeAnd o (λ piece. IsSwept Fourth quarter piece (widened_by (widening job) (across other.body)))) is hit.across in (
+    let swept = subst (λ (o : Option Rect). IsSomeAnd o (λ piece. IsSwept job Fourth quarter piece (widened_by (widening job) (across other.body)))) is hit.across in (
       hit.front,
       record {
         near = record { along = hit.along; tested = refl };
-        swept = subst (λ (h : Half). IsClear (cover_of quarter Fourth rect) (seen_from h (widened_by (widening job) (across other.body))) → ⊥) (sym hit.back) swept;
+        swept = subst (λ (h : Half). IsFree job.setup.fine quarter Fourth rect (seen_from h (widened_by (widening job) (across other.body))) → ⊥) (sym hit.back) swept;
       },
     )
 
@@ -198,8 +199,8 @@ met_self job box other quarter rect is back front met = record {
   back = back;
   front = front;
   along = met.near.along;
-  across = subst (λ (o : Option Rect). IsSomeAnd o (λ piece. IsSwept Fourth quarter piece (widened_by (widening job) (across other.body)))) (sym is)
-      (subst (λ (h : Half). IsClear (cover_of quarter Fourth rect) (seen_from h (widened_by (widening job) (across other.body))) → ⊥) back met.swept);
+  across = subst (λ (o : Option Rect). IsSomeAnd o (λ piece. IsSwept job Fourth quarter piece (widened_by (widening job) (across other.body)))) (sym is)
+      (subst (λ (h : Half). IsFree job.setup.fine quarter Fourth rect (seen_from h (widened_by (widening job) (across other.body))) → ⊥) back met.swept);
 }
 
 box_meets_front : (job : JobData) (pose : PoseData) (m n : ℕ) (quarter : Quarter) (box : PoseBox) → (box.id ≡ n) × SomeBox pose m (IsSelfHit job box quarter) → Any (MeetsFront job pose m n quarter) (if_back box.half (box_pieces job Fourth box))
@@ -208,7 +209,7 @@ box_meets_front job pose m n quarter box named = by_piece (piece_at job box quar
     by_piece : (o : Option Rect) → piece_at job box quarter ≡ o → SomeBox pose m (IsSelfHit job box quarter) → Any (MeetsFront job pose m n quarter) (if_back box.half (box_pieces job Fourth box))
     by_piece None is some =
         let hit : IsSelfHit job box quarter some.1 = some.4.1 in
-        absurd (subst (λ (o : Option Rect). IsSomeAnd o (λ piece. IsSwept Fourth quarter piece (widened_by (widening job) (across some.1.body)))) is hit.across)
+        absurd (subst (λ (o : Option Rect). IsSomeAnd o (λ piece. IsSwept job Fourth quarter piece (widened_by (widening job) (across some.1.body)))) is hit.across)
     by_piece (Some rect) is some =
         let hit : IsSelfHit job box quarter some.1 = some.4.1 in
         back_from (MeetsFront job pose m n quarter) box.half (box_pieces job Fourth box) hit.back

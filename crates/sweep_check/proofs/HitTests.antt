@@ -13,11 +13,8 @@ use Rattle.fold_boxes.specs.Pose.{PoseData}
 use Rattle.job_setup.specs.Setup.{JobData}
 use Rattle.job_setup.specs.Reasons.{IsReasonOf}
 use Rattle.sweep_check.specs.declared.pieces.Piece.{Piece}
-use Rattle.sweep_check.specs.Hits.{IsCovered, IsEighth, SomeHit}
+use Rattle.sweep_check.specs.Hits.{SomeHit}
 use Rattle.sweep_check.proofs.Orders.{IsHitKind}
-
-pub covered_eighths : (pieces : List Piece) → All IsEighth pieces → All IsCovered pieces
-covered_eighths pieces all = All-weaker IsEighth IsCovered (λ piece eighth. inl eighth) pieces all
 
 -- a test that says that some piece meets some item, of lists that are known
 pub hit_alike : {X : Type 0} (number : X → ℕ) (P : Piece → X → Type 0) (pieces list : List Piece) (xs all : List X) (body : ℕ) (quarter : Quarter) (other : ℕ) (r : Bool) → pieces ≡ list → xs ≡ all

@@ -18,16 +18,14 @@ use Rattle.brake_base.specs.declared.reason.Reason.TheVariants.{Frame, Upper, No
 use Rattle.fold_boxes.specs.declared.posed_part.PoseBox.{PoseBox}
 use Rattle.fold_boxes.specs.Pose.{PoseData}
 use Rattle.machine_file.specs.declared.machine.Fixed.{Fixed}
-use Rattle.sector_geom.specs.declared.sector.Sweep.{Sweep}
 use Rattle.sector_geom.specs.declared.sector.Sweep.TheVariants.{Eighth, Fourth}
 use Rattle.sector_geom.specs.Plane.{Holds, HasInterior, IsInside}
 use Rattle.sector_geom.specs.Motion.{Triple, IsTriple, IsRise, turned}
 use Rattle.sector_geom.specs.Pieces.{widened_by, piece_of, SomeHolds}
-use Rattle.sector_geom.specs.Covers.{cover_of, IsCoverBy, IsTurnOf}
-use Rattle.sector_geom.specs.Clear.{IsClear, IsClearOfNose, IsInNose}
+use Rattle.sector_geom.specs.Covers.{cover_of, IsCoverBy}
+use Rattle.sector_geom.specs.Clear.{IsClearOfNose, IsInNose}
 use Rattle.sector_geom.proofs.CoverLaw.{cover_law}
-use Rattle.sector_geom.proofs.CoverShape.{cover_of_some}
-use Rattle.sector_geom.proofs.Cases.{apart}
+use Rattle.sector_geom.proofs.FreeLaw.{free_law}
 use Rattle.sector_geom.proofs.NoseLaw.{nose_law}
 use Rattle.sector_geom.proofs.PieceLaws.{IsPiece, piece_is, hold_together}
 use Rattle.job_setup.specs.declared.obstacle.Obstacle.{Obstacle}
@@ -65,17 +63,12 @@ held_in r interior p held =
     (hold_together r interior p held)
 
 -- ---- a piece with its cover
-cover_by : (sweep : Sweep) (quarter : Quarter) (piece : Rect) → IsPiece quarter piece → IsCoverBy sweep (cover_of quarter sweep piece)
-cover_by sweep quarter piece is = record { piece = piece; quarter = quarter; in_range = is.in_range; in_quarter = is.in_quarter; interior = is.interior; value = refl }
-
--- where the cover is clear, no turned point of the piece is inside
-clear_misses : (sweep : Sweep) (quarter : Quarter) (piece r : Rect) → IsPiece quarter piece → IsClear (cover_of quarter sweep piece) r → (p : Rat2) (t : Triple) → Holds piece p → IsTurnOf sweep t → IsInside r (turned t p) → ⊥
-clear_misses sweep quarter piece r is clear p t held turn inside =
-    apart (cover_of quarter sweep piece) r (cover_of_some sweep _ (cover_by sweep quarter piece is)) clear (turned t p) (cover_law quarter sweep piece is.in_quarter is.interior p t held turn) inside
+cover_by : (quarter : Quarter) (piece : Rect) → IsPiece quarter piece → IsCoverBy Eighth (cover_of quarter Eighth piece)
+cover_by quarter piece is = record { piece = piece; quarter = quarter; in_range = is.in_range; in_quarter = is.in_quarter; interior = is.interior; value = refl }
 
 clear_misses_nose : (quarter : Quarter) (piece : Rect) (nose : ℤ) → IsPiece quarter piece → IsClearOfNose (cover_of quarter Eighth piece) nose → (p : Rat2) (t : Triple) → Holds piece p → IsTriple t → IsInNose nose (turned t p) → ⊥
 clear_misses_nose quarter piece nose is clear p t held turn inside =
-    nose_law (cover_of quarter Eighth piece) (cover_by Eighth quarter piece is) nose clear (turned t p) (cover_law quarter Eighth piece is.in_quarter is.interior p t held turn) inside
+    nose_law (cover_of quarter Eighth piece) (cover_by quarter piece is) nose clear (turned t p) (cover_law quarter Eighth piece is.in_quarter is.interior p t held turn) inside
 
 -- ---- the rise
 -- how far the lower tools can have risen, over the common denominator
@@ -131,7 +124,7 @@ upper_missed job box index upper tested unhit along p t held turn inside =
     let is = piece_is at.quarter r at.piece tested.in_range at.is in
     unhit at.quarter (record {
       along = along;
-      across = some_piece (piece_at job box at.quarter) at.piece _ at.is (refl, λ clear. clear_misses Eighth at.quarter at.piece (seen_from box.half upper.rect) is clear p t at.held turn inside);
+      across = some_piece (piece_at job box at.quarter) at.piece _ at.is (refl, λ free. free_law job.setup.fine at.quarter Eighth at.piece (seen_from box.half upper.rect) is free p t at.held turn inside);
     })
 
 nose_missed : (job : JobData) (box : PoseBox) (stage : StageData) → IsTested (moving_rect job box) → ((quarter : Quarter) → IsNoseHit job box quarter stage → ⊥) → MissesNose job box stage
@@ -165,7 +158,7 @@ lower_missed job stage box index lower numbers tested unhit along p t e d held t
         let swept = in_swept thickness half numbers box.half lower.rect t e d (turned t p) turn rise positive inside in
         unhit quarter (record {
           along = along;
-          across = some_piece (piece_at job box quarter) piece _ there (test, λ clear. clear_misses Eighth quarter piece (seen_from box.half (swept_rect thickness half lower.rect)) is clear p t held_there turn swept);
+          across = some_piece (piece_at job box quarter) piece _ there (test, λ free. free_law job.setup.fine quarter Eighth piece (seen_from box.half (swept_rect thickness half lower.rect)) is free p t held_there turn swept);
         })
 
 other_missed : (job : JobData) (box other : PoseBox) → IsTested (moving_rect job box) → ((quarter : Quarter) → IsSelfHit job box quarter other → ⊥) → MissesOther job box other
@@ -177,7 +170,7 @@ other_missed job box other tested unhit back front along p t held turn inside =
       back = back;
       front = front;
       along = along;
-      across = some_piece (piece_at job box at.quarter) at.piece _ at.is (λ clear. clear_misses Fourth at.quarter at.piece (widened_by (widening job) (across other.body)) is clear p t at.held turn inside);
+      across = some_piece (piece_at job box at.quarter) at.piece _ at.is (λ free. free_law job.setup.fine at.quarter Fourth at.piece (widened_by (widening job) (across other.body)) is free p t at.held turn inside);
     })
 
 -- ---- the boxes and the obstacles by their indices

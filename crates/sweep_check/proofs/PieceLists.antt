@@ -15,6 +15,7 @@ use Rattle.sector_geom.specs.Covers.{IsCoverBy}
 use Rattle.sector_geom.proofs.PieceLaws.{piece_is}
 use Rattle.job_setup.specs.declared.obstacle.Obstacle.{Obstacle}
 use Rattle.job_setup.specs.Setup.{JobData}
+use Rattle.job_setup.specs.ValidJob.{IsJob}
 use Rattle.job_setup.specs.Reasons.{widening, moving_rect, piece_at}
 use Rattle.job_setup.proofs.BoxByBox.{all_flat_map}
 use Rattle.sweep_check.specs.declared.pieces.Piece.{Piece}
@@ -22,7 +23,7 @@ use Rattle.sweep_check.specs.Pieces.{IsSolidBox, piece_from, piece_in, box_piece
 use Rattle.sweep_check.specs.Hits.{IsSolidObstacle, IsCovered, IsEighth, PieceIsBefore}
 use Rattle.sweep_check.proofs.Some.{any_here, any_cons, any_flat_from, any_flat_to, any_option_from, any_option_to, all_option}
 use Rattle.sweep_check.proofs.Ascending.{pairs_nil, pairs_cons, pairs_flat, pairs_option}
-use Rattle.sweep_check.proofs.Bounds.{moving_in_range, front_solid}
+use Rattle.sweep_check.proofs.Bounds.{moving_in_range, front_solid, widening_high}
 
 abbrev quarters : List Quarter
 quarters = Q1 ∷ Q2 ∷ Q3 ∷ Q4 ∷ []
@@ -129,11 +130,20 @@ box_covered job sweep box small solid =
 pub eighths : (job : JobData) (boxes : List PoseBox) → widening job ≤ℤ pos 100000 → All IsSolidBox boxes → All IsEighth (pieces_of job Eighth boxes)
 eighths job boxes small solid = all_flat_map IsEighth (box_pieces job Eighth) boxes (λ k d inside. box_covered job Eighth (get_or boxes k d) small (solid k d inside))
 
-pub back_covered : (job : JobData) (boxes : List PoseBox) → widening job ≤ℤ pos 100000 → All IsSolidBox boxes → All IsCovered (back_pieces job boxes)
-back_covered job boxes small solid =
+box_kept : (job : JobData) (sweep : Sweep) (box : PoseBox) → IsJob job → IsSolidBox box → All IsCovered (box_pieces job sweep box)
+box_kept job sweep box fit solid =
+    all_of_box IsCovered job sweep box (λ quarter rect is.
+    let piece = piece_is quarter (moving_rect job box) rect (moving_in_range job box (widening_high job fit) solid) is in
+    record { in_range = piece.in_range; in_quarter = piece.in_quarter; interior = piece.interior; cover = refl; depth = fit.setup.rules.fine })
+
+pub all_covered : (job : JobData) (sweep : Sweep) (boxes : List PoseBox) → IsJob job → All IsSolidBox boxes → All IsCovered (pieces_of job sweep boxes)
+all_covered job sweep boxes fit solid = all_flat_map IsCovered (box_pieces job sweep) boxes (λ k d inside. box_kept job sweep (get_or boxes k d) fit (solid k d inside))
+
+pub back_covered : (job : JobData) (boxes : List PoseBox) → IsJob job → All IsSolidBox boxes → All IsCovered (back_pieces job boxes)
+back_covered job boxes fit solid =
     all_flat_map IsCovered (λ box. if_back box.half (box_pieces job Fourth box)) boxes (λ k d inside.
     let box = get_or boxes k d in
-    all_back IsCovered box.half (box_pieces job Fourth box) (λ l e within. inr (box_covered job Fourth box small (solid k d inside) l e within)))
+    all_back IsCovered box.half (box_pieces job Fourth box) (box_kept job Fourth box fit (solid k d inside)))
 
 pub fronts_solid : (job : JobData) (boxes : List PoseBox) → widening job ≤ℤ pos 100000 → All IsSolidBox boxes → All IsSolidObstacle (front_obstacles job boxes)
 fronts_solid job boxes small solid =

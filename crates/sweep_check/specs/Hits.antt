@@ -1,12 +1,14 @@
 -- What is found of pieces that meet obstacles or noses: the first by the piece's box, its quarter, and the obstacle's number.
-use Rattle.std.specs.Prelude.{◌≡◌, ℕ, ◌<◌, pos, ◌≤ℤ◌, ◌^◌, Bool, false, ◌&&◌, IsTrue, List, [], ◌∷◌, All, Any, Option, Some, None}
+use Rattle.std.specs.Prelude.{◌≡◌, ℕ, ◌<◌, ◌≤◌, pos, ◌≤ℤ◌, ◌^◌, Bool, false, ◌&&◌, IsTrue, List, [], ◌∷◌, All, Any, Option, Some, None}
 use Rattle.brake_base.specs.declared.plane.Quarter.{Quarter}
 use Rattle.brake_base.specs.Order.{IsBefore}
 use Rattle.brake_base.specs.Reasons.{quarter_number}
 use Rattle.sector_geom.specs.declared.sector.Sweep.TheVariants.{Eighth}
 use Rattle.sector_geom.specs.Plane.{HasInterior, IsInRange}
-use Rattle.sector_geom.specs.Covers.{IsCover, IsCoverBy}
-use Rattle.sector_geom.specs.Clear.{IsClear, IsClearOfNose}
+use Rattle.sector_geom.specs.Pieces.{LiesIn}
+use Rattle.sector_geom.specs.Covers.{cover_of, IsCoverBy}
+use Rattle.sector_geom.specs.Clear.{IsClearOfNose}
+use Rattle.sector_geom.specs.Free.{IsFree}
 use Rattle.job_setup.specs.declared.obstacle.Group.{Group}
 use Rattle.job_setup.specs.declared.obstacle.Group.TheVariants.{Upper, Lower}
 use Rattle.job_setup.specs.declared.obstacle.Obstacle.{Obstacle}
@@ -29,10 +31,14 @@ pub record IsPieceNear (piece : Piece) (obstacle : Obstacle) : Type 0 where
   pub along : IsTrue (is_overlap (piece.x0, piece.x1) (obstacle.x0, obstacle.x1))
   pub tested : (is_sunk_group obstacle.group && piece.is_high) ≡ false
 
--- The piece meets the obstacle: it is near, and the piece's cover isn't clear of it.
+-- the piece is free of the obstacle, which is seen as the piece's half is
+abbrev pub IsPieceFree : Piece → Obstacle → Type 0
+IsPieceFree piece obstacle = IsFree piece.depth piece.quarter piece.sweep piece.rect (seen_from piece.half obstacle.rect)
+
+-- The piece meets the obstacle: it is near, and the piece isn't free of it.
 pub record IsPieceMet (piece : Piece) (obstacle : Obstacle) : Type 0 where
   pub near : IsPieceNear piece obstacle
-  pub swept : IsClear piece.cover (seen_from piece.half obstacle.rect) → ⊥
+  pub swept : IsPieceFree piece obstacle → ⊥
 
 -- The piece meets the nose.
 pub record IsNoseMet (piece : Piece) (nose : PunchNose) : Type 0 where
@@ -57,11 +63,15 @@ pub record IsNose (nose : PunchNose) : Type 0 where
   pub low : pos 0 ≤ℤ nose.size
   pub high : nose.size ≤ℤ pos (2 ^ 30)
 
--- the piece came from `cover`
-abbrev pub IsCovered : Piece → Type 0
-IsCovered piece = IsCover piece.cover
+-- The piece lies in its quarter and has an interior, its cover is its own, and it is halved at most 12 times in a row.
+pub record IsCovered (piece : Piece) : Type 0 where
+  pub in_range : IsInRange piece.rect
+  pub in_quarter : LiesIn piece.quarter piece.rect
+  pub interior : HasInterior piece.rect
+  pub cover : piece.cover ≡ cover_of piece.quarter piece.sweep piece.rect
+  pub depth : piece.depth ≤ 12
 
--- the same with the sweep of one half of the sheet
+-- the piece's cover came from `cover`, with the sweep of one half of the sheet
 abbrev pub IsEighth : Piece → Type 0
 IsEighth piece = IsCoverBy Eighth piece.cover
 

@@ -28,7 +28,7 @@ pub record AreSolidBoxes (boxes : List PoseBox) : Type 0 where
   pub few : length boxes ≤ 25
   pub ascend : AllPairs (λ a b. a.id < b.id) boxes
 
--- a part of a box in a quarter, with the sector that it sweeps
+-- a part of a box in a quarter, with the sector that it sweeps, to be halved as often as the job says
 abbrev pub piece_from : JobData → Sweep → PoseBox → Quarter → Rect → Piece
 piece_from job sweep box quarter rect = record {
   body = box.id;
@@ -37,6 +37,9 @@ piece_from job sweep box quarter rect = record {
   x1 = box.body.hi.x;
   quarter = quarter;
   is_high = lies_high job.part.thickness quarter rect;
+  rect = rect;
+  sweep = sweep;
+  depth = job.setup.fine;
   cover = cover_of quarter sweep rect;
 }
 

@@ -1,14 +1,12 @@
 //! The first of some pieces that meets one of some obstacles.
 ghost use Rattle.std.specs.Prelude.{◌≡◌, ◌↔◌, ◌<◌, ◌&&◌, IsTrue, All, AllPairs};
-ghost use Rattle.sector_geom.specs.Clear.{IsClear};
-ghost use Rattle.job_setup.specs.Reasons.{seen_from};
-ghost use Rattle.sweep_check.specs.Hits.{is_sunk_group, IsPieceNear, IsPieceMet, IsSolidObstacle, IsCovered, PieceIsBefore, IsLeastNumber, IsFirstHit};
+ghost use Rattle.sweep_check.specs.Hits.{is_sunk_group, IsPieceNear, IsPieceFree, IsPieceMet, IsSolidObstacle, IsCovered, PieceIsBefore, IsLeastNumber, IsFirstHit};
 
 use crate::pieces::{Piece, seen_from};
 use crate::ranges::is_overlap;
 use brake_base::Quarter;
 use job_setup::{Group, Obstacle};
-use sector_geom::clear;
+use sector_geom::{clear, free};
 
 /// What meets what: the piece of a box in a quarter, and the other one's number.
 #[derive(Clone, Copy)]
@@ -59,7 +57,7 @@ pub(crate) fn is_met(piece: &Piece, obstacle: &Obstacle) -> bool
     requires solid { IsSolidObstacle obstacle.now }
     ensures { IsTrue result ↔ IsPieceMet piece.now obstacle.now }
 {
-    is_near(piece, obstacle) && !is_clear(piece, obstacle)
+    is_near(piece, obstacle) && !is_free(piece, obstacle)
 }
 
 /// Whether the piece's range along the bed meets the obstacle's, and the obstacle isn't a sunk one
@@ -87,11 +85,19 @@ fn is_sunk(group: Group) -> bool
     }
 }
 
-/// Whether the piece's cover is clear of the obstacle, which is seen as the piece's half is.
-fn is_clear(piece: &Piece, obstacle: &Obstacle) -> bool
+/// Whether the piece is free of the obstacle, which is seen as the piece's half is. The cover of the
+/// whole piece is kept and comes first; the piece is only halved where that isn't clear.
+fn is_free(piece: &Piece, obstacle: &Obstacle) -> bool
     requires covered { IsCovered piece.now }
     requires solid { IsSolidObstacle obstacle.now }
-    ensures { IsTrue result ↔ IsClear piece.now.cover (seen_from piece.now.half obstacle.now.rect) }
+    ensures { IsTrue result ↔ IsPieceFree piece.now obstacle.now }
 {
-    clear(&piece.cover, &seen_from(piece.half, &obstacle.rect))
+    let other = seen_from(piece.half, &obstacle.rect);
+    if clear(&piece.cover, &other) {
+        return true;
+    }
+    if piece.depth == 0 {
+        return false;
+    }
+    free(piece.rect, piece.quarter, piece.sweep, &other, piece.depth)
 }

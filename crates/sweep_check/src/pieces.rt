@@ -15,7 +15,8 @@ use job_setup::Job;
 use sector_geom::{Sector, Sweep, cover, split, widened};
 
 /// A box's part in a quarter, as its half is looked at: its box, the range along the bed, whether it
-/// lies so high that a sunk obstacle can't meet it, and the sector that it sweeps.
+/// lies so high that a sunk obstacle can't meet it, the part itself with how it is swept and how often
+/// in a row it may be halved, and the sector that it sweeps.
 #[derive(Clone, Copy)]
 pub struct Piece {
     pub body: u8,
@@ -24,6 +25,9 @@ pub struct Piece {
     pub x1: i64,
     pub quarter: Quarter,
     pub is_high: bool,
+    pub rect: Rect,
+    pub sweep: Sweep,
+    pub depth: u8,
     pub cover: Sector,
 }
 
@@ -36,6 +40,9 @@ impl Default for Piece {
             x1: 0,
             quarter: Quarter::Q1,
             is_high: false,
+            rect: Rect::default(),
+            sweep: Sweep::Eighth,
+            depth: 0,
             cover: Sector {
                 near2: 0,
                 far2: 0,
@@ -119,10 +126,20 @@ fn piece_with(
             x1: body.body.hi.x,
             quarter,
             is_high: lies_high(job, quarter, &rect),
+            rect,
+            sweep,
+            depth: depth(job),
             cover: cover(rect, quarter, sweep),
         }),
         None => None,
     }
+}
+
+/// How often in a row a piece of the job may be halved.
+fn depth(job: &Job) -> u8
+    ensures { result ≡ job.now.setup.fine }
+{
+    job.setup().fine
 }
 
 /// Whether a piece lies in Q1, or in Q4 and no deeper than the sheet is thick.

@@ -5,20 +5,20 @@ use Rattle.std.proofs.lemmas.Bool.Decides.{Decides-and, Decides-like, Decides-by
 use Rattle.brake_base.specs.declared.plane.Rect.{Rect}
 use Rattle.toml_fields.specs.Ranges.{is_within, is_range}
 use Rattle.toml_fields.proofs.Decided.{within_decided, range_decided}
-use Rattle.tool_library.specs.declared.bounds.TheConstants.{FARTHEST_ACROSS, LEAST_LENGTH, GREATEST_LENGTH, LEAST_COUNT, GREATEST_COUNT}
+use Rattle.tool_library.specs.Bounds.{farthest_across, least_section_length, greatest_section_length, least_section_count, greatest_section_count}
 use Rattle.tool_library.specs.Tools.{IsBodyBox, IsSection}
 use Rattle.tool_library.specs.ToolsFile.{is_body_box, is_section}
 
 box_decided : (low high : ℤ) (box : Rect) → Decides (is_body_box low high box) (IsBodyBox low high box)
 box_decided low high box =
-    let across = range_decided (neg_ℤ FARTHEST_ACROSS) FARTHEST_ACROSS box.y0 box.y1 in
-    let both = Decides-and (is_range (neg_ℤ FARTHEST_ACROSS) FARTHEST_ACROSS box.y0 box.y1) (is_range low high box.z0 box.z1) across (range_decided low high box.z0 box.z1) in
+    let across = range_decided (neg_ℤ farthest_across) farthest_across box.y0 box.y1 in
+    let both = Decides-and (is_range (neg_ℤ farthest_across) farthest_across box.y0 box.y1) (is_range low high box.z0 box.z1) across (range_decided low high box.z0 box.z1) in
     Decides-like (is_body_box low high box) (λ p. record { across = p.0; upwards = p.1 }) (λ b. (b.across, b.upwards)) both
 
 section_decided : (section : ℤ × ℕ) → Decides (is_section section.0 (pos section.1)) (IsSection section)
 section_decided section =
-    let length = within_decided LEAST_LENGTH GREATEST_LENGTH section.0 in
-    let both = Decides-and (is_within LEAST_LENGTH GREATEST_LENGTH section.0) (is_within LEAST_COUNT GREATEST_COUNT (pos section.1)) length (within_decided LEAST_COUNT GREATEST_COUNT (pos section.1)) in
+    let length = within_decided least_section_length greatest_section_length section.0 in
+    let both = Decides-and (is_within least_section_length greatest_section_length section.0) (is_within least_section_count greatest_section_count (pos section.1)) length (within_decided least_section_count greatest_section_count (pos section.1)) in
     Decides-like (is_section section.0 (pos section.1)) (λ p. record { length = p.0; count = p.1 }) (λ s. (s.length, s.count)) both
 
 -- a test of each element

@@ -1,3 +1,4 @@
+pub mod Bounds
 pub mod Tools
 pub mod Names
 pub mod ToolsFile

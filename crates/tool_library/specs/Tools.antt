@@ -4,10 +4,10 @@ use Rattle.std.specs.Prelude.{◌≡◌, ℕ, ◌≤◌, ◌%◌, ℤ, pos, neg_
 use Rattle.brake_base.specs.declared.plane.Rect.{Rect}
 use Rattle.toml_fields.specs.Fields.{is_name}
 use Rattle.toml_fields.specs.Ranges.{IsWithin, IsRange}
-use Rattle.part_file.specs.declared.bounds.TheConstants.{LEAST_THICKNESS, GREATEST_THICKNESS}
+use Rattle.part_file.specs.Bounds.{least_thickness, greatest_thickness}
 use Rattle.allowance.specs.AllowTable.{RowData, table_data, IsAllowTable}
 use Rattle.tool_library.specs.Names.{AreDistinct}
-use Rattle.tool_library.specs.declared.bounds.TheConstants.{MOST_PUNCHES, MOST_DIES, MOST_LOAD_ROWS, MOST_BOXES, MOST_SECTIONS, LEAST_HEIGHT, GREATEST_HEIGHT, FARTHEST_ACROSS, LEAST_LENGTH, GREATEST_LENGTH, LEAST_COUNT, GREATEST_COUNT, LEAST_OPENING, GREATEST_OPENING, GREATEST_FLANGE, GREATEST_LIMIT, LEAST_LOAD, GREATEST_LOAD}
+use Rattle.tool_library.specs.Bounds.{most_punches, most_dies, most_load_rows, most_body_boxes, most_sections, least_height, greatest_height, farthest_across, least_section_length, greatest_section_length, least_section_count, greatest_section_count, least_opening, greatest_opening, greatest_flange, greatest_limit, least_load, greatest_load}
 use Rattle.tool_library.specs.declared.tools.Punch.{Punch}
 use Rattle.tool_library.specs.declared.tools.Die.{Die}
 use Rattle.tool_library.specs.declared.tools.LoadRow.{LoadRow}
@@ -70,30 +70,30 @@ names_of_dies dies = map (λ d. d.name) dies
 
 -- the box has an interior, lies near the tool's middle in y, and between two heights in z
 pub record IsBodyBox (low high : ℤ) (box : Rect) : Type 0 where
-  pub across : IsRange (neg_ℤ FARTHEST_ACROSS) FARTHEST_ACROSS box.y0 box.y1
+  pub across : IsRange (neg_ℤ farthest_across) farthest_across box.y0 box.y1
   pub upwards : IsRange low high box.z0 box.z1
 
 -- a length that the shop has, and how often
 pub record IsSection (section : ℤ × ℕ) : Type 0 where
-  pub length : IsWithin LEAST_LENGTH GREATEST_LENGTH section.0
-  pub count : IsWithin LEAST_COUNT GREATEST_COUNT (pos section.1)
+  pub length : IsWithin least_section_length greatest_section_length section.0
+  pub count : IsWithin least_section_count greatest_section_count (pos section.1)
 
 -- the width of an opening is even
 pub record IsOpening (v : ℤ) : Type 0 where
-  pub range : IsWithin LEAST_OPENING GREATEST_OPENING v
+  pub range : IsWithin least_opening greatest_opening v
   pub even : unsigned_abs v % 2 ≡ 0
 
 -- the height of a tool
 abbrev pub IsHeight : ℤ → Type 0
-IsHeight n = IsWithin LEAST_HEIGHT GREATEST_HEIGHT n
+IsHeight n = IsWithin least_height greatest_height n
 
 -- the limit of a tool's load
 abbrev pub IsLimit : ℤ → Type 0
-IsLimit n = IsWithin (pos 0) GREATEST_LIMIT n
+IsLimit n = IsWithin (pos 0) greatest_limit n
 
 -- the shortest flange that a die can bend
 abbrev pub IsFlange : ℤ → Type 0
-IsFlange n = IsWithin (pos 0) GREATEST_FLANGE n
+IsFlange n = IsWithin (pos 0) greatest_flange n
 
 -- the sizes of a punch: its wedge's is at most its height
 pub record HasPunchSizes (p : PunchData) : Type 0 where
@@ -110,9 +110,9 @@ pub record HasDieSizes (d : DieData) : Type 0 where
 
 -- the lists of a tool whose body lies between two heights
 pub record HasLists (low high : ℤ) (body : List Rect) (sections : List (ℤ × ℕ)) : Type 0 where
-  pub few_boxes : length body ≤ MOST_BOXES
+  pub few_boxes : length body ≤ most_body_boxes
   pub each_box : All (IsBodyBox low high) body
-  pub few_sections : length sections ≤ MOST_SECTIONS
+  pub few_sections : length sections ≤ most_sections
   pub each_section : All IsSection sections
 
 -- the rules of a punch
@@ -130,18 +130,18 @@ pub record IsDie (d : DieData) : Type 0 where
 -- the rules of a load row
 pub record IsLoad (r : LoadData) : Type 0 where
   pub material : IsTrue (is_name r.material)
-  pub thickness : IsWithin LEAST_THICKNESS GREATEST_THICKNESS r.thickness
+  pub thickness : IsWithin least_thickness greatest_thickness r.thickness
   pub v : IsOpening r.v
-  pub load : IsWithin LEAST_LOAD GREATEST_LOAD r.load
+  pub load : IsWithin least_load greatest_load r.load
 
 -- what tools that were read keep to
 pub record IsTools (t : ToolsData) : Type 0 where
-  pub few_punches : length t.punches ≤ MOST_PUNCHES
+  pub few_punches : length t.punches ≤ most_punches
   pub punches : All IsPunch t.punches
   pub punch_names : AreDistinct (names_of_punches t.punches)
-  pub few_dies : length t.dies ≤ MOST_DIES
+  pub few_dies : length t.dies ≤ most_dies
   pub dies : All IsDie t.dies
   pub die_names : AreDistinct (names_of_dies t.dies)
   pub allow : IsAllowTable t.allow
-  pub few_loads : length t.loads ≤ MOST_LOAD_ROWS
+  pub few_loads : length t.loads ≤ most_load_rows
   pub loads : All IsLoad t.loads

@@ -9,21 +9,21 @@ use Rattle.toml_fields.specs.Lists.{array_at, each_passes, integers_of, rows_at,
 use Rattle.toml_fields.specs.Ranges.{is_within, is_range}
 use Rattle.toml_fields.specs.Results.{◌>>=◌, each_from, refuse_if, refuse_first}
 use Rattle.brake_base.specs.declared.plane.Rect.{Rect}
-use Rattle.part_file.specs.declared.bounds.TheConstants.{LEAST_THICKNESS, GREATEST_THICKNESS, LEAST_RADIUS, GREATEST_RADIUS}
-use Rattle.allowance.specs.declared.bounds.TheConstants.{LEAST_FACTOR, GREATEST_FACTOR, LEAST_MEASURED, GREATEST_HALF_DEDUCTION, MOST_ROWS}
+use Rattle.part_file.specs.Bounds.{least_thickness, greatest_thickness, least_radius, greatest_radius}
+use Rattle.allowance.specs.Bounds.{least_factor, greatest_factor, least_measured, greatest_half_deduction, most_allow_rows}
 use Rattle.allowance.specs.AllowTable.{RowData}
 use Rattle.allowance.specs.declared.table.Factor.{Factor}
 use Rattle.allowance.specs.declared.table.Factor.TheVariants.{K, Measured}
 use Rattle.tool_library.specs.declared.fault.ToolFault.{ToolFault}
 use Rattle.tool_library.specs.declared.fault.ToolFault.TheVariants.{NotToml, BadField, UnknownKey, TooMany, SameName, BadBox}
-use Rattle.tool_library.specs.declared.bounds.TheConstants.{MOST_PUNCHES, MOST_DIES, MOST_LOAD_ROWS, MOST_BOXES, MOST_SECTIONS, LEAST_HEIGHT, GREATEST_HEIGHT, FARTHEST_ACROSS, LEAST_LENGTH, GREATEST_LENGTH, LEAST_COUNT, GREATEST_COUNT, LEAST_OPENING, GREATEST_OPENING, GREATEST_FLANGE, GREATEST_LIMIT, LEAST_LOAD, GREATEST_LOAD}
+use Rattle.tool_library.specs.Bounds.{most_punches, most_dies, most_load_rows, most_body_boxes, most_sections, least_height, greatest_height, farthest_across, least_section_length, greatest_section_length, least_section_count, greatest_section_count, least_opening, greatest_opening, greatest_flange, greatest_limit, least_load, greatest_load}
 use Rattle.tool_library.specs.Names.{is_repeat}
 use Rattle.tool_library.specs.Tools.{PunchData, DieData, LoadData, ToolsData, names_of_punches, names_of_dies}
 
 -- the correction factor k in thousandths, or the measured half deduction q, by which of the two keys are there: exactly one may be
 abbrev pub factor_by : Bool → Bool → ℕ → Members → Result Factor ToolFault
-factor_by true false number table = ok_or (option_map K (integer_at LEAST_FACTOR GREATEST_FACTOR (codes "k") table)) (BadField number 7)
-factor_by false true number table = ok_or (option_map Measured (integer_at LEAST_MEASURED GREATEST_HALF_DEDUCTION (codes "q") table)) (BadField number 8)
+factor_by true false number table = ok_or (option_map K (integer_at least_factor greatest_factor (codes "k") table)) (BadField number 7)
+factor_by false true number table = ok_or (option_map Measured (integer_at least_measured greatest_half_deduction (codes "q") table)) (BadField number 8)
 factor_by true true number table = Err (BadField number 7)
 factor_by false false number table = Err (BadField number 7)
 
@@ -35,8 +35,8 @@ factor_of number members = factor_by (has_key (codes "k") members) (has_key (cod
 unfoldable pub allow_row_of : ℕ → Members → Result RowData ToolFault
 allow_row_of number members = do
   material ← ok_or (name_at (codes "material") members) (BadField number 4)
-  thickness ← ok_or (integer_at LEAST_THICKNESS GREATEST_THICKNESS (codes "thickness") members) (BadField number 5)
-  radius ← ok_or (integer_at LEAST_RADIUS GREATEST_RADIUS (codes "radius") members) (BadField number 6)
+  thickness ← ok_or (integer_at least_thickness greatest_thickness (codes "thickness") members) (BadField number 5)
+  radius ← ok_or (integer_at least_radius greatest_radius (codes "radius") members) (BadField number 6)
   factor ← factor_of number members
   known ← refuse_if (has_unknown_key (codes "material" ∷ codes "thickness" ∷ codes "radius" ∷ codes "k" ∷ codes "q" ∷ []) members) (UnknownKey number)
   Ok (record { material = material; thickness = thickness; radius = radius; factor = factor })
@@ -56,7 +56,7 @@ rects_of items = filter_map rect_of items
 
 -- a section's length and its count are in range
 abbrev pub is_section : ℤ → ℤ → Bool
-is_section length count = is_within LEAST_LENGTH GREATEST_LENGTH length && is_within LEAST_COUNT GREATEST_COUNT count
+is_section length count = is_within least_section_length greatest_section_length length && is_within least_section_count greatest_section_count count
 
 -- the section of a length and a count
 abbrev pub section_by : List ℤ → Option (ℤ × ℕ)
@@ -77,15 +77,15 @@ sections_of items = filter_map section_of items
 
 -- a body has too many boxes, or a tool too many sections
 abbrev pub too_many : List Data → List Data → Bool
-too_many body sections = nat_lt MOST_BOXES (length body) || nat_lt MOST_SECTIONS (length sections)
+too_many body sections = nat_lt most_body_boxes (length body) || nat_lt most_sections (length sections)
 
 -- the box has an interior, lies near the tool's middle in y, and between two heights in z
 abbrev pub is_body_box : ℤ → ℤ → Rect → Bool
-is_body_box low high box = is_range (neg_ℤ FARTHEST_ACROSS) FARTHEST_ACROSS box.y0 box.y1 && is_range low high box.z0 box.z1
+is_body_box low high box = is_range (neg_ℤ farthest_across) farthest_across box.y0 box.y1 && is_range low high box.z0 box.z1
 
 -- the width of an opening is even and in range
 abbrev pub is_opening : ℤ → Bool
-is_opening v = is_within LEAST_OPENING GREATEST_OPENING v && (unsigned_abs v % 2 == 0)
+is_opening v = is_within least_opening greatest_opening v && (unsigned_abs v % 2 == 0)
 
 -- the width of an opening at a key
 abbrev pub opening_at : List ℕ → Members → Option ℤ
@@ -95,11 +95,11 @@ opening_at key members = option_and_then (λ v. if is_opening v then Some v else
 unfoldable pub punch_of : ℕ → Members → Result PunchData ToolFault
 punch_of number members = do
   name ← ok_or (name_at (codes "name") members) (BadField number 9)
-  height ← ok_or (integer_at LEAST_HEIGHT GREATEST_HEIGHT (codes "height") members) (BadField number 10)
+  height ← ok_or (integer_at least_height greatest_height (codes "height") members) (BadField number 10)
   nose ← ok_or (integer_at (pos 0) height (codes "nose") members) (BadField number 11)
   body ← ok_or (rows_at 4 (codes "body") members) (BadField number 12)
   sections ← ok_or (sections_at (codes "sections") members) (BadField number 13)
-  limit ← ok_or (integer_or (pos 0) (pos 0) GREATEST_LIMIT (codes "limit") members) (BadField number 25)
+  limit ← ok_or (integer_or (pos 0) (pos 0) greatest_limit (codes "limit") members) (BadField number 25)
   known ← refuse_if (has_unknown_key (codes "name" ∷ codes "height" ∷ codes "nose" ∷ codes "body" ∷ codes "sections" ∷ codes "limit" ∷ []) members) (UnknownKey number)
   few ← refuse_if (too_many body sections) (TooMany number)
   boxes ← refuse_if (not (list_all (is_body_box (pos 0) height) (rects_of body))) (BadBox number)
@@ -109,12 +109,12 @@ punch_of number members = do
 unfoldable pub die_of : ℕ → Members → Result DieData ToolFault
 die_of number members = do
   name ← ok_or (name_at (codes "name") members) (BadField number 14)
-  height ← ok_or (integer_at LEAST_HEIGHT GREATEST_HEIGHT (codes "height") members) (BadField number 15)
+  height ← ok_or (integer_at least_height greatest_height (codes "height") members) (BadField number 15)
   v ← ok_or (opening_at (codes "v") members) (BadField number 16)
-  least_flange ← ok_or (integer_at (pos 0) GREATEST_FLANGE (codes "least_flange") members) (BadField number 17)
+  least_flange ← ok_or (integer_at (pos 0) greatest_flange (codes "least_flange") members) (BadField number 17)
   body ← ok_or (rows_at 4 (codes "body") members) (BadField number 18)
   sections ← ok_or (sections_at (codes "sections") members) (BadField number 19)
-  limit ← ok_or (integer_or (pos 0) (pos 0) GREATEST_LIMIT (codes "limit") members) (BadField number 26)
+  limit ← ok_or (integer_or (pos 0) (pos 0) greatest_limit (codes "limit") members) (BadField number 26)
   known ← refuse_if (has_unknown_key (codes "name" ∷ codes "height" ∷ codes "v" ∷ codes "least_flange" ∷ codes "body" ∷ codes "sections" ∷ codes "limit" ∷ []) members) (UnknownKey number)
   few ← refuse_if (too_many body sections) (TooMany number)
   boxes ← refuse_if (not (list_all (is_body_box (neg_ℤ height) (pos 0)) (rects_of body))) (BadBox number)
@@ -124,9 +124,9 @@ die_of number members = do
 unfoldable pub load_row_of : ℕ → Members → Result LoadData ToolFault
 load_row_of number members = do
   material ← ok_or (name_at (codes "material") members) (BadField number 21)
-  thickness ← ok_or (integer_at LEAST_THICKNESS GREATEST_THICKNESS (codes "thickness") members) (BadField number 22)
+  thickness ← ok_or (integer_at least_thickness greatest_thickness (codes "thickness") members) (BadField number 22)
   v ← ok_or (opening_at (codes "v") members) (BadField number 23)
-  load ← ok_or (integer_at LEAST_LOAD GREATEST_LOAD (codes "load") members) (BadField number 24)
+  load ← ok_or (integer_at least_load greatest_load (codes "load") members) (BadField number 24)
   known ← refuse_if (has_unknown_key (codes "material" ∷ codes "thickness" ∷ codes "v" ∷ codes "load" ∷ []) members) (UnknownKey number)
   Ok (record { material = material; thickness = thickness; v = v; load = load })
 
@@ -151,7 +151,7 @@ tools_of_tables allow punch die load = do
 
 -- some kind has more tables than it may
 abbrev pub too_many_tables : List Data → List Data → List Data → List Data → Bool
-too_many_tables allow punch die load = (nat_lt MOST_ROWS (length allow) || nat_lt MOST_PUNCHES (length punch)) || (nat_lt MOST_DIES (length die) || nat_lt MOST_LOAD_ROWS (length load))
+too_many_tables allow punch die load = (nat_lt most_allow_rows (length allow) || nat_lt most_punches (length punch)) || (nat_lt most_dies (length die) || nat_lt most_load_rows (length load))
 
 -- the tools of table 0
 unfoldable pub tools_of_members : Members → Result ToolsData ToolFault

@@ -1,6 +1,6 @@
-//! The bounds of what a tools file may say, each said once: the reader, the tests of validity and
-//! the definitions cite them; those of an allow row are `allowance`'s and `part_file`'s. Lengths are
-//! in micrometres, loads and limits in newtons per millimetre.
+//! The bounds of what a tools file may say, as the reader and the tests of validity take them; the
+//! definitions have their own (`specs/Bounds.antt`). Those of an allow row are `allowance`'s and
+//! `part_file`'s. Lengths are in micrometres, loads and limits in newtons per millimetre.
 
 /// The greatest number of punches.
 pub const MOST_PUNCHES: usize = 32;

@@ -40,7 +40,7 @@ loop-face-preserved c =
     let count = c.faces-face-end.ensures.value in
     let some : 0 < face = omega (arith, c.loop-face.auto.face) in
     let inside : face < length shape.part.faces = omega (arith, c.loop-face-test.true, count) in
-    let beyond : c.contains.result ≡ moves shape group face = c.contains.ensures ∙ c.faces_beyond-beyond.ensures face inside in
+    let beyond : c.contains.result ≡ moves shape group face = c.contains.ensures ∙ c.faces_beyond-beyond.ensures.faces face inside in
     elim c.if-contains.branch [
       | then-contains w ↦
           let old = w.index-places-index.result in

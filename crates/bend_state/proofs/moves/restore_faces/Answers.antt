@@ -22,7 +22,7 @@ get-requires c =
     let records = c.args.trail.now.items in
     let some : 0 < face = omega (arith, c.loop-face.auto.face) in
     let inside : face < length shape.part.faces = omega (arith, c.loop-face-test.true, c.faces-face-end.ensures.value) in
-    let moved : moves shape fold.group face ≡ true = sym (c.contains.ensures ∙ c.faces_beyond-beyond.ensures face inside) ∙ c.if-contains.true in
+    let moved : moves shape fold.group face ≡ true = sym (c.contains.ensures ∙ c.faces_beyond-beyond.ensures.faces face inside) ∙ c.if-contains.true in
     let below = within_records shape fold.before fold.group fold.mark face records some inside moved c.requires.kept in
     record { within = omega (arith, c.loop-face.invariant.index, below, c.mark-end.ensures.length) }
 
@@ -37,7 +37,7 @@ loop-face-preserved c =
     let now = c.loop-face.invariant in
     let some : 0 < face = omega (arith, c.loop-face.auto.face) in
     let inside : face < length shape.part.faces = omega (arith, c.loop-face-test.true, c.faces-face-end.ensures.value) in
-    let beyond : c.contains.result ≡ moves shape fold.group face = c.contains.ensures ∙ c.faces_beyond-beyond.ensures face inside in
+    let beyond : c.contains.result ≡ moves shape fold.group face = c.contains.ensures ∙ c.faces_beyond-beyond.ensures.faces face inside in
     elim c.if-contains.branch [
       | then-contains w ↦
           let place = w.get.result in

@@ -1,6 +1,6 @@
 use Rattle.std.proofs.Common.{sym, ◌∙◌}
 use Rattle.plan_cert.specs.Cert.{cert_data}
-use Rattle.brake_cli.proofs.Searching.{opened_job, opened_fresh, opened_budget, has_answer, is_plan_cert, spent_above}
+use Rattle.brake_cli.proofs.Searching.{opened_job, opened_fresh, opened_budget, has_answer, is_plan_cert, is_within, spent_above}
 use Rattle.brake_cli.proofs.plan.find_cert.Goals as goal
 
 pub run-requires-clause-job : goal.run-requires-clause-job
@@ -24,5 +24,8 @@ certificate-requires-clause-answered c =
 
 pub returns : goal.returns
 returns c =
-    is_plan_cert c.args.job.now c.run.new.self (cert_data c.in_ok-certificate-in_default.field-0)
-    (opened_job c.in_ok-search.search c.args.job.now c.args.budget c.in_ok-search.ensures ∙ sym c.run.ensures.job) c.in_ok-certificate-in_default.ensures
+    let same = opened_job c.in_ok-search.search c.args.job.now c.args.budget c.in_ok-search.ensures ∙ sym c.run.ensures.job in
+    let given = c.run.ensures.budget ∙ opened_budget c.in_ok-search.search c.args.job.now c.args.budget c.in_ok-search.ensures in
+    let cert = cert_data c.in_ok-certificate-in_default.field-0 in
+    let is = c.in_ok-certificate-in_default.ensures in
+    (is_plan_cert c.args.job.now c.run.new.self cert same is, is_within c.args.job.now c.run.new.self cert c.args.budget same given is)

@@ -11,7 +11,7 @@ use Rattle.cert_check.proofs.heads.read_heads.Goals as goal
 pub loop-is_open-init : goal.loop-is_open-init
 loop-is_open-init c = record {
   behind_job = answers_left c.first_job.new.reader;
-  starts = subst (λ (t : List ℕ). items Certificate t ≡ Ok (given.Job c.in_ok-job.job) ∷ answers_left c.first_job.new.reader) (ap (λ (q : Reading). q.text) c.new-reader.ensures) c.in_ok-job.ensures.job;
+  starts = subst (λ (t : List ℕ). items Certificate t ≡ Ok (given.Job c.in_ok-job.job) ∷ answers_left c.first_job.new.reader) (ap (λ (q : Reading). q.text) c.new-reader.ensures.reader) c.in_ok-job.ensures.job;
   read = no_cert;
   has = record { claim = refl; steps = c.new.ensures; rows = c.new-2.ensures.items };
   same = refl;

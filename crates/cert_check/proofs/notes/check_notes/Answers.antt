@@ -8,12 +8,12 @@ use Rattle.plan_cert.specs.Cert.{CertData}
 use Rattle.plan_cert.specs.declared.item.Item.TheVariants as given
 use Rattle.plan_cert.specs.declared.item.CertFault.{CertFault}
 use Rattle.plan_cert.specs.Items.{items}
-use Rattle.plan_cert.specs.CertReading.{no_cert, cert_of, cert_file_of, answers_left}
+use Rattle.plan_cert.specs.CertReading.{no_cert, cert_of, answers_left}
 use Rattle.cert_check.specs.Texts.{IsTextOfCert, IsRefusedFor}
 use Rattle.cert_check.specs.Heads.{IsTextOfRows, JobAnswer}
-use Rattle.cert_check.specs.RowFaults.{RowsAreAccounted}
+use Rattle.plan_cert.specs.RowFaults.{RowsAreAccounted}
 use Rattle.cert_check.specs.Rows.{RowAnswer}
-use Rattle.cert_check.proofs.ItemLemmas.{text_items_behind}
+use Rattle.cert_check.proofs.ItemLemmas.{left_some, text_items_behind}
 use Rattle.cert_check.proofs.NoteLemmas.{holds_none}
 use Rattle.cert_check.proofs.Accepting.{one_text, text_reads}
 use Rattle.cert_check.proofs.Deciding.{text_form}
@@ -33,18 +33,15 @@ job_completes text job first reader behind cert is answer written =
 
 -- the text of a certificate is refused for nothing
 not_refused : (text : List ℕ) (job : JobData) (reader : Reading) (cert : CertData) (fault : CertFault) → reader ≡ record { kind = Certificate; text = text; answered = 0 } → IsRefusedFor reader.text fault → IsTextOfCert text job cert → ⊥
-not_refused text job reader cert fault is refused written =
-    let refuses : cert_file_of text ≡ Err fault = subst (λ (q : Reading). cert_file_of q.text ≡ Err fault) is refused in
-    let reads = text_reads text job cert written in
-    cc
+not_refused text job reader cert fault is refused = (subst (λ (q : Reading). IsRefusedFor q.text fault) is refused).no_text job cert
 
 pub returns-in_err-first_job-clause-answer : goal.returns-in_err-first_job-clause-answer
 returns-in_err-first_job-clause-answer c = λ cert written.
-    absurd (not_refused c.args.text.now c.args.job.now c.new-reader.result cert c.in_err-first_job.field-0.0 c.new-reader.ensures c.in_err-first_job.ensures.job written)
+    absurd (not_refused c.args.text.now c.args.job.now c.new-reader.result cert c.in_err-first_job.field-0.0 c.new-reader.ensures.reader c.in_err-first_job.ensures.job written)
 
 pub returns-in_err-read_notes-clause-answer : goal.returns-in_err-read_notes-clause-answer
 returns-in_err-read_notes-clause-answer c = λ cert written.
-    absurd (c.in_err-read_notes.ensures.notes no_cert cert (job_completes c.args.text.now c.args.job.now c.in_ok-first_job.field-0 c.new-reader.result c.first_job.new.reader cert c.new-reader.ensures c.in_ok-first_job.ensures.job written) holds_none)
+    absurd (c.in_err-read_notes.ensures.notes no_cert cert (job_completes c.args.text.now c.args.job.now c.in_ok-first_job.field-0 c.new-reader.result c.first_job.new.reader cert c.new-reader.ensures.reader c.in_ok-first_job.ensures.job written) holds_none)
 
 pub of-actions-requires-clause-mask : goal.of-actions-requires-clause-mask
 of-actions-requires-clause-mask c = rw c.empty.ensures.number (start_in_range c.args.job.now c.setup.ensures.valid).mask
@@ -56,10 +53,18 @@ loop-row-init c = record {
   actions = c.of-actions.ensures.actions;
   each = λ cert written same. (
     ready_first cert c.read_notes.new.reasons (answers_left c.read_notes.new.reader)
-        (c.in_ok-read_notes.ensures.notes no_cert cert (job_completes c.args.text.now c.args.job.now c.in_ok-first_job.field-0 c.new-reader.result c.first_job.new.reader cert c.new-reader.ensures c.in_ok-first_job.ensures.job written) holds_none),
+        (c.in_ok-read_notes.ensures.notes no_cert cert (job_completes c.args.text.now c.args.job.now c.in_ok-first_job.field-0 c.new-reader.result c.first_job.new.reader cert c.new-reader.ensures.reader c.in_ok-first_job.ensures.job written) holds_none),
     λ row head less at. absurd (omega (arith, less)),
   );
 }
+
+pub read_notes-requires-in-loop-row-clause-left : goal.read_notes-requires-in-loop-row-clause-left
+read_notes-requires-in-loop-row-clause-left c =
+    let text = c.requires.text in
+    let count = ap length text.same in
+    let within : c.loop-row.row < length text.cert.rows = let test = c.loop-row-test.true in let len = c.len-row-end.ensures in omega (arith, test, len, count) in
+    let each = c.loop-row.invariant.each text.cert text.written text.same in
+    left_some c.loop-row.reader (ahead_of text.cert c.loop-row.row c.loop-row.reasons (answers_left c.loop-row.reader) within each.0).more
 
 pub returns-in_err-read_notes-2-clause-answer : goal.returns-in_err-read_notes-2-clause-answer
 returns-in_err-read_notes-2-clause-answer c = λ cert written.
@@ -111,4 +116,4 @@ returns-clause-answer c = λ cert written.
     let same = rows_same c.args.text.now c.args.job.now c.args.rows.now.rows c.requires.text cert written in
     let count = ap length same in
     let end : c.loop-row.row ≡ length cert.rows = let test = c.loop-row-test.false in let far = c.loop-row.auto.row-end in let len = c.len-row-end.ensures in omega (arith, test, far, len, count) in
-    subst (RowsAreAccounted c.args.job.now cert) end (c.loop-row.invariant.each cert written same).1
+    subst (RowsAreAccounted c.args.job.now cert.rows cert.notes) end (c.loop-row.invariant.each cert written same).1

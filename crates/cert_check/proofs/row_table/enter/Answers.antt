@@ -1,7 +1,8 @@
 use Rattle.std.proofs.Common.{◌≡◌, ◌+◌, ℕ, length, set, get_or, arith, refl, sym, ◌∙◌, ap, subst, length-set}
 use Rattle.plan_cert.specs.declared.cert.RowHead.{RowHead}
-use Rattle.cert_check.specs.RowTable.{IsIndexed, key_place}
-use Rattle.cert_check.proofs.RowOrder.{few_rows, number_within}
+use Rattle.plan_cert.specs.KeyPlaces.{key_place}
+use Rattle.cert_check.specs.RowTable.{IsIndexed}
+use Rattle.plan_cert.proofs.RowOrder.{few_rows, number_within}
 use Rattle.cert_check.proofs.Indexes.{index_starts, index_grows}
 use Rattle.cert_check.proofs.row_table.enter.Goals as goal
 

@@ -3,7 +3,7 @@ use Rattle.job_setup.specs.Setup.{bend_count, stage_count}
 use Rattle.handling_cost.proofs.Actions.{few_bends}
 use Rattle.plan_cert.specs.Lines.{action_at}
 use Rattle.plan_cert.proofs.Actions.{action_is, few_actions}
-use Rattle.cert_check.proofs.Numbers.{bend_of_number}
+use Rattle.plan_cert.proofs.ActionNumbers.{bend_of_number}
 use Rattle.cert_check.proofs.rows.action_at.Goals as goal
 
 pub returns-clause-value : goal.returns-clause-value

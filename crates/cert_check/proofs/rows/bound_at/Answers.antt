@@ -3,7 +3,7 @@ use Rattle.job_setup.specs.Setup.{JobData, bend_count}
 use Rattle.handling_cost.specs.Bound.{bound_of}
 use Rattle.handling_cost.proofs.Small.{bound_small}
 use Rattle.set_facts.specs.Facts.{IsFacts}
-use Rattle.cert_check.proofs.RowOrder.{few_stages}
+use Rattle.plan_cert.proofs.RowOrder.{few_stages}
 use Rattle.cert_check.proofs.rows.bound_at.Goals as goal
 
 pub facts-facts-requires : goal.facts-facts-requires

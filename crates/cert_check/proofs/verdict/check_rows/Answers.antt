@@ -2,17 +2,18 @@ use Rattle.std.proofs.Common.{◌≡◌, List, sym, ◌∙◌, ap, subst}
 use Rattle.brake_base.specs.declared.stroke.Worth.{Worth}
 use Rattle.plan_cert.specs.declared.cert.RowHead.{RowHead}
 use Rattle.plan_cert.specs.Cert.{CertData}
-use Rattle.cert_check.specs.RowTable.{RowsOf, AreRowsOf}
+use Rattle.plan_cert.specs.WellFormed.{AreRowsOf}
+use Rattle.cert_check.specs.RowTable.{RowsOf}
 use Rattle.cert_check.specs.Rows.{ProvesAnswer}
 use Rattle.cert_check.proofs.Accepting.{one_text}
-use Rattle.cert_check.proofs.Conditions.{rows_of}
+use Rattle.plan_cert.proofs.Conditions.{rows_of}
 use Rattle.cert_check.proofs.Deciding.{text_form, claim_answer, rows_refused}
 use Rattle.cert_check.proofs.verdict.check_rows.Goals as goal
 
 pub open-requires : goal.open-requires
 open-requires c =
     let form = text_form c.args.text.now c.args.job.now c.requires.cert c.requires.written in
-    record { rows = subst (AreRowsOf c.args.job.now) (sym c.requires.rows_are) (rows_of c.args.job.now form.0 c.requires.cert form.1) }
+    record { rows = subst (AreRowsOf c.args.job.now) (sym c.requires.rows_are) (rows_of c.args.job.now form.0 c.requires.cert.rows c.requires.cert.notes form.1.rows) }
 
 pub returns-in-Ok : goal.returns-in-Ok
 returns-in-Ok c = λ cert written.

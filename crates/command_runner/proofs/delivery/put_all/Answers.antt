@@ -1,4 +1,4 @@
-use Rattle.std.proofs.Common.{◌≡◌, refl, rules, ◌∙◌, map}
+use Rattle.std.proofs.Common.{refl, rules, ◌∙◌, map}
 use Rattle.std.specs.Vec.{vec_items}
 use Rattle.std.proofs.KnownBytes.{Appends-nil}
 use Rattle.std.proofs.lemmas.List.{take_all}

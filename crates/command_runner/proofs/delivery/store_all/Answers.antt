@@ -19,7 +19,7 @@ loop-one-preserved g c =
     let now = c.in_ok-store.ensures in
     record {
       stored = stored_more c.args.stored.now c.loop-one.one-index c.one-item.result c.as_str.result.now c.as_slice.result.now (g.H.Shelf.state c.args.shelf.now) (g.H.Shelf.state c.loop-one.shelf) (g.H.Shelf.state c.store.new.self)
-          c.loop-one-test.true c.one-item.is c.as_str.ensures.value c.as_slice.ensures.value so_far.stored now.others now.ok now.calls;
+          c.loop-one-test.true c.one-item.is c.as_str.ensures.value c.as_slice.ensures.value so_far.stored now.others now.ok now.calls now.longs;
       falls = none_falls _ _ _ so_far.falls now.never_falls;
       faults = now.faults (λ fails. cc) ∙ so_far.faults;
     }
@@ -30,7 +30,7 @@ returns-in_err-store-clause-err g c =
     let now = c.in_err-store.ensures in
     let part : AreStoredUpTo (map stored_data c.args.stored.now) (g.H.Shelf.state c.args.shelf.now) (g.H.Shelf.state c.store.new.self) =
     stored_up_to c.args.stored.now c.loop-one.one-index c.one-item.result c.as_str.result.now c.as_slice.result.now (g.H.Shelf.state c.args.shelf.now) (g.H.Shelf.state c.loop-one.shelf) (g.H.Shelf.state c.store.new.self)
-    c.loop-one-test.true c.one-item.is c.as_str.ensures.value c.as_slice.ensures.value so_far.stored now.others now.err now.calls in
+    c.loop-one-test.true c.one-item.is c.as_str.ensures.value c.as_slice.ensures.value so_far.stored now.others now.err now.calls now.longs in
     search (rules, part)
 
 pub returns-in_err-store-clause-never_falls : goal.returns-in_err-store-clause-never_falls

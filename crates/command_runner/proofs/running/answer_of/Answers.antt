@@ -1,13 +1,7 @@
-use Rattle.std.proofs.Common.{◌≡◌, Ok, Err, map, string_bytes, ap, ◌∙◌}
+use Rattle.std.proofs.Common.{◌≡◌, Ok, Err, map, ap, ◌∙◌}
 use Rattle.std.specs.Vec.{vec_items}
 use Rattle.command_runner.specs.Fetching.{file_words}
-use Rattle.command_runner.proofs.Forms.{form_places}
 use Rattle.command_runner.proofs.running.answer_of.Goals as goal
-
-pub fetch_all-requires : goal.fetch_all-requires
-fetch_all-requires g c =
-    let files : c.as_slice.result.now ≡ file_words (g.C.Command.form c.args.command.now) = c.as_slice.ensures.value ∙ c.in-Ok.ensures ∙ ap file_words c.kinds.ensures.kinds in
-    rw files (form_places (g.C.Command.form c.args.command.now) c.args.words.now c.requires)
 
 pub returns-in-Ok-answer-clause-ok : goal.returns-in-Ok-answer-clause-ok
 returns-in-Ok-answer-clause-ok g c =

@@ -4,7 +4,7 @@ use Rattle.unfolder.specs.Cores.{joint_of}
 use Rattle.unfolder.proofs.ChainLemmas.{joint_of_part}
 use Rattle.fold_boxes.specs.Pose.{is_beyond_some}
 use Rattle.fold_boxes.proofs.MatesSoFar.{one_more, none_more}
-use Rattle.fold_boxes.proofs.Beyond.{beyond-root, beyond-bend, none_yet, found_earlier}
+use Rattle.fold_boxes.proofs.Beyond.{beyond-root, beyond-bend, none_yet, found_earlier, none_later}
 use Rattle.fold_boxes.proofs.halves.faces_beyond.Goals.{then-is_beyond, else-is_beyond}
 use Rattle.fold_boxes.proofs.halves.faces_beyond.Goals as goal
 
@@ -31,8 +31,13 @@ loop-bend-preserved c =
       | else-is_beyond w ↦ λ f. ap (λ m. has m f) w.beyond-is ∙ c.loop-bend.invariant f ∙ none_more test f bend (sym found ∙ w.if-is_beyond.false)
     ]
 
-pub returns : goal.returns
-returns c = λ f inside.
+pub returns-clause-faces : goal.returns-clause-faces
+returns-clause-faces c = λ f inside.
     let faces = c.args.shape.now.part.faces in
     let low : f < c.loop-bend.bend = omega (arith, inside, c.loop-bend-test.false, c.faces-bend-end.ensures.value) in
     c.loop-bend.invariant f ∙ found_earlier (is_beyond_some faces (has c.args.group)) f c.loop-bend.bend low
+
+pub returns-clause-past : goal.returns-clause-past
+returns-clause-past c = λ f past.
+    let faces = c.args.shape.now.part.faces in
+    c.loop-bend.invariant f ∙ none_later (is_beyond_some faces (has c.args.group)) f c.loop-bend.bend (omega (arith, past, c.loop-bend.auto.bend, c.faces-bend-end.ensures.value))

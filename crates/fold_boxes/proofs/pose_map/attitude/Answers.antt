@@ -1,4 +1,4 @@
-use Rattle.std.proofs.Common.{◌≡◌, ◌∙◌, ◌<◌, ap, List, length, arith}
+use Rattle.std.proofs.Common.{◌≡◌, ◌∙◌, ◌<◌, ap, sym, List, length, arith}
 use Rattle.brake_base.specs.Turns.{Map, turn_of, multiply, transpose}
 use Rattle.part_file.specs.Part.{PartData, FaceData}
 use Rattle.unfolder.specs.Cores.{joint_of}
@@ -6,6 +6,7 @@ use Rattle.fold_boxes.specs.Folded.{place_of}
 use Rattle.fold_boxes.specs.Pose.{parent_place, frame_turn, attitude_turn}
 use Rattle.fold_boxes.proofs.Folding.{read_place}
 use Rattle.fold_boxes.proofs.Numbered.{turn_number_is}
+use Rattle.fold_boxes.proofs.SolePose.{held_as}
 use Rattle.fold_boxes.proofs.pose_map.attitude.Goals as goal
 
 pub returns-clause-turn : goal.returns-clause-turn
@@ -28,3 +29,6 @@ returns-clause-turn c =
 
 pub returns-clause-value : goal.returns-clause-value
 returns-clause-value c = turn_number_is c.pose_turn.result (attitude_turn c.args.shape.now c.args.mask c.args.bend c.args.back) c.pose_turn.ensures.below (returns-clause-turn c)
+
+pub returns-clause-held : goal.returns-clause-held
+returns-clause-held c = λ group x0 x1 is_group member. held_as c.args.shape.now c.args.mask group is_group c.args.back x0 x1 c.args.bend member ∙ sym (returns-clause-turn c)

@@ -10,6 +10,7 @@ use Rattle.fold_boxes.specs.Posing.{moved_box}
 use Rattle.fold_boxes.proofs.Folding.{place_at, places_listed}
 use Rattle.fold_boxes.proofs.PoseLists.{boxes_moved, places_moved}
 use Rattle.fold_boxes.proofs.PoseEffect.{pose_effect, pose_map_is}
+use Rattle.fold_boxes.proofs.SolePose.{sole_map}
 use Rattle.fold_boxes.proofs.posing.pose_from.Goals as goal
 
 pub pose_map-to_machine-requires-clause-parent : goal.pose_map-to_machine-requires-clause-parent
@@ -61,10 +62,13 @@ returns-clause-value c =
     let m_is : m ≡ pose_map shape mask group back c.args.x0 c.args.x1 = pose_map_is shape mask group back c.args.x0 c.args.x1 m (map_of place) made parent in
     let few = c.hinge.ensures.rules.part.few_faces in
     let boxes = c.moved_boxes.ensures.value ∙ ap (map (moved_box m (has c.faces_beyond.result) back)) (c.as_slice.ensures.value ∙ c.boxes_at-boxes.ensures.value)
-    ∙ boxes_moved shape mask group back c.args.x0 c.args.x1 m (has c.faces_beyond.result) few m_is c.faces_beyond.ensures in
+    ∙ boxes_moved shape mask group back c.args.x0 c.args.x1 m (has c.faces_beyond.result) few m_is c.faces_beyond.ensures.faces in
     let listed = places_listed shape mask places c.requires.count c.requires.places in
     let moved = c.moved_places.ensures ∙ places_moved shape mask group back c.args.x0 c.args.x1 m places listed m_is in
     λ i. record { bend = lead i; group = group; boxes = boxes i; places = moved i; x0 = x0 i; x1 = x1 i }
 
 pub returns-clause-effect : goal.returns-clause-effect
 returns-clause-effect c = pose_effect c.args.shape.now c.hinge.ensures.rules c.args.mask c.args.group c.requires.group c.args.back c.args.x0 c.args.x1
+
+pub returns-clause-sole : goal.returns-clause-sole
+returns-clause-sole c = sole_map c.args.shape.now c.hinge.ensures.rules c.args.mask c.args.group c.requires.group c.args.back c.args.x0 c.args.x1

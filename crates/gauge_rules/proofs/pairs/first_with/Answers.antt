@@ -4,7 +4,8 @@ use Rattle.brake_base.specs.Turns.{map_of}
 use Rattle.fold_boxes.specs.Pose.{pose_data}
 use Rattle.gauge_rules.proofs.Small.{clash}
 use Rattle.gauge_rules.specs.Pairs.{HasFlatFace}
-use Rattle.gauge_rules.proofs.Firsts.{legal_flat, legal_within, more_right}
+use Rattle.job_setup.proofs.LegalFaces.{legal_within}
+use Rattle.gauge_rules.proofs.Firsts.{legal_flat, more_right}
 use Rattle.gauge_rules.proofs.pairs.first_with.Goals as goal
 
 pub loop-right_face-preserved : goal.loop-right_face-preserved

@@ -20,10 +20,16 @@ loop-bend-preserved c =
           (leads_less job mask leads bend c.loop-bend.invariant (sym c.is_lead.ensures ∙ w.if-is_lead.false))
     ]
 
-pub returns : goal.returns
-returns c = λ b first last.
+pub returns-clause-leads : goal.returns-clause-leads
+returns-clause-leads c = λ b first last.
     let count = c.faces-bend-end.ensures.value in
     let faces = ap (λ (s : ShapeData). length s.part.faces) c.shape-shape.ensures.value in
     let some = c.faces-bend-end.ensures.some in
     let end = c.loop-bend-test.false in
     c.loop-bend.invariant.below b first (omega (arith, last, count, faces, some, end))
+
+pub returns-clause-only : goal.returns-clause-only
+returns-clause-only c = λ b past.
+    let count = c.faces-bend-end.ensures.value in
+    let faces = ap (λ (s : ShapeData). length s.part.faces) c.shape-shape.ensures.value in
+    c.loop-bend.invariant.above b (omega (arith, past, count, faces, c.loop-bend.auto.bend))

@@ -4,7 +4,8 @@ use Rattle.fold_boxes.specs.declared.posed_part.PoseBox.{PoseBox}
 use Rattle.fold_boxes.specs.Pose.{PoseData}
 use Rattle.machine_file.specs.declared.machine.GaugeRule.{GaugeRule}
 use Rattle.job_setup.specs.Setup.{SetupData}
-use Rattle.setup_sheet.specs.OrderSheet.{gauge_words, gauge_words_of, posed_face, pose_before}
+use Rattle.handling_cost.specs.Plan.{pose_before}
+use Rattle.setup_sheet.specs.OrderSheet.{gauge_words, gauge_words_of, posed_face}
 use Rattle.setup_sheet.proofs.order.put_gauge_of.Goals as goal
 
 pub returns : goal.returns

@@ -35,7 +35,7 @@ returns-clause-stroke c =
       within = some_stage job c.shape-shape.ensures.valid;
       value = c.pose_at-pose.ensures.value;
     } in
-    let first = subst (λ (pose : PoseData). IsFirstLegal job pose gauge) c.pose_at-pose.ensures.value c.first_legal-gauge.ensures in
+    let first = subst (λ (pose : PoseData). IsFirstLegal job pose gauge) c.pose_at-pose.ensures.value c.first_legal-gauge.ensures.first in
     let same : IsGaugeOf job c.args.mask c.stroke_group-group.result c.args.back gauge = λ stage within. same_first job c.args.mask c.stroke_group-group.result c.args.back 0 stage gauge first in
     record {
       attitude = c.attitude.ensures.value ∙ ap (λ (shape : ShapeData). attitude_of shape c.args.mask c.args.lead c.args.back) c.shape-shape.ensures.value;

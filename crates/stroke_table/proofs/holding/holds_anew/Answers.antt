@@ -2,10 +2,12 @@ use Rattle.std.proofs.Common.{◌↔◌, IsTrue, sym, subst}
 use Rattle.brake_base.specs.declared.reason.Reason.{Reason}
 use Rattle.job_setup.specs.StrokeGroup.{group_of}
 use Rattle.job_setup.specs.Reasons.{IsReason}
+use Rattle.handling_cost.specs.Plan.{IsReasonFor}
 use Rattle.stroke_table.proofs.Firsts.{no_gauge_is}
 use Rattle.stroke_table.proofs.holding.holds_anew.Goals as goal
 
 pub returns-in-NoGauge : goal.returns-in-NoGauge
+unfolding IsReasonFor
 returns-in-NoGauge c =
     let job = c.args.job.now in
     let action = c.args.action in

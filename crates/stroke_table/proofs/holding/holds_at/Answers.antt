@@ -2,9 +2,11 @@ use Rattle.std.proofs.Common.{◌↔◌, IsTrue, subst}
 use Rattle.brake_base.specs.declared.mask.Mask.{Mask}
 use Rattle.fold_boxes.specs.Pose.{pose_data}
 use Rattle.job_setup.specs.Reasons.{IsPoseAt, IsReason}
+use Rattle.handling_cost.specs.Plan.{IsReasonFor}
 use Rattle.stroke_table.proofs.holding.holds_at.Goals as goal
 
 pub returns : goal.returns
+unfolding IsReasonFor
 returns c =
     let job = c.args.job.now in
     let action = c.args.action in

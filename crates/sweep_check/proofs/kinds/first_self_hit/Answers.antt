@@ -10,7 +10,7 @@ use Rattle.sweep_check.proofs.kinds.first_self_hit.Goals as goal
 
 pub first_hit-requires-clause-covered : goal.first_hit-requires-clause-covered
 first_hit-requires-clause-covered c =
-    subst (All IsCovered) (sym (c.as_slice.ensures.value ∙ c.back_pieces.ensures.value)) (back_covered c.args.job.now c.args.boxes.now (widening_high c.args.job.now c.back_pieces.ensures.valid) c.requires.boxes.solid)
+    subst (All IsCovered) (sym (c.as_slice.ensures.value ∙ c.back_pieces.ensures.value)) (back_covered c.args.job.now c.args.boxes.now c.back_pieces.ensures.valid c.requires.boxes.solid)
 
 pub first_hit-requires-clause-solid : goal.first_hit-requires-clause-solid
 first_hit-requires-clause-solid c =

@@ -1,4 +1,4 @@
-use Rattle.std.proofs.Common.{◌∙◌, sym, subst, inl, Some, None}
+use Rattle.std.proofs.Common.{◌∙◌, sym, subst, Some, None}
 use Rattle.std.specs.Prelude.{All, AllPairs}
 use Rattle.sector_geom.specs.declared.sector.Sweep.TheVariants.{Eighth}
 use Rattle.job_setup.specs.Obstacles.{upper_group, lower_group}
@@ -6,7 +6,7 @@ use Rattle.sweep_check.specs.Pieces.{pieces_of}
 use Rattle.sweep_check.specs.FirstReasons.{pose_of_boxes}
 use Rattle.sweep_check.specs.Hits.{IsSolidObstacle, IsNose, IsCovered, IsEighth, PieceIsBefore}
 use Rattle.sweep_check.proofs.Bounds.{widening_high}
-use Rattle.sweep_check.proofs.PieceLists.{pieces_ascend, eighths}
+use Rattle.sweep_check.proofs.PieceLists.{pieces_ascend, eighths, all_covered}
 use Rattle.sweep_check.proofs.AroundLists.{Ascend, NosesAscend, upper_are, upper_ascend, noses_around, noses_ascend, lower_are, lower_ascend}
 use Rattle.sweep_check.proofs.Sweeps.{noses_of, hit_seen, nose_hit_seen, upper_none, nose_none, lower_none, upper_some, nose_some, lower_some}
 use Rattle.sweep_check.proofs.kinds.first_sweep.Goals as goal
@@ -15,7 +15,7 @@ pub first_hit-requires-clause-covered : goal.first_hit-requires-clause-covered
 first_hit-requires-clause-covered c =
     let job = c.args.job.now in
     subst (All IsCovered) (sym (c.as_slice-pieces.ensures.value ∙ c.all_pieces-found.ensures.value))
-    (λ k d within. inl (eighths job c.args.boxes.now (widening_high job c.all_pieces-found.ensures.valid) c.requires.boxes.solid k d within))
+    (all_covered job Eighth c.args.boxes.now c.all_pieces-found.ensures.valid c.requires.boxes.solid)
 
 pub first_hit-requires-clause-solid : goal.first_hit-requires-clause-solid
 first_hit-requires-clause-solid c = subst (All IsSolidObstacle) (sym c.as_slice.ensures.value) (upper_are c.args.job.now c.args.around.now c.requires.around c.all_pieces-found.ensures.valid)
@@ -44,7 +44,7 @@ pub first_hit-requires-2-clause-covered : goal.first_hit-requires-2-clause-cover
 first_hit-requires-2-clause-covered c =
     let job = c.args.job.now in
     subst (All IsCovered) (sym (c.as_slice-pieces.ensures.value ∙ c.all_pieces-found.ensures.value))
-    (λ k d within. inl (eighths job c.args.boxes.now (widening_high job c.all_pieces-found.ensures.valid) c.requires.boxes.solid k d within))
+    (all_covered job Eighth c.args.boxes.now c.all_pieces-found.ensures.valid c.requires.boxes.solid)
 
 pub first_hit-requires-2-clause-solid : goal.first_hit-requires-2-clause-solid
 first_hit-requires-2-clause-solid c = subst (All IsSolidObstacle) (sym c.as_slice-3.ensures.value) (lower_are c.args.job.now c.args.around.now c.requires.around c.all_pieces-found.ensures.valid)

@@ -5,9 +5,9 @@ use Rattle.job_setup.specs.declared.obstacle.Obstacle.{Obstacle}
 use Rattle.job_setup.specs.Obstacles.{lower_group}
 use Rattle.sweep_check.specs.Pieces.{AreSolidBoxes, pieces_of}
 use Rattle.sweep_check.specs.Hits.{IsSolidObstacle, IsCovered, IsPieceMet}
-use Rattle.sweep_check.proofs.Bounds.{widening_high, lower_group_solid}
-use Rattle.sweep_check.proofs.PieceLists.{eighths}
-use Rattle.sweep_check.proofs.HitTests.{covered_eighths, hit_alike}
+use Rattle.sweep_check.proofs.Bounds.{lower_group_solid}
+use Rattle.sweep_check.proofs.PieceLists.{all_covered}
+use Rattle.sweep_check.proofs.HitTests.{hit_alike}
 use Rattle.sweep_check.proofs.named.is_lower_hit.Goals as goal
 
 pub all_pieces-found-requires : goal.all_pieces-found-requires
@@ -17,7 +17,7 @@ pub is_some_hit-requires-clause-covered : goal.is_some_hit-requires-clause-cover
 is_some_hit-requires-clause-covered c =
     let job = c.args.job.now in
     let listed = c.as_slice-2.ensures.value ∙ c.all_pieces-found.ensures.value ∙ ap (pieces_of job Eighth) c.as_slice.ensures.value in
-    subst (All IsCovered) (sym listed) (covered_eighths (pieces_of job Eighth c.args.pose.now.boxes.items) (eighths job c.args.pose.now.boxes.items (widening_high job c.all_pieces-found.ensures.valid) c.requires.boxes.solid))
+    subst (All IsCovered) (sym listed) (all_covered job Eighth c.args.pose.now.boxes.items c.all_pieces-found.ensures.valid c.requires.boxes.solid)
 
 pub is_some_hit-requires-clause-solid : goal.is_some_hit-requires-clause-solid
 is_some_hit-requires-clause-solid c = subst (All IsSolidObstacle) (sym (c.as_slice-3.ensures.value ∙ c.lower_group.ensures.value)) (lower_group_solid c.args.job.now c.args.stage c.lower_group.ensures.valid c.requires.stage)

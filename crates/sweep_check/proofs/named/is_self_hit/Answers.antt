@@ -12,7 +12,7 @@ pub is_some_hit-requires-clause-covered : goal.is_some_hit-requires-clause-cover
 is_some_hit-requires-clause-covered c =
     let job = c.args.job.now in
     let listed = c.as_slice.ensures.value ∙ c.back_pieces.ensures.value ∙ ap (back_pieces job) c.as_slice-boxes.ensures.value in
-    subst (All IsCovered) (sym listed) (back_covered job c.args.pose.now.boxes.items (widening_high job c.back_pieces.ensures.valid) c.requires.boxes.solid)
+    subst (All IsCovered) (sym listed) (back_covered job c.args.pose.now.boxes.items c.back_pieces.ensures.valid c.requires.boxes.solid)
 
 pub is_some_hit-requires-clause-solid : goal.is_some_hit-requires-clause-solid
 is_some_hit-requires-clause-solid c =

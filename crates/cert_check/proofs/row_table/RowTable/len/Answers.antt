@@ -1,5 +1,5 @@
 use Rattle.std.proofs.Common.{arith}
-use Rattle.cert_check.proofs.RowOrder.{few_rows}
+use Rattle.plan_cert.proofs.RowOrder.{few_rows}
 use Rattle.cert_check.proofs.row_table.RowTable.len.Goals as goal
 
 pub overflow_cast-result : goal.overflow_cast-result

@@ -3,7 +3,8 @@ use Rattle.std.proofs.lemmas.List.{get_or_default}
 use Rattle.brake_base.specs.declared.stroke.Worth.TheVariants.{Blocked}
 use Rattle.handling_cost.specs.StepCost.{IsKeyOf}
 use Rattle.plan_cert.specs.declared.cert.RowHead.{RowHead}
-use Rattle.cert_check.specs.RowTable.{RowsOf, IsWorthAt, key_place}
+use Rattle.plan_cert.specs.KeyPlaces.{key_place}
+use Rattle.cert_check.specs.RowTable.{RowsOf, IsWorthAt}
 use Rattle.cert_check.proofs.Indexes.{key_within, no_worth, some_worth}
 use Rattle.cert_check.proofs.row_table.RowTable.worth.Goals as goal
 
