@@ -1,0 +1,58 @@
+# The help text: shared by the launcher `brake` of the repository and by an installed one.
+# shellcheck shell=bash
+
+what_it_does() {
+  case "$1" in
+    blank) printf 'prints the blank of a part' ;;
+    plan) printf 'prints the blank, the setup and the bend order of least cost, or that there is none, and stores a certificate' ;;
+    check) printf "confirms or refuses a certificate; with the files also that it is of their job" ;;
+    trial) printf 'plans and checks the generated job of a number' ;;
+    why) printf 'prints the reasons for refusing a bend that hold in many states' ;;
+    setups) printf 'finds the cheapest setup of a list' ;;
+    settle) printf 'settles a range of states, and stores them as a table' ;;
+    merge) printf 'joins two tables' ;;
+    prove) printf 'prints what a table proves' ;;
+  esac
+}
+
+# The commands that are built, one a line.
+built_commands() {
+  local name
+  for name in $(commands_of_usage); do is_built "$name" && printf '%s\n' "$name"; done
+}
+
+# A line for each command that is built.
+print_help() {
+  local name line
+  printf 'brake plans the bending of sheet metal on a press brake. Its commands:\n\n'
+  while read -r name; do
+    line=$(usage_line "$name")
+    printf '  %s\n      %s\n' "${line#usage: }" "$(what_it_does "$name")"
+  done < <(built_commands)
+  printf '\nPART, TOOLS and MACHINE are TOML files; CERT is stored by plan and read by check. All lengths are whole micrometres.\n'
+  printf 'The exit status: 0 done, 1 no plan, 2 faulty words, 3 a file is refused, 4 the budget is used up, 5 a certificate\n'
+  printf 'is refused, 6 a file could not be read or stored, 7 no memory, 70 the launcher could not start the program.\n'
+}
+
+# The man page on standard input, with the commands that are built in the places that it keeps for them.
+print_man_page() {
+  local line name form
+  while IFS= read -r line; do
+    case "$line" in
+      @FORMS@) while read -r name; do form=$(usage_line "$name") && printf '.B %s\n' "${form#usage: }"; done < <(built_commands) ;;
+      @COMMANDS@) while read -r name; do printf '.TP\n.B %s\n%s.\n' "$name" "$(what_it_does "$name")"; done < <(built_commands) ;;
+      *) printf '%s\n' "$line" ;;
+    esac
+  done
+}
+
+print_launcher_help() {
+  printf '\nOf the launcher:\n\n'
+  printf '  %s\n      %s\n' \
+    'brake --build' 'proves and builds the program' \
+    'brake --install DIR' 'copies the proved program to DIR/bin, DIR/lib and DIR/share; it needs no kit there' \
+    'brake --path' 'prints where the program is that would be started' \
+    'brake --version' 'prints its commit and day, the logic of its proof and its checksum' \
+    'brake --clean' 'removes what was built' \
+    'brake --help' 'prints this'
+}
