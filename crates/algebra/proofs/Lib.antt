@@ -3,3 +3,4 @@ pub mod Polynomials
 pub mod Ring
 pub mod Order
 pub mod Widths
+pub mod Halves

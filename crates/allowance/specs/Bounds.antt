@@ -1,6 +1,6 @@
--- The ends of the ranges of an allow row, as docs/formats.md states them; those of its thickness and radius are
--- part_file's. The code has constants of its own, and the contracts of the tools' reader tie each of them to its number
--- here.
+-- The ends of the ranges of an allow row, as docs/formats.md states them; those of its thickness
+-- and radius are part_file's. The code has constants of its own, and the contracts of the tools'
+-- reader tie each of them to its number here.
 use Rattle.std.specs.Prelude.{ℕ, ℤ, pos}
 
 -- of the correction factor, in thousandths

@@ -1,7 +1,8 @@
 -- The number of a refusal of the deduction.
 use Rattle.std.specs.Prelude.{ℕ}
 use Rattle.allowance.specs.declared.table.AllowFault.{AllowFault}
-use Rattle.allowance.specs.declared.table.AllowFault.TheVariants.{NoRow, TwoRows, BelowHalfThickness}
+use Rattle.allowance.specs.declared.table.AllowFault.TheVariants.{NoRow, TwoRows}
+use Rattle.allowance.specs.declared.table.AllowFault.TheVariants.{BelowHalfThickness}
 
 -- the number of the refusal, which has no others of its own
 abbrev pub allow_number : AllowFault → ℕ

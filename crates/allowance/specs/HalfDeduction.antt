@@ -1,6 +1,6 @@
--- Half of what the outside leg lengths lose at a right-angle bend, by DIN 6935.
--- The deduction is 2 (r + t) - (pi / 2) (r + k t / 2) for the inner radius r and the thickness t in micrometres
--- and the correction factor k, which is given in thousandths here. Pi is taken as 355 / 113.
+-- Half of what the outside leg lengths lose at a right-angle bend, by DIN 6935. The deduction is 2
+-- (r + t) - (pi / 2) (r + k t / 2) for the inner radius r and the thickness t in micrometres and
+-- the correction factor k, which is given in thousandths here. Pi is taken as 355 / 113.
 use Rattle.std.specs.Prelude.{ℤ, pos, ◌+ℤ◌, ◌-ℤ◌, ◌*ℤ◌, ◌≤ℤ◌, ◌<ℤ◌, int_div}
 use Rattle.toml_fields.specs.Ranges.{IsWithin}
 use Rattle.part_file.specs.Bounds.{greatest_thickness}

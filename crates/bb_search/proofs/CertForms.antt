@@ -51,18 +51,18 @@ worth_ranged Blocked most = tt
 module _ (job : JobData) (is_job : IsJob job) where
   claim_ranged : (pool : Pool) (budget : ℕ) (steps : List Step) (claim : Worth) → IsAnswer job pool budget steps (outcome_of claim) → IsWorth claim
   claim_ranged pool budget steps (Cost cost) answer =
-      let most = total_small job is_job start steps (start_in_range job is_job) answer.0.plan in
+      let most = total_small job is_job start steps (start_in_range job is_job) answer.0.least.plan in
       let few = few_left job is_job start in
-      let sum = answer.0.sum in
+      let sum = answer.0.least.sum in
       omega (arith, most, few, sum)
   claim_ranged pool budget steps Blocked answer = tt
 
   steps_fit : (pool : Pool) (budget : ℕ) (steps : List Step) (claim : Worth) → IsAnswer job pool budget steps (outcome_of claim) → HasSteps job claim steps
-  steps_fit pool budget steps (Cost cost) answer = steps_most job is_job start steps answer.0.plan
+  steps_fit pool budget steps (Cost cost) answer = steps_most job is_job start steps answer.0.least.plan
   steps_fit pool budget steps Blocked answer = answer.1
 
   each_step : (pool : Pool) (budget : ℕ) (steps : List Step) (claim : Worth) → IsAnswer job pool budget steps (outcome_of claim) → All (IsStep job) steps
-  each_step pool budget steps (Cost cost) answer = steps_ranged job start steps answer.0.plan
+  each_step pool budget steps (Cost cost) answer = steps_ranged job start steps answer.0.least.plan
   each_step pool budget steps Blocked answer = λ k d within. let none = ap length answer.1 in absurd (omega (arith, within, none))
 
   pub first_gauges : (pool : Pool) (budget : ℕ) (steps : List Step) (claim : Worth) → IsAnswer job pool budget steps (outcome_of claim) → HaveFirstGauges job start steps

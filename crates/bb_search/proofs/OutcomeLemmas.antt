@@ -241,7 +241,10 @@ pub answer_is : (job : JobData) → IsJob job → (actions budget : ℕ) (pool :
     IsFound job (empty_pool (min budget (nodes job)) actions) pool start worth →
     AreSteps job worth steps → IsAnswer job pool budget steps (outcome_with worth)
 answer_is job is_job actions budget pool steps is_pool (Some (Cost cost)) found are = (
-  record { plan = are.0; sum = are.1; gauges = are.2; least = best_is_least job is_job (min budget (nodes job)) actions pool is_pool cost found },
+  record {
+    least = record { plan = are.0; sum = are.1; least = best_is_least job is_job (min budget (nodes job)) actions pool is_pool cost found };
+    gauges = are.2;
+  },
   good_rows job is_job (min budget (nodes job)) actions pool is_pool (Cost cost) steps found (are.0, are.1),
 )
 answer_is job is_job actions budget pool steps is_pool (Some Blocked) found are = (

@@ -1,5 +1,6 @@
 -- The rows and notes of a certificate, taken from those of a pool.
-use Rattle.std.specs.Prelude.{◌≡◌, ◌≢◌, ℕ, ◌+◌, ◌*◌, ◌%◌, ◌<◌, Option, Some, List, length, slice_get, slice_index_or, Contains, All, AllPairs}
+use Rattle.std.specs.Prelude.{◌≡◌, ◌≢◌, ℕ, ◌+◌, ◌*◌, ◌%◌, ◌<◌, Option, Some, List, length}
+use Rattle.std.specs.Prelude.{slice_get, slice_index_or, Contains, All, AllPairs}
 use Rattle.brake_base.specs.declared.stroke.Key.{Key}
 use Rattle.brake_base.specs.declared.reason.Reason.{Reason}
 use Rattle.row_pool.specs.Rows.{Pool, PoolRow, reason_at}

@@ -9,7 +9,8 @@ use Rattle.handling_cost.specs.StepCost.{IsActionAt}
 use Rattle.handling_cost.specs.Plan.{start}
 use Rattle.row_pool.specs.Rows.{Pool}
 use Rattle.plan_cert.specs.Cert.{CertData}
-use Rattle.plan_cert.specs.GoodCert.{HasRow as HasCertRow, HasNote as HasCertNote, IsThriftyCert, IsWithinBudget}
+use Rattle.plan_cert.specs.GoodCert.{HasRow as HasCertRow, HasNote as HasCertNote, IsThriftyCert}
+use Rattle.plan_cert.specs.GoodCert.{IsWithinBudget}
 use Rattle.bb_search.specs.Table.{HasRow, HasNote}
 use Rattle.bb_search.specs.Outcomes.{outcome_of, HaveFirstGauges, IsAnswer}
 use Rattle.bb_search.specs.Searches.{SearchData}

@@ -1,5 +1,6 @@
 -- What a run answers and leaves.
-use Rattle.std.specs.Prelude.{◌≡◌, ◌≢◌, ℕ, ◌<◌, ◌≤◌, Option, Some, None, List, [], ◌∷◌, length, All, AllPairs, slice_get, IsSome}
+use Rattle.std.specs.Prelude.{◌≡◌, ◌≢◌, ℕ, ◌<◌, ◌≤◌, Option, Some, None, List, [], ◌∷◌, length, All}
+use Rattle.std.specs.Prelude.{AllPairs, slice_get, IsSome}
 use Rattle.brake_base.specs.declared.stroke.Key.{Key}
 use Rattle.brake_base.specs.declared.stroke.Step.{Step}
 use Rattle.brake_base.specs.declared.stroke.Worth.{Worth}
@@ -7,7 +8,7 @@ use Rattle.brake_base.specs.declared.stroke.Worth.TheVariants as worth
 use Rattle.job_setup.specs.Setup.{JobData}
 use Rattle.handling_cost.specs.StepCost.{key_after}
 use Rattle.handling_cost.specs.Plan.{IsPlan, total, start}
-use Rattle.handling_cost.specs.Claim.{NoPlanCostsLess}
+use Rattle.handling_cost.specs.Claim.{IsLeastPlan, HasNoPlan}
 use Rattle.handling_cost.specs.Good.{IsGood}
 use Rattle.handling_cost.specs.Thrifty.{AreThrifty}
 use Rattle.handling_cost.specs.Reach.{IsReached, IsNode, ReachIsAbove}
@@ -41,12 +42,10 @@ AreSteps job (Some (worth.Cost cost)) steps =
 AreSteps job (Some worth.Blocked) steps = steps ≡ []
 AreSteps job None steps = steps ≡ []
 
--- the steps are a plan of this cost with the first legal gauges, and no plan costs less
+-- the steps are a plan of this cost, no plan costs less, and each gauge is the first legal one
 pub record IsBestPlan (job : JobData) (cost : ℕ) (steps : List Step) : Type 0 where
-  pub plan : IsPlan job steps
-  pub sum : total job start steps ≡ cost
+  pub least : IsLeastPlan job cost steps
   pub gauges : HaveFirstGauges job start steps
-  pub least : NoPlanCostsLess job cost
 
 -- with the claim and the steps, the rows and their reasons are a good certificate; each row is
 -- reached, has a worth of its own,
@@ -81,6 +80,6 @@ abbrev pub IsAnswer : JobData → Pool → ℕ → List Step → Outcome → Typ
 IsAnswer job pool budget steps (Best cost) =
     IsBestPlan job cost steps × AreGoodRows job pool (worth.Cost cost) steps
 IsAnswer job pool budget steps Blocked =
-    ((other : List Step) → IsPlan job other → ⊥) × (steps ≡ [])
+    HasNoPlan job × (steps ≡ [])
     × AreGoodRows job pool worth.Blocked steps
 IsAnswer job pool budget steps Spent = IsUsedUp job pool budget

@@ -193,7 +193,7 @@ impl Search {
         requires answered { HasAnswer self.now }
         ensures { IfOk result (λ cert. IsCertificateOf self.now (cert_data cert)) }
     {
-        let _ = job.setup();
+        job.recall_valid();
         let orders = sorted_rows(alloc, &self.pool)?;
         let rows = row_heads(alloc, &self.pool, &orders)?;
         let notes = notes_of(alloc, &self.pool, &orders)?;

@@ -1,5 +1,6 @@
 -- The part as it stands between two strokes.
-use Rattle.std.specs.Prelude.{◌≡◌, ℕ, ◌+◌, ◌-◌, ◌<◌, Bool, true, List, [], ◌∷◌, length, filter, slice_index_or, ◌++◌, ◌≤◌, ◌&&◌, not}
+use Rattle.std.specs.Prelude.{◌≡◌, ℕ, ◌+◌, ◌-◌, ◌<◌, Bool, true, List, [], ◌∷◌, length, filter}
+use Rattle.std.specs.Prelude.{slice_index_or, ◌++◌, ◌≤◌, ◌&&◌, not}
 use Rattle.std.specs.List.{range_with_len}
 use Rattle.brake_base.specs.declared.space.Place.{Place}
 use Rattle.brake_base.specs.declared.mask.Mask.{Mask}
@@ -19,7 +20,8 @@ pub record StateData : Type 0 where
 abbrev pub no_bends : Mask
 no_bends = record { 0 = 0 }
 
--- the folds lead from one set of folded bends to another: each group may be bent where the bends before it are folded
+-- the folds lead from one set of folded bends to another: each group may be bent where the bends
+-- before it are folded
 abbrev pub Leads : ShapeData → Mask → List Fold → Mask → Type 0
 Leads shape before [] mask = before ≡ mask
 Leads shape before (fold ∷ folds) mask =
@@ -40,7 +42,8 @@ moves shape group = is_beyond_some shape.part.faces (has group)
 unfoldable pub moved_before : ShapeData → Mask → ℕ → ℕ
 moved_before shape group f = length (filter (moves shape group) (range_with_len 1 (f - 1)))
 
--- the records from the mark on are the places of the faces that a fold moves, in the order of the faces
+-- the records from the mark on are the places of the faces that a fold moves, in the order of the
+-- faces
 pub record AreKept (shape : ShapeData) (mask group : Mask) (mark : ℕ) (records : List Place)
     : Type 0 where
   pub count : length records ≡ mark + moved_before shape group (length shape.part.faces)

@@ -1,8 +1,7 @@
 -- The checker confirms each good certificate.
-use Rattle.std.proofs.Common.{◌≡◌, ◌⊎◌, inl, inr, ℕ, ◌≤◌, List, [], ◌∷◌, length, Option, Some, None, Result, Ok, Err, refl, sym, ap, ◌∙◌, subst}
+use Rattle.std.proofs.Common.{◌≡◌, ◌⊎◌, inl, inr, ℕ, ◌≤◌, List, [], ◌∷◌, length, Option, Some, None, Ok, Err, refl, sym, ap, ◌∙◌, subst}
 use Rattle.std.specs.Prelude.{IfSome, unwrap_or}
 use Rattle.std.specs.Result.{result_ok}
-use Rattle.std.specs.List.{AllZip}
 use Rattle.brake_base.specs.declared.stroke.Worth.{Worth}
 use Rattle.brake_base.specs.declared.stroke.Worth.TheVariants.{Cost, Blocked}
 use Rattle.job_setup.specs.Setup.{JobData}
@@ -15,7 +14,7 @@ use Rattle.cert_check.proofs.Accepting.{good_text_accepted}
 use Rattle.brake_io.specs.Meanings.{Content}
 use Rattle.command_runner.specs.declared.status.Status.{Status}
 use Rattle.command_runner.specs.Answers.{AnswerData}
-use Rattle.command_runner.specs.Fetching.{word_at, files_of, fetched_over, IsContent, all_fetched}
+use Rattle.command_runner.specs.Fetching.{word_at, files_of, fetched_over, all_fetched}
 use Rattle.command_runner.specs.Delivery.{IsCutShort, Outside}
 use Rattle.command_runner.specs.Ends.{Leaves, IsOutcome, cut_short, answered, refused_long}
 use Rattle.command_runner.proofs.Told.{all_over, told_fetched}

@@ -28,7 +28,6 @@ use Rattle.command_runner.specs.Delivery.{IsCutShort, Outside, HoldsAll}
 use Rattle.command_runner.specs.Ends.{Leaves, AnswersContents, IsOutcome, cut_short, answered, refused_long}
 use Rattle.brake_cli.specs.declared.command.Command.{Command}
 use Rattle.brake_cli.specs.declared.command.Command.TheVariants.{Blank, Plan, Check, CheckFiles, Trial, Why, Setups, Settle, Merge, Prove}
-use Rattle.brake_cli.specs.Commands.{meaning_of}
 use Rattle.brake_cli.specs.Run.{form_for, meaning_for}
 use Rattle.brake_cli.specs.JobAnswer.{AnswersJob, job_of_files}
 use Rattle.brake_cli.specs.PlanAnswer.{last_text, IsCertAnswer, IsPlanned, by_cert, spent}

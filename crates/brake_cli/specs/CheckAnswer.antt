@@ -73,10 +73,11 @@ IsAnswerOf job (Err fault) answer = answer ≡ cert_refused fault
 
 abbrev pub IsAnswerFor : List ℕ → JobData → AnswerData → Type 0
 IsAnswerFor text job answer =
-    (checked : Result CheckedData CheckFault) × ChecksTo text checked × IsAnswerOf job checked answer
+    (checked : Result CheckedData CheckFault) × ChecksTo text checked
+    × IsAnswerOf job checked answer
 
--- the answer to the contents of a certificate's file and of the three files of a job; a refusal of the
--- files comes first
+-- the answer to the contents of a certificate's file and of the three files of a job; a refusal of
+-- the files comes first
 abbrev pub IsCheckFilesAnswer : List (List ℕ) → AnswerData → Type 0
 IsCheckFilesAnswer contents answer =
     AnswersJob (IsAnswerFor (word_at contents 0)) (job_of_files 1 contents) answer

@@ -6,7 +6,8 @@ use Rattle.command_runner.specs.Answers.{AnswerData, one_text}
 use Rattle.command_runner.specs.Fetching.{word_at}
 use Rattle.command_runner.specs.Ends.{Meaning}
 use Rattle.brake_cli.specs.declared.command.Command.{Command}
-use Rattle.brake_cli.specs.declared.command.Command.TheVariants.{Blank, Plan, Check, CheckFiles, Trial}
+use Rattle.brake_cli.specs.declared.command.Command.TheVariants.{Blank, Plan, Check, CheckFiles}
+use Rattle.brake_cli.specs.declared.command.Command.TheVariants.{Trial}
 use Rattle.brake_cli.specs.BlankAnswer.{blank_answer}
 use Rattle.brake_cli.specs.PlanAnswer.{IsPlanAnswer}
 use Rattle.brake_cli.specs.CheckAnswer.{IsCheckAnswer, IsCheckFilesAnswer}

@@ -12,8 +12,8 @@ use Rattle.brake_cli.specs.declared.command.Command.TheVariants.{Check}
 use Rattle.brake_cli.specs.Forms.{run_of}
 use Rattle.brake_cli.specs.CheckAnswer.{verdict_answer}
 
--- where the shelf tells that the file of the word behind `check` holds the text of a good certificate,
--- of at most 2^30 bytes, the run leaves its claim, unless it is cut short
+-- where the shelf tells that the file of the word behind `check` holds the text of a good
+-- certificate, of at most 2^30 bytes, the run leaves its claim, unless it is cut short
 abbrev pub ConfirmsHeldBy : Option Command → List (List ℕ) → Outside → Outside → Status → Type 0
 ConfirmsHeldBy (Some (Check place)) words before now status =
     IfSome before.shelf.content (λ content. (text : List ℕ) (job : JobData) (cert : CertData)

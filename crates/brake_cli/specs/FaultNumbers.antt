@@ -4,7 +4,8 @@ use Rattle.part_file.specs.FaultNumbers.{part_numbers}
 use Rattle.tool_library.specs.FaultNumbers.{tool_numbers}
 use Rattle.machine_file.specs.FaultNumbers.{machine_numbers}
 use Rattle.job_setup.specs.FaultNumbers.{job_numbers}
-use Rattle.job_setup.specs.JobOf.{FileFault, part_refused, tools_refused, machine_refused, job_refused}
+use Rattle.job_setup.specs.JobOf.{FileFault, part_refused, tools_refused, machine_refused}
+use Rattle.job_setup.specs.JobOf.{job_refused}
 use Rattle.command_runner.specs.declared.status.Status.TheVariants.{Refused}
 use Rattle.command_runner.specs.Answers.{AnswerData, refusal}
 

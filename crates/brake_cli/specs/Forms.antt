@@ -1,14 +1,19 @@
 -- The words of the commands: their forms, and the command that words of a form say.
-use Rattle.std.specs.Prelude.{ℕ, List, [], ◌∷◌, Bool, true, false, Option, Some, None, option_map, option_and_then, if◌then◌else◌}
+use Rattle.std.specs.Prelude.{ℕ, List, [], ◌∷◌, Bool, true, false, Option, Some, None, option_map}
+use Rattle.std.specs.Prelude.{option_and_then, if◌then◌else◌}
 use Rattle.command_runner.specs.declared.word_kind.WordKind.{WordKind}
-use Rattle.command_runner.specs.declared.word_kind.WordKind.TheVariants.{Literal, Input, Certificate, Table, Output, NumberedOutput, Number}
+use Rattle.command_runner.specs.declared.word_kind.WordKind.TheVariants.{Literal, Input}
+use Rattle.command_runner.specs.declared.word_kind.WordKind.TheVariants.{Certificate, Table, Output}
+use Rattle.command_runner.specs.declared.word_kind.WordKind.TheVariants.{NumberedOutput, Number}
 use Rattle.command_runner.specs.declared.word_kind.Keyword.TheVariants as word
 use Rattle.command_runner.specs.Kinds.{number_in, is_form}
 use Rattle.command_runner.specs.Fetching.{word_at}
 use Rattle.brake_cli.specs.declared.form.Form.{Form}
 use Rattle.brake_cli.specs.declared.form.Form.TheVariants as form
 use Rattle.brake_cli.specs.declared.command.Command.{Command}
-use Rattle.brake_cli.specs.declared.command.Command.TheVariants.{Blank, Plan, Check, CheckFiles, Trial, Why, Setups, Settle, Merge, Prove}
+use Rattle.brake_cli.specs.declared.command.Command.TheVariants.{Blank, Plan, Check, CheckFiles}
+use Rattle.brake_cli.specs.declared.command.Command.TheVariants.{Trial, Why, Setups, Settle, Merge}
+use Rattle.brake_cli.specs.declared.command.Command.TheVariants.{Prove}
 
 -- the kinds of the words of each form
 abbrev pub kinds_of : Form → List WordKind

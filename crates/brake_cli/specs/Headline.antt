@@ -1,9 +1,9 @@
 -- The headline: what a run of `plan` has done that ends with a plan, or with there being none.
 --
--- A plan that is printed folds the printed blank into exactly the part; at each bend the sweep covers
--- avoid tools, machine and the part itself, and the gauge touches a legal edge; no plan of the stated
--- space costs less; `no plan` is answered only where that space is empty; and the checker confirms
--- the claim from the stored certificate alone.
+-- A plan that is printed folds the printed blank into exactly the part; at each bend the sweep
+-- covers avoid tools, machine and the part itself, and the gauge touches a legal edge; no plan of
+-- the stated space costs less; `no plan` is answered only where that space is empty; and the
+-- checker confirms the claim from the stored certificate alone.
 use Rattle.std.specs.Prelude.{◌≡◌, ◌⊎◌, ⊤, ℕ, ◌≤◌, List, [], ◌∷◌, ◌++◌, length, Option, Some, Ok}
 use Rattle.std.specs.List.{AllZip}
 use Rattle.brake_base.specs.declared.stroke.Key.{Key}
@@ -40,8 +40,8 @@ EachStep job P key [] = ⊤
 EachStep job P key (step ∷ steps) =
     P key step × EachStep job P (key_after job key step.action) steps
 
--- the sweep covers avoid tools, machine and the part itself: no reason holds against the stroke, but
--- that no gauge may be legal
+-- the sweep covers avoid tools, machine and the part itself: no reason holds against the stroke,
+-- but that no gauge may be legal
 abbrev pub SweepCoversAvoid : JobData → Key → Step → Type 0
 SweepCoversAvoid job key step = IsUnopposed job key.mask step.action
 

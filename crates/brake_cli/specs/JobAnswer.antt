@@ -9,13 +9,15 @@ use Rattle.brake_cli.specs.Stops.{StopsAt}
 use Rattle.brake_cli.specs.FaultNumbers.{file_refused}
 
 -- the answer is one to the job, or tells the first refusal
-abbrev pub AnswersJob : (JobData → AnswerData → Type 0) → Result JobData FileFault → AnswerData → Type 0
+abbrev pub AnswersJob : (JobData → AnswerData → Type 0) → Result JobData FileFault → AnswerData
+    → Type 0
 AnswersJob IsAnswer (Ok job) answer = IsAnswer job answer
 AnswersJob IsAnswer (Err fault) answer = answer ≡ file_refused fault
 
 -- the job of the contents from a place on: of the part's file, the tools file and the machine file
 abbrev pub job_of_files : ℕ → List (List ℕ) → Result JobData FileFault
-job_of_files place contents = job_of (word_at contents place) (word_at contents (place + 1)) (word_at contents (place + 2))
+job_of_files place contents =
+    job_of (word_at contents place) (word_at contents (place + 1)) (word_at contents (place + 2))
 
 -- a job or a refusal is what reading gives, unless memory ran out
 abbrev pub ReadsJob : Result JobData ReadStop → Result JobData FileFault → Type 0

@@ -1,5 +1,6 @@
 -- What `plan` answers.
-use Rattle.std.specs.Prelude.{◌≡◌, ℕ, ◌<◌, ◌≤◌, List, [], ◌∷◌, ◌++◌, length, codes, Option, Some, None, Ok}
+use Rattle.std.specs.Prelude.{◌≡◌, ℕ, ◌<◌, ◌≤◌, List, [], ◌∷◌, ◌++◌, length, codes, Option, Some}
+use Rattle.std.specs.Prelude.{None, Ok}
 use Rattle.brake_base.specs.declared.stroke.Worth.{Worth}
 use Rattle.brake_base.specs.declared.stroke.Worth.TheVariants.{Cost, Blocked}
 use Rattle.brake_base.specs.declared.stroke.Step.{Step}
@@ -40,8 +41,8 @@ abbrev pub last_text : JobData → Worth → List Step → List ℕ
 last_text job (Cost cost) steps = order_text job steps
 last_text job Blocked steps = no_plan_line
 
--- the answer by a certificate: its text is stored under the name, and the sheets are put, the first of
--- which is given
+-- the answer by a certificate: its text is stored under the name, and the sheets are put, the first
+-- of which is given
 abbrev pub cert_answer : List ℕ → JobData → List ℕ → CertData → AnswerData
 cert_answer name job sheet cert = record {
   stored = record { name = name; text = cert_text2 job cert } ∷ [];
@@ -49,14 +50,14 @@ cert_answer name job sheet cert = record {
   texts = sheet ∷ setup_text job ∷ last_text job cert.claim cert.steps ∷ [];
 }
 
--- a certificate that `plan` may store: it proves its claim with rows that were all asked for, and the
--- gauge of each step is the first that is legal
+-- a certificate that `plan` may store: it proves its claim with rows that were all asked for, and
+-- the gauge of each step is the first that is legal
 pub record IsPlanCert (job : JobData) (cert : CertData) : Type 0 where
   pub proves : IsThriftyCert job cert
   pub gauges : HaveFirstGauges job start cert.steps
 
--- it has at most as many rows as the budget that was given, and no more than there are keys that are
--- reached
+-- it has at most as many rows as the budget that was given, and no more than there are keys that
+-- are reached
 pub record HasFewRows (budget : Option ℕ) (job : JobData) (cert : CertData) : Type 0 where
   pub within : (most : ℕ) → budget ≡ Some most → length cert.rows ≤ most
   pub reach : (count : ℕ) → count < length cert.rows → ReachIsAbove job count
@@ -66,8 +67,8 @@ pub record IsBlankOf (job : JobData) (blank : BlankData) : Type 0 where
   pub value : blank_of_part job.part job.q ≡ Ok blank
   pub folds_back : FoldsBack job.part job.q blank
 
--- the answer is that by such a certificate, with rows within the budget, and the job's blank; the job
--- is valid
+-- the answer is that by such a certificate, with rows within the budget, and the job's blank; the
+-- job is valid
 pub record IsCertAnswer (name : List ℕ) (budget : Option ℕ) (job : JobData) (answer : AnswerData)
     : Type 0 where
   pub valid : IsJob job
@@ -93,7 +94,8 @@ Finds job budget None = ReachIsAbove job budget
 
 -- the text is the blank sheet of the job
 abbrev pub IsBlankSheet : JobData → List ℕ → Type 0
-IsBlankSheet job text = (blank : BlankData) × IsBlankOf job blank × (text ≡ blank_text job.part blank)
+IsBlankSheet job text =
+    (blank : BlankData) × IsBlankOf job blank × (text ≡ blank_text job.part blank)
 
 -- the answer to the contents of the part's file, the tools file and the machine file
 abbrev pub IsPlanAnswer : List ℕ → Option ℕ → List (List ℕ) → AnswerData → Type 0

@@ -1,5 +1,6 @@
 -- How a run of `brake` ends.
-use Rattle.std.specs.Prelude.{◌≡◌, ◌⊎◌, ⊤, ℕ, List, [], Option, Some, None, IfSome, IsSomeAnd, Result, Ok, Err, option_map}
+use Rattle.std.specs.Prelude.{◌≡◌, ◌⊎◌, ⊤, ℕ, List, [], Option, Some, None, IfSome, IsSomeAnd}
+use Rattle.std.specs.Prelude.{Result, Ok, Err, option_map}
 use Rattle.brake_io.specs.Meanings.{Names}
 use Rattle.command_runner.specs.declared.word_kind.WordKind.{WordKind}
 use Rattle.command_runner.specs.declared.status.Status.{Status}

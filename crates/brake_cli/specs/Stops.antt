@@ -8,7 +8,8 @@ use Rattle.tool_library.specs.declared.fault.ToolFault.TheVariants as tool
 use Rattle.machine_file.specs.declared.fault.MachineFault.{MachineFault}
 use Rattle.machine_file.specs.declared.fault.MachineFault.TheVariants as machine
 use Rattle.job_setup.specs.declared.fault.JobFault.{JobFault}
-use Rattle.job_setup.specs.JobOf.{FileFault, part_refused, tools_refused, machine_refused, job_refused}
+use Rattle.job_setup.specs.JobOf.{FileFault, part_refused, tools_refused, machine_refused}
+use Rattle.job_setup.specs.JobOf.{job_refused}
 use Rattle.brake_cli.specs.declared.refusal.Refusal.{Refusal}
 use Rattle.brake_cli.specs.declared.refusal.Refusal.TheVariants as refusal
 use Rattle.brake_cli.specs.declared.refusal.ReadStop.{ReadStop}

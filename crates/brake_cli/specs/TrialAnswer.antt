@@ -11,10 +11,12 @@ use Rattle.brake_cli.specs.PlanAnswer.{claim_status}
 -- `trial N bends B cost C checked`, with `none` where there is no plan
 unfoldable pub trial_line : ℕ → ℕ → Worth → List ℕ
 trial_line n bends claim =
-    codes "trial" ++ spaced (number n) ++ codes " bends" ++ spaced (number bends) ++ codes " cost" ++ spaced (worth_word claim) ++ codes " checked\n"
+    codes "trial" ++ spaced (number n) ++ codes " bends" ++ spaced (number bends) ++ codes " cost"
+    ++ spaced (worth_word claim) ++ codes " checked\n"
 
 -- the answer to a number: the least cost of its made job
 abbrev pub IsTrialAnswer : ℕ → AnswerData → Type 0
 IsTrialAnswer n answer =
     let job = generated_job n in
-    (claim : Worth) × IsTrueClaim job claim × (answer ≡ one_text (claim_status claim) (trial_line n (bend_count job) claim))
+    (claim : Worth) × IsTrueClaim job claim
+    × (answer ≡ one_text (claim_status claim) (trial_line n (bend_count job) claim))

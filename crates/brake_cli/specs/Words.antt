@@ -4,10 +4,13 @@ use Rattle.std.specs.Vec.Iter.{into_iter_items}
 use Rattle.std.specs.declared.alloc.Global.{Global}
 use Rattle.std.specs.declared.vec.IntoIter.{IntoIter}
 use Rattle.command_runner.specs.declared.status.Status.{Status}
-use Rattle.command_runner.specs.declared.status.Status.TheVariants.{Done, NoPlan, Usage, Refused, Spent, CertRefused, Fault, NoMemory}
+use Rattle.command_runner.specs.declared.status.Status.TheVariants.{Done, NoPlan, Usage, Refused}
+use Rattle.command_runner.specs.declared.status.Status.TheVariants.{Spent, CertRefused, Fault}
+use Rattle.command_runner.specs.declared.status.Status.TheVariants.{NoMemory}
 
 -- the arguments as the system gives them; none where they can't be read
-abbrev pub arguments_of : {E : Type 0} → Result (IntoIter (String Global) Global) E → List (String Global)
+abbrev pub arguments_of : {E : Type 0} → Result (IntoIter (String Global) Global) E
+    → List (String Global)
 arguments_of (Ok args) = into_iter_items args
 arguments_of (Err fault) = []
 

@@ -106,7 +106,7 @@ pub fn answer(alloc: Global, contents: &[Vec<u8>]) -> Result<Answer, AllocError>
 fn is_one_job(alloc: Global, job: &Job, other: &Job) -> Result<bool, AllocError>
     ensures { IfOk result (λ same. IsTrue same ↔ (job.now ≡ other.now)) }
 {
-    let _ = other.setup();
+    other.recall_valid();
     let text = write_job(alloc, job)?;
     let other_text = write_job(alloc, other)?;
     Ok(text.as_slice() == other_text.as_slice())

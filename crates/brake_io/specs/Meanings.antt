@@ -1,5 +1,6 @@
 -- What is seen of a shelf, and of a sink.
-use Rattle.std.specs.Prelude.{◌≡◌, ◌≢◌, ◌⊎◌, ⊤, ℕ, ◌<◌, ◌≤◌, List, length, take, Option, Some, None, IfSome, IsSomeAnd, Contains, bytes_eq, if◌then◌else◌}
+use Rattle.std.specs.Prelude.{◌≡◌, ◌≢◌, ◌⊎◌, ⊤, ℕ, ◌<◌, ◌≤◌, List, length, take, Option, Some, None}
+use Rattle.std.specs.Prelude.{IfSome, IsSomeAnd, Contains, bytes_eq, if◌then◌else◌}
 use Rattle.std.specs.Io.KnownBytes.{Appends}
 
 -- the bytes under each name, where the name is held
@@ -15,15 +16,16 @@ pub record Content : Type 0 where
 abbrev pub with_bytes : List ℕ → List ℕ → Names → Names
 with_bytes name bytes names = λ other. if bytes_eq name other then Some bytes else names other
 
--- What is seen of a shelf: its content, which it may tell or not, and how many calls there were, how often the outside
--- has failed, and how often a file was longer than its limit.
+-- What is seen of a shelf: its content, which it may tell or not, and how many calls there were,
+-- how often the outside has failed, and how often a file was longer than its limit.
 pub record ShelfState : Type 0 where
   pub content : Option Content
   pub calls : ℕ
   pub faults : ℕ
   pub longs : ℕ
 
--- what is seen of a sink: the text that was written, which it may tell or not, and how often the outside has failed
+-- what is seen of a sink: the text that was written, which it may tell or not, and how often the
+-- outside has failed
 pub record SinkState : Type 0 where
   pub written : Option (List ℕ)
   pub faults : ℕ
@@ -54,7 +56,8 @@ MayFail before now = IfSome before.content (λ content. IsDue content.due before
 -- where the content is told, the name isn't held, or the call is one that is to fail
 abbrev pub MayFailAt : List ℕ → ShelfState → ShelfState → Type 0
 MayFailAt name before now =
-    IfSome before.content (λ content. (content.held name ≡ None) ⊎ IsDue content.due before.calls now.calls)
+    IfSome before.content (λ content. (content.held name ≡ None)
+    ⊎ IsDue content.due before.calls now.calls)
 
 -- where the content was told, it is told now, and the fact relates the two
 abbrev pub WhereBothTold : Option Content → Option Content → (Content → Content → Type 0) → Type 0

@@ -16,11 +16,18 @@ content_of s = record { held = names_of s.files; due = s.due.items }
 
 -- what is seen of it
 abbrev pub state_of : MemShelf → ShelfState
-state_of s = record { content = Some (content_of s); calls = s.calls; faults = s.faults; longs = s.longs }
+state_of s =
+    record { content = Some (content_of s); calls = s.calls; faults = s.faults; longs = s.longs }
 
 -- nothing is held, no call is to fail, and nothing was counted
 abbrev pub empty : ShelfState
-empty = record { content = Some (record { held = λ _. None; due = [] }); calls = 0; faults = 0; longs = 0 }
+empty =
+    record {
+      content = Some (record { held = λ _. None; due = [] });
+      calls = 0;
+      faults = 0;
+      longs = 0;
+    }
 
 -- the next call is one that is to fail
 abbrev pub IsToFail : MemShelf → Type 0
@@ -33,8 +40,17 @@ IsToFailAt s name = IsToFail s ⊎ ((content_of s).held name ≡ None)
 -- the shelf, once the name holds these bytes
 abbrev pub holding : List ℕ → List ℕ → MemShelf → ShelfState
 holding name bytes s =
-    record (state_of s) { content = Some (record (content_of s) { held = with_bytes name bytes (content_of s).held }) }
+    record (state_of s) {
+      content = Some
+          (record (content_of s) { held = with_bytes name bytes (content_of s).held });
+    }
 
 -- the shelf, once the call with this number is to fail too
 abbrev pub failing_at : ℕ → MemShelf → ShelfState
-failing_at call s = record (state_of s) { content = Some (record (content_of s) { due = s.due.items ++ call ∷ [] }) }
+failing_at call s =
+    record (state_of s) {
+      content = Some (record (content_of s) {
+        due = s.due.items
+            ++ call ∷ [];
+      });
+    }

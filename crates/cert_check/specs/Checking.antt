@@ -15,7 +15,9 @@ use Rattle.cert_check.specs.declared.verdict.Verdict.{Verdict}
 use Rattle.cert_check.specs.declared.verdict.Verdict.TheVariants.{Optimal, NoPlan}
 use Rattle.cert_check.specs.declared.verdict.Checked.{Checked}
 use Rattle.cert_check.specs.declared.fault.CheckFault.{CheckFault}
-use Rattle.cert_check.specs.declared.fault.CheckFault.TheVariants.{Cert, BadStep, BadCost, BadReason, NotClosed, TooLow, NoMemory, Unfinished}
+use Rattle.cert_check.specs.declared.fault.CheckFault.TheVariants.{Cert, BadStep, BadCost}
+use Rattle.cert_check.specs.declared.fault.CheckFault.TheVariants.{BadReason, NotClosed, TooLow}
+use Rattle.cert_check.specs.declared.fault.CheckFault.TheVariants.{NoMemory, Unfinished}
 use Rattle.cert_check.specs.StepFaults.{IsFirstBadStep, AreUnfinished, IsBadCost}
 use Rattle.plan_cert.specs.RowFaults.{RowsAreAccounted, IsFirstFault, IsBadReason, IsNotClosed}
 use Rattle.cert_check.specs.Texts.{IsTextOfCert, IsRefusedFor}

@@ -4,9 +4,12 @@ use Rattle.plan_cert.specs.Lines.{number, reason_words}
 use Rattle.plan_cert.specs.declared.item.CertFault.{CertFault}
 use Rattle.plan_cert.specs.declared.item.CertFault.TheVariants as cert
 use Rattle.cert_check.specs.declared.fault.StepFault.{StepFault}
-use Rattle.cert_check.specs.declared.fault.StepFault.TheVariants.{AlreadyFolded, NotLead, Hit, BadGauge}
+use Rattle.cert_check.specs.declared.fault.StepFault.TheVariants.{AlreadyFolded, NotLead, Hit}
+use Rattle.cert_check.specs.declared.fault.StepFault.TheVariants.{BadGauge}
 use Rattle.cert_check.specs.declared.fault.CheckFault.{CheckFault}
-use Rattle.cert_check.specs.declared.fault.CheckFault.TheVariants.{Cert, BadStep, BadCost, BadReason, NotClosed, TooLow, NoMemory, Unfinished}
+use Rattle.cert_check.specs.declared.fault.CheckFault.TheVariants.{Cert, BadStep, BadCost}
+use Rattle.cert_check.specs.declared.fault.CheckFault.TheVariants.{BadReason, NotClosed, TooLow}
+use Rattle.cert_check.specs.declared.fault.CheckFault.TheVariants.{NoMemory, Unfinished}
 
 abbrev pub cert_fault_words : CertFault → List (List ℕ)
 cert_fault_words (cert.BadLine line) = number 1 ∷ number line ∷ []

@@ -1,5 +1,6 @@
 -- What the first reading of a text comes to: all of a certificate but its notes.
-use Rattle.std.specs.Prelude.{◌≡◌, ℕ, ◌+◌, ◌<◌, Bool, true, false, List, ◌∷◌, length, Result, Ok, Err}
+use Rattle.std.specs.Prelude.{◌≡◌, ℕ, ◌+◌, ◌<◌, Bool, true, false, List, ◌∷◌, length, Result, Ok}
+use Rattle.std.specs.Prelude.{Err}
 use Rattle.brake_base.specs.declared.stroke.Worth.{Worth}
 use Rattle.job_setup.specs.Setup.{JobData}
 use Rattle.plan_cert.specs.declared.cert.RowHead.{RowHead}

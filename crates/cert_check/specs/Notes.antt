@@ -1,5 +1,7 @@
 -- What the second reading of a text comes to: its notes, row by row.
-use Rattle.std.specs.Prelude.{◌≡◌, ◌≢◌, ◌⊎◌, ℕ, ◌-◌, ◌^◌, ◌<◌, ◌≤◌, min, nat_lt, Bool, true, false, if◌then◌else◌, slice_set, List, [], ◌∷◌, ◌++◌, Contains, length, Option, Some, None, Result, Ok, Err}
+use Rattle.std.specs.Prelude.{◌≡◌, ◌≢◌, ◌⊎◌, ℕ, ◌-◌, ◌^◌, ◌<◌, ◌≤◌, min, nat_lt, Bool, true, false}
+use Rattle.std.specs.Prelude.{if◌then◌else◌, slice_set, List, [], ◌∷◌, ◌++◌, Contains, length}
+use Rattle.std.specs.Prelude.{Option, Some, None, Result, Ok, Err}
 use Rattle.brake_base.specs.declared.reason.Reason.{Reason}
 use Rattle.job_setup.specs.Setup.{JobData}
 use Rattle.plan_cert.specs.declared.cert.RowHead.{RowHead}

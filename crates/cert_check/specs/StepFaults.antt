@@ -13,7 +13,8 @@ use Rattle.job_setup.specs.Reasons.{IsFirstReason}
 use Rattle.handling_cost.specs.StepCost.{IsActionAt, IsFull, key_after}
 use Rattle.handling_cost.specs.Plan.{IsGaugeFor, IsUnopposed, IsLegal, IsPlan, total, start}
 use Rattle.cert_check.specs.declared.fault.StepFault.{StepFault}
-use Rattle.cert_check.specs.declared.fault.StepFault.TheVariants.{AlreadyFolded, NotLead, Hit, BadGauge}
+use Rattle.cert_check.specs.declared.fault.StepFault.TheVariants.{AlreadyFolded, NotLead, Hit}
+use Rattle.cert_check.specs.declared.fault.StepFault.TheVariants.{BadGauge}
 
 -- the first reason against the step's stroke is of another kind than that no gauge is legal
 abbrev pub IsFirstHit : JobData → Key → Step → Reason → Type 0

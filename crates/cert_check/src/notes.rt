@@ -32,7 +32,7 @@ pub(crate) fn check_notes(
         → RowsAnswer job.now cert result }
     ensures sets { sets.new ≡ sets.old }
 {
-    let _ = job.setup();
+    job.recall_valid();
     let mut reader = CertReader::new(text);
     let _ = first_job(&mut reader)?;
     let mut actions = SetActions::of(job, sets, Mask::empty());

@@ -194,7 +194,7 @@ fn is_closed(job: &Job, rows: &RowTable, head: &RowHead, number: u8, next: &Next
     ensures { IsTrue result
         ↔ ClosesAt job.now rows.now.rows head.now (action_at (stage_count job.now) number) }
 {
-    let _ = job.setup();
+    job.recall_valid();
     let cost = cost_to(job, &head.key, next.key.attitude, next.key.stage);
     is_proved_with(rows, &next.key, next.bound, cost, head.worth)
 }
@@ -245,7 +245,7 @@ pub(crate) fn bound_at(job: &Job, sets: &mut CheckTable, key: &Key) -> u64
     ensures small { result ≤ 18000000 }
     ensures sets { sets.new ≡ sets.old }
 {
-    let _ = job.setup();
+    job.recall_valid();
     let facts = sets.facts(key.mask);
     u64::from(facts.bound(key.stage))
 }

@@ -49,7 +49,7 @@ fn next_after(
     ensures next { IsNext job.now mask action result }
     ensures sets { sets.new ≡ sets.old }
 {
-    let _ = job.setup();
+    job.recall_valid();
     let attitude = facts.attitude(action.bend, action.back);
     let key = Key {
         mask: mask.union(group(job, mask, action.bend)),
@@ -75,7 +75,7 @@ fn next_of(
     ensures next { IsNextOf job.now mask (action_at (stage_count job.now) number) result }
     ensures sets { sets.new ≡ sets.old }
 {
-    let _ = job.setup();
+    job.recall_valid();
     let action = action_at(job, number);
     if facts.leads.contains(action.bend) {
         Some(next_after(job, sets, facts, mask, action))
@@ -161,7 +161,7 @@ impl SetActions {
         ensures same { self.new.mask ≡ mask }
         ensures sets { sets.new ≡ sets.old }
     {
-        let _ = job.setup();
+        job.recall_valid();
         let action = action_at(job, number);
         if self.is_held(number, reason) {
             true

@@ -19,7 +19,7 @@ pub(crate) fn check_steps(job: &Job, claim: Worth, steps: &[Step]) -> Result<(),
     requires each { All (IsStep job.now) steps.now }
     ensures { StepsAnswer job.now claim steps.now result }
 {
-    let _ = job.setup();
+    job.recall_valid();
     let (last, cost) = follow(job, steps)?;
     match claim {
         Worth::Cost(claimed) => check_cost(job, &last, cost, claimed),
@@ -49,7 +49,7 @@ fn follow(job: &Job, steps: &[Step]) -> Result<(Key, u64), CheckFault>
     ensures answer { FollowAnswer job.now start steps.now result }
     ensures range { IfOk result (λ end. IsKeyOf job.now end.0) }
 {
-    let _ = job.setup();
+    job.recall_valid();
     let mut key = start_key();
     let mut cost = 0;
     for (index, step) in steps.iter().enumerate() {
@@ -71,7 +71,7 @@ fn step_fault(job: &Job, key: &Key, step: Step) -> Option<StepFault>
     ensures legal { IfNone result (IsLegal job.now key.now step) }
     ensures fault { IfSome result (λ fault. IsStepFault job.now key.now step fault) }
 {
-    let _ = job.setup();
+    job.recall_valid();
     if key.mask.contains(step.action.bend) {
         return Some(StepFault::AlreadyFolded);
     }

@@ -132,7 +132,7 @@ fn check_claim(
     requires sets { sets.old ≡ job.now }
     ensures { ProvesAnswer job.now rows.now.rows claim result }
 {
-    let _ = job.setup();
+    job.recall_valid();
     if is_proved(job, rows, sets, &start_key(), 0, claim) {
         Ok(())
     } else {

@@ -1,5 +1,8 @@
--- The words of the job lines behind their keywords. Lengths are in micrometres, costs in tenths of a second, forces in newtons.
-use Rattle.std.specs.Prelude.{ℕ, zero, suc, ◌==◌, ℤ, pos, Bool, true, false, nat_lt, int_le, unsigned_abs, List, [], ◌∷◌, length, Option, Some, None, if◌then◌else◌}
+-- The words of the job lines behind their keywords. Lengths are in micrometres, costs in tenths of
+-- a second, forces in newtons.
+use Rattle.std.specs.Prelude.{ℕ, zero, suc, ◌==◌, ℤ, pos, Bool, true, false, nat_lt, int_le}
+use Rattle.std.specs.Prelude.{unsigned_abs, List, [], ◌∷◌, length, Option, Some, None}
+use Rattle.std.specs.Prelude.{if◌then◌else◌}
 use Rattle.std.specs.Ordering.{int_eq}
 use Rattle.toml_fields.specs.Fields.{checked_name}
 use Rattle.toml_fields.specs.Ranges.{is_within}
@@ -8,11 +11,13 @@ use Rattle.part_file.specs.declared.part.Side.{Side}
 use Rattle.part_file.specs.declared.part.Dir.{Dir}
 use Rattle.part_file.specs.declared.part.Joint.{Joint}
 use Rattle.part_file.specs.Part.{FaceData, PartData}
+use Rattle.machine_file.specs.Bounds.{greatest_fine}
 use Rattle.machine_file.specs.declared.machine.Fixed.{Fixed}
 use Rattle.machine_file.specs.declared.machine.GaugeRule.{GaugeRule}
 use Rattle.machine_file.specs.declared.machine.Costs.{Costs}
 use Rattle.tool_library.specs.Tools.{PunchData, DieData}
-use Rattle.cert_words.specs.LineWords.{◌>>=◌, word_at, at_end, count_at, signed_at, pair_at, rect_at, kind_at, side_of, dir_of}
+use Rattle.cert_words.specs.LineWords.{◌>>=◌, word_at, at_end, count_at, signed_at, pair_at}
+use Rattle.cert_words.specs.LineWords.{rect_at, kind_at, side_of, dir_of}
 
 -- a number, of which nothing is behind
 unfoldable pub number_in : List ℕ → Option ℤ
@@ -60,7 +65,10 @@ named_triple_in text = do
 unfoldable pub part_in : List ℕ → Option (PartData × ℤ)
 part_in text = do
   named ← named_triple_in text
-  Some (record { material = named.0; thickness = named.1.0.0; radius = named.1.0.1; faces = [] }, named.1.1)
+  Some (
+    record { material = named.0; thickness = named.1.0.0; radius = named.1.0.1; faces = [] },
+    named.1.1,
+  )
 
 -- face 0: its name and its sizes
 unfoldable pub root_in : List ℕ → Option FaceData
@@ -94,7 +102,8 @@ child_in faces text = do
     name = name;
     width = standing.0.1.0;
     length = standing.0.1.1;
-    joint = Some (record { on = parent.0.0; side = parent.0.1; at = standing.0.0; dir = standing.1 });
+    joint =
+        Some (record { on = parent.0.0; side = parent.0.1; at = standing.0.0; dir = standing.1 });
   })
 
 -- four pairs of numbers
@@ -140,7 +149,14 @@ costs_of pairs = do
   strokes ← naturals pairs.0
   halves ← naturals pairs.1.0
   rolls ← naturals pairs.1.1
-  Some (record { stroke = strokes.0; quarter = strokes.1; half = halves.0; flip = halves.1; roll = rolls.0; stage = rolls.1 })
+  Some (record {
+    stroke = strokes.0;
+    quarter = strokes.1;
+    half = halves.0;
+    flip = halves.1;
+    roll = rolls.0;
+    stage = rolls.1;
+  })
 
 -- whether there are gangs: 1 is yes and 0 is no
 abbrev pub gang_of : ℤ → Option Bool
@@ -148,19 +164,34 @@ gang_of n = if int_eq n (pos 0) then Some false else if int_eq n (pos 1) then So
 
 -- how often in a row a piece may be halved: 1 to 12, since 0 has no line
 abbrev pub fine_of : ℤ → Option ℕ
-fine_of n = if is_within (pos 1) (pos 12) n then Some (unsigned_abs n) else None
+fine_of n = if is_within (pos 1) (pos greatest_fine) n then Some (unsigned_abs n) else None
 
 -- a die: its name, its height and its opening, and the shortest flange
 unfoldable pub die_in : List ℕ → Option DieData
 die_in text = do
   named ← named_triple_in text
-  Some (record { name = named.0; height = named.1.0.0; v = named.1.0.1; least_flange = named.1.1; body = []; sections = []; limit = pos 0 })
+  Some (record {
+    name = named.0;
+    height = named.1.0.0;
+    v = named.1.0.1;
+    least_flange = named.1.1;
+    body = [];
+    sections = [];
+    limit = pos 0;
+  })
 
 -- a punch: its name, its height and the size of its nose
 unfoldable pub punch_in : List ℕ → Option PunchData
 punch_in text = do
   named ← named_pair_in text
-  Some (record { name = named.0; height = named.1.0; nose = named.1.1; body = []; sections = []; limit = pos 0 })
+  Some (record {
+    name = named.0;
+    height = named.1.0;
+    nose = named.1.1;
+    body = [];
+    sections = [];
+    limit = pos 0;
+  })
 
 -- at most so many numbers, of which nothing is behind
 abbrev pub numbers_in : ℕ → List ℕ → Option (List ℤ)

@@ -1,6 +1,8 @@
 -- The words of a line from the front, each behind a space: a value by its one spelling and its
 -- range, and the text behind it.
-use Rattle.std.specs.Prelude.{ℕ, ◌+◌, ◌-◌, ◌^◌, ◌==◌, ℤ, Bool, true, false, ◌&&◌, not, nat_le, nat_lt, List, [], ◌∷◌, take, drop, bytes_eq, codes, Option, Some, None, if◌then◌else◌, ◌≡◌}
+use Rattle.std.specs.Prelude.{ℕ, ◌+◌, ◌-◌, ◌^◌, ◌==◌, ℤ, Bool, true, false, ◌&&◌, not, nat_le}
+use Rattle.std.specs.Prelude.{nat_lt, List, [], ◌∷◌, take, drop, bytes_eq, codes, Option, Some}
+use Rattle.std.specs.Prelude.{None, if◌then◌else◌, ◌≡◌}
 use Rattle.std.specs.List.{prefix_len}
 use Rattle.brake_text.specs.Numbers.{number_of, signed_of}
 use Rattle.brake_base.specs.declared.plane.Rect.{Rect}

@@ -8,8 +8,10 @@ use Rattle.brake_base.specs.declared.stroke.Step.{Step}
 use Rattle.brake_base.specs.declared.stroke.Key.{Key}
 use Rattle.brake_base.specs.declared.stroke.Worth.{Worth}
 use Rattle.brake_base.specs.declared.reason.Reason.{Reason}
-use Rattle.brake_base.specs.declared.reason.Reason.TheVariants.{Cover, Rest, Frame, Upper, Nose, Lower, SelfHit, NoGauge, Load}
-use Rattle.cert_words.specs.LineWords.{◌>>=◌, at_end, count_at, kind_at, back_of, half_of, quarter_of, worth_of}
+use Rattle.brake_base.specs.declared.reason.Reason.TheVariants.{Cover, Rest, Frame, Upper, Nose}
+use Rattle.brake_base.specs.declared.reason.Reason.TheVariants.{Lower, SelfHit, NoGauge, Load}
+use Rattle.cert_words.specs.LineWords.{◌>>=◌, at_end, count_at, kind_at, back_of, half_of}
+use Rattle.cert_words.specs.LineWords.{quarter_of, worth_of}
 
 -- an action of a job of so many bends and stages
 unfoldable pub action_at : ℕ → ℕ → List ℕ → Option (Action × List ℕ)

@@ -9,6 +9,7 @@ ghost use Rattle.cert_words.specs.JobWords.{number_in, pair_in, rect_in, fixed_i
 use crate::line_words::{dir, is_end, name_of, pair, rect, side, signed_number, small, word};
 use arrayvec::ArrayVec;
 use brake_base::{Name, Rect};
+use machine_file::bounds::GREATEST_FINE;
 use machine_file::{Costs, Fixed, GaugeRule};
 use part_file::{Dir, Face, Joint, Part, Side};
 use toml_fields::is_within;
@@ -230,7 +231,7 @@ pub fn gang_of(n: i64) -> Option<bool>
 pub fn fine_of(n: i64) -> Option<u8>
     ensures { result ≡ fine_of n }
 {
-    if is_within(n, 1, 12) {
+    if is_within(n, 1, i64::from(GREATEST_FINE)) {
         Some(n as u8)
     } else {
         None

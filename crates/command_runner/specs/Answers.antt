@@ -23,7 +23,12 @@ abbrev pub stored_data : StoredText → StoredData
 stored_data s = record { name = string_bytes s.name; text = s.text.items }
 
 abbrev pub answer_data : Answer → AnswerData
-answer_data a = record { stored = map stored_data a.stored.items; status = a.status; texts = map vec_items a.texts.items }
+answer_data a =
+    record {
+      stored = map stored_data a.stored.items;
+      status = a.status;
+      texts = map vec_items a.texts.items;
+    }
 
 -- the whole text of an answer
 abbrev pub concatenation : List (List ℕ) → List ℕ

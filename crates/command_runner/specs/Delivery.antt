@@ -1,6 +1,7 @@
 -- What storing and putting an answer comes to.
 use Rattle.std.specs.Prelude.{◌≡◌, ◌⊎◌, ◌+◌, ◌≤◌, List, [], ◌∷◌, ◌++◌, length}
-use Rattle.brake_io.specs.Meanings.{Names, Content, ShelfState, SinkState, WhereTold, ChangesOnly, HoldsPart, Puts, PutsPart, with_bytes}
+use Rattle.brake_io.specs.Meanings.{Names, Content, ShelfState, SinkState, WhereTold, ChangesOnly}
+use Rattle.brake_io.specs.Meanings.{HoldsPart, Puts, PutsPart, with_bytes}
 use Rattle.command_runner.specs.declared.status.Status.{Status}
 use Rattle.command_runner.specs.declared.status.Status.TheVariants.{Fault, NoMemory}
 use Rattle.command_runner.specs.Answers.{StoredData, AnswerData, concatenation}
@@ -48,9 +49,15 @@ pub record AreStoredUpTo (stored : List StoredData) (before now : ShelfState) : 
   pub first : AreStored whole before between
   pub last : IsPartlyStored next between now
 
--- Storing and putting an answer: all of it, and no count of faults rose; a beginning of what is stored, and nothing put; or
--- all that is stored, and a beginning of the text.
+-- Storing and putting an answer: all of it, and no count of faults rose; a beginning of what is
+-- stored, and nothing put; or all that is stored, and a beginning of the text.
 pub data Delivers (answer : AnswerData) (before now : Outside) (status : Status) : Type 0 where
-  delivered : status ≡ answer.status → AreStored answer.stored before.shelf now.shelf → Puts before.sink now.sink (concatenation answer.texts) → now.shelf.faults ≡ before.shelf.faults → now.sink.faults ≡ before.sink.faults → Delivers answer before now status
-  stored_in_part : IsCutShort status → AreStoredUpTo answer.stored before.shelf now.shelf → now.sink ≡ before.sink → Delivers answer before now status
-  put_in_part : IsCutShort status → AreStored answer.stored before.shelf now.shelf → PutsPart before.sink now.sink (concatenation answer.texts) → Delivers answer before now status
+  delivered : status ≡ answer.status → AreStored answer.stored before.shelf now.shelf
+      → Puts before.sink now.sink (concatenation answer.texts)
+      → now.shelf.faults ≡ before.shelf.faults → now.sink.faults ≡ before.sink.faults
+      → Delivers answer before now status
+  stored_in_part : IsCutShort status → AreStoredUpTo answer.stored before.shelf now.shelf
+      → now.sink ≡ before.sink → Delivers answer before now status
+  put_in_part : IsCutShort status → AreStored answer.stored before.shelf now.shelf
+      → PutsPart before.sink now.sink (concatenation answer.texts)
+      → Delivers answer before now status

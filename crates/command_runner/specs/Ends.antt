@@ -6,10 +6,12 @@ use Rattle.brake_io.specs.Meanings.{ShelfState, WhereTold, Puts}
 use Rattle.command_runner.specs.declared.word_kind.WordKind.{WordKind}
 use Rattle.command_runner.specs.declared.status.Status.{Status}
 use Rattle.command_runner.specs.Answers.{AnswerData, concatenation, long_refused}
-use Rattle.command_runner.specs.Fetching.{files_of, names_of, IsContent, IsFetched, OnlyFetches, HasCause}
+use Rattle.command_runner.specs.Fetching.{files_of, names_of, IsContent, IsFetched, OnlyFetches}
+use Rattle.command_runner.specs.Fetching.{HasCause}
 use Rattle.command_runner.specs.Delivery.{IsCutShort, Outside, HoldsAll, Delivers}
 
--- what a command answers to its words and the contents of its files, in order; it may have several answers
+-- what a command answers to its words and the contents of its files, in order; it may have several
+-- answers
 abbrev pub Meaning : Type 1
 Meaning = List (List ℕ) → List (List ℕ) → AnswerData → Type 0
 
@@ -19,26 +21,36 @@ IsAnswerAfter meaning words (Ok contents) answer = meaning words contents answer
 IsAnswerAfter meaning words (Err number) answer = answer ≡ long_refused number
 
 -- an answer to words of this form over a shelf, from before the files are fetched to when they are
-pub record IsAnswer (form : List WordKind) (meaning : Meaning) (words : List (List ℕ)) (before now : ShelfState) (answer : AnswerData) : Type 0 where
+pub record IsAnswer (form : List WordKind) (meaning : Meaning) (words : List (List ℕ))
+    (before now : ShelfState) (answer : AnswerData) : Type 0 where
   pub fetched : Result (List (List ℕ)) ℕ
   pub is_fetched : IsFetched before now (files_of form words) fetched
   pub is_answer : IsAnswerAfter meaning words fetched answer
   pub faults : now.faults ≡ before.faults
 
--- How a run ends: between fetching and storing it had an answer, which it stored and put; or it was cut short before,
--- and nothing is stored or put.
-pub data Ends (form : List WordKind) (meaning : Meaning) (words : List (List ℕ)) (before now : Outside) (status : Status) : Type 0 where
-  answers : (answer : AnswerData) (between : ShelfState) → OnlyFetches (length (files_of form words)) before.shelf between → IsAnswer form meaning words before.shelf between answer → Delivers answer (record { shelf = between; sink = before.sink }) now status → Ends form meaning words before now status
-  stops : IsCutShort status → OnlyFetches (length (files_of form words)) before.shelf now.shelf → now.sink ≡ before.sink → Ends form meaning words before now status
+-- How a run ends: between fetching and storing it had an answer, which it stored and put; or it was
+-- cut short before, and nothing is stored or put.
+pub data Ends (form : List WordKind) (meaning : Meaning) (words : List (List ℕ))
+    (before now : Outside) (status : Status) : Type 0 where
+  answers : (answer : AnswerData) (between : ShelfState)
+      → OnlyFetches (length (files_of form words)) before.shelf between
+      → IsAnswer form meaning words before.shelf between answer
+      → Delivers answer (record { shelf = between; sink = before.sink }) now status
+      → Ends form meaning words before now status
+  stops : IsCutShort status → OnlyFetches (length (files_of form words)) before.shelf now.shelf
+      → now.sink ≡ before.sink → Ends form meaning words before now status
 
 -- a count of faults rose
 abbrev pub CountsFault : Outside → Outside → Type 0
-CountsFault before now = Rose before.shelf.faults now.shelf.faults ⊎ Rose before.sink.faults now.sink.faults
+CountsFault before now =
+    Rose before.shelf.faults now.shelf.faults ⊎ Rose before.sink.faults now.sink.faults
 
--- the sink counted a fault; or, where the content is told, a file that is fetched isn't held, or a call of the run was one that is to fail
+-- the sink counted a fault; or, where the content is told, a file that is fetched isn't held, or a
+-- call of the run was one that is to fail
 abbrev pub MayFault : List WordKind → List (List ℕ) → Outside → Outside → Type 0
 MayFault form words before now =
-    Rose before.sink.faults now.sink.faults ⊎ HasCause (names_of (files_of form words)) before.shelf now.shelf
+    Rose before.sink.faults now.sink.faults
+    ⊎ HasCause (names_of (files_of form words)) before.shelf now.shelf
 
 -- the whole answer is left: the run ends as it has it, its texts are stored, and its text is put
 pub record Leaves (answer : AnswerData) (before now : Outside) (status : Status) : Type 0 where
@@ -65,8 +77,8 @@ pub record RefusesLong (form : List WordKind) (words : List (List ℕ)) (before 
   pub leaves : Leaves (long_refused number) before now status
 
 -- What a run comes to, as it shows from outside: it was cut short, or it left its answer to the
--- contents of all files, or the refusal of one that was too long. So a file is refused for its length
--- only where the count of long files rose, and where that rose nothing else is answered.
+-- contents of all files, or the refusal of one that was too long. So a file is refused for its
+-- length only where the count of long files rose, and where that rose nothing else is answered.
 pub data IsOutcome (form : List WordKind) (meaning : Meaning) (words : List (List ℕ))
     (before now : Outside) (status : Status) : Type 0 where
   cut_short : IsCutShort status → IsOutcome form meaning words before now status

@@ -1,11 +1,17 @@
 -- The words of a command: each form is a list of kinds of words.
-use Rattle.std.specs.Prelude.{ℕ, List, [], ◌∷◌, length, drop, codes, Bool, true, false, not, ◌&&◌, ◌||◌, ◌==◌, nat_eq, nat_le, bytes_eq, Option, Some, None, is_some, option_and_then, if◌then◌else◌}
+use Rattle.std.specs.Prelude.{ℕ, List, [], ◌∷◌, length, drop, codes, Bool, true, false, not, ◌&&◌}
+use Rattle.std.specs.Prelude.{◌||◌, ◌==◌, nat_eq, nat_le, bytes_eq, Option, Some, None, is_some}
+use Rattle.std.specs.Prelude.{option_and_then, if◌then◌else◌}
 use Rattle.std.specs.List.{starts_with}
 use Rattle.brake_text.specs.Numbers.{number_of}
 use Rattle.command_runner.specs.declared.word_kind.Keyword.{Keyword}
-use Rattle.command_runner.specs.declared.word_kind.Keyword.TheVariants.{Blank, Plan, Check, Trial, Why, Setups, Settle, Merge, Prove, Budget}
+use Rattle.command_runner.specs.declared.word_kind.Keyword.TheVariants.{Blank, Plan, Check, Trial}
+use Rattle.command_runner.specs.declared.word_kind.Keyword.TheVariants.{Why, Setups, Settle, Merge}
+use Rattle.command_runner.specs.declared.word_kind.Keyword.TheVariants.{Prove, Budget}
 use Rattle.command_runner.specs.declared.word_kind.WordKind.{WordKind}
-use Rattle.command_runner.specs.declared.word_kind.WordKind.TheVariants.{Literal, Input, Certificate, Table, Output, NumberedOutput, Number}
+use Rattle.command_runner.specs.declared.word_kind.WordKind.TheVariants.{Literal, Input}
+use Rattle.command_runner.specs.declared.word_kind.WordKind.TheVariants.{Certificate, Table, Output}
+use Rattle.command_runner.specs.declared.word_kind.WordKind.TheVariants.{NumberedOutput, Number}
 
 -- how a keyword is written
 unfoldable pub spelling : Keyword → List ℕ
@@ -26,7 +32,8 @@ is_file_word word = not (length word == 0) && not (starts_with nat_eq word (code
 
 -- the number that a word spells, where it is in the range
 abbrev pub number_in : ℕ → ℕ → List ℕ → Option ℕ
-number_in least most word = option_and_then (λ n. if nat_le least n && nat_le n most then Some n else None) (number_of word)
+number_in least most word =
+    option_and_then (λ n. if nat_le least n && nat_le n most then Some n else None) (number_of word)
 
 -- the word is of this kind; any may stand where a number is to be, which the command reads
 abbrev pub is_of_kind : WordKind → List ℕ → Bool
@@ -38,7 +45,8 @@ is_of_kind Table word = is_file_word word
 is_of_kind Output word = is_file_word word
 is_of_kind NumberedOutput word = is_file_word word
 
--- the greatest length, in bytes, of a file of this kind that is fetched; none of a word whose file isn't
+-- the greatest length, in bytes, of a file of this kind that is fetched; none of a word whose file
+-- isn't
 abbrev pub limit_of : WordKind → Option ℕ
 limit_of Input = Some 1048576
 limit_of Certificate = Some 1073741824
@@ -58,7 +66,8 @@ is_numbered_ending (byte ∷ digits) = byte == 46 && is_some (number_in 0 15 dig
 
 -- the word is one of the names NAME.0 to NAME.15
 unfoldable pub is_numbered_name : List ℕ → List ℕ → Bool
-is_numbered_name name word = starts_with nat_eq word name && is_numbered_ending (drop (length name) word)
+is_numbered_name name word =
+    starts_with nat_eq word name && is_numbered_ending (drop (length name) word)
 
 -- nothing that is stored for the word of this kind has the other word's name
 unfoldable pub is_stored_apart : WordKind → List ℕ → List ℕ → Bool
@@ -73,12 +82,14 @@ are_of_kinds [] (word ∷ words) = false
 are_of_kinds (kind ∷ kinds) [] = false
 are_of_kinds (kind ∷ kinds) (word ∷ words) = is_of_kind kind word && are_of_kinds kinds words
 
--- nothing that is stored for the word of this kind has the name of a file that is fetched for these words
+-- nothing that is stored for the word of this kind has the name of a file that is fetched for these
+-- words
 abbrev pub is_apart : WordKind → List ℕ → List WordKind → List (List ℕ) → Bool
 is_apart kind word [] words = true
 is_apart kind word (other_kind ∷ kinds) [] = true
 is_apart kind word (other_kind ∷ kinds) (other ∷ words) =
-    (not (is_some (limit_of other_kind)) || is_stored_apart kind word other) && is_apart kind word kinds words
+    (not (is_some (limit_of other_kind)) || is_stored_apart kind word other)
+    && is_apart kind word kinds words
 
 -- the same of each of some words
 abbrev pub are_apart : List WordKind → List (List ℕ) → List WordKind → List (List ℕ) → Bool

@@ -12,6 +12,7 @@ OnTooLong Fault P = Unit {0}
 OnTooLong NoMemory P = Unit {0}
 
 -- a fact of the contents of all files, or of the number of one that is too long, if there are any
-abbrev pub OnFetched : Result (Vec (Vec ℕ Global) Global) FetchStop → (Result (List (List ℕ)) ℕ → Type 0) → Type 0
+abbrev pub OnFetched : Result (Vec (Vec ℕ Global) Global) FetchStop
+    → (Result (List (List ℕ)) ℕ → Type 0) → Type 0
 OnFetched (Ok contents) P = P (Ok (map vec_items contents.items))
 OnFetched (Err stop) P = OnTooLong stop (λ number. P (Err number))

@@ -16,6 +16,5 @@ pub mod PartBounds
 pub mod SolidBoxes
 pub mod PosedBoxes
 pub mod Locality
-pub mod Halving
 pub mod Corners
 pub mod SolePose

@@ -33,7 +33,7 @@ use Rattle.fold_boxes.specs.Folded.{face_box, corner_box}
 use Rattle.fold_boxes.specs.Groups.{line_from, line_to, span}
 use Rattle.fold_boxes.specs.Pose.{IsGroup, lead_of, back_sign, start_of_span, parent_place, posed, posed_frame, pose_map, part_body, pose_box, box_ids, pose_of}
 use Rattle.fold_boxes.specs.Posing.{IsNearShift, IsNearPoseBox, IsSolidPoseBox}
-use Rattle.fold_boxes.proofs.Halving.{floor_half}
+use Rattle.algebra.proofs.Halves.{floor_half}
 use Rattle.fold_boxes.proofs.Leads.{lead_is}
 use Rattle.fold_boxes.proofs.Numbered.{numbered_is_turn, numbered_product, numbered_transpose, numbered_frame, transpose_first}
 use Rattle.fold_boxes.proofs.PoseEffect.{numbered_place, mapped_posed, shift_is, pose_effect}

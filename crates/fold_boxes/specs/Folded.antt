@@ -26,8 +26,9 @@ places_of shape mask = map (place_of shape mask) (face_numbers shape.part.faces)
 abbrev pub core_box : ShapeData → ℕ → Box3
 core_box shape f = thick (half_thickness shape.part) (core shape.part.faces shape.q f)
 
--- The column that covers bend b when it is folded, in the frame of its parent: along the bend's line, from the core's
--- edge to q beyond it, and from tau on the one side of the mid-plane to h on that to which the bend folds.
+-- The column that covers bend b when it is folded, in the frame of its parent: along the bend's
+-- line, from the core's edge to q beyond it, and from tau on the one side of the mid-plane to h on
+-- that to which the bend folds.
 abbrev pub corner_column : ShapeData → ℕ → Box3
 corner_column shape b =
     let joint = joint_of shape.part.faces b in

@@ -1,5 +1,7 @@
--- The bends that may be bent in one stroke, and the range that their lines cover. Lengths are in micrometres.
-use Rattle.std.specs.Prelude.{ℕ, ℤ, Bool, true, false, ◌==◌, ◌&&◌, nat_le, nat_lt, List, length, map, filter}
+-- The bends that may be bent in one stroke, and the range that their lines cover. Lengths are in
+-- micrometres.
+use Rattle.std.specs.Prelude.{ℕ, ℤ, Bool, true, false, ◌==◌, ◌&&◌, nat_le, nat_lt, List, length}
+use Rattle.std.specs.Prelude.{map, filter}
 use Rattle.brake_base.specs.declared.space.V3.{V3}
 use Rattle.part_file.specs.declared.part.Joint.{Joint}
 use Rattle.part_file.specs.declared.part.Dir.{Dir}
@@ -42,7 +44,8 @@ line_to shape b = along_side shape b (line_end shape.part.faces shape.q b)
 abbrev pub members : ShapeData → (ℕ → Bool) → List ℕ
 members shape set = filter set (bend_numbers shape.part.faces)
 
--- the span of a group: from the least to the greatest end of its lines, along the side that they share
+-- the span of a group: from the least to the greatest end of its lines, along the side that they
+-- share
 abbrev pub span : ShapeData → (ℕ → Bool) → ℤ × ℤ
 span shape group = (
   least (map (line_from shape) (members shape group)),

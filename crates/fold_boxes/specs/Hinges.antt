@@ -1,5 +1,6 @@
 -- What the code keeps of each bend.
-use Rattle.std.specs.Prelude.{◌≡◌, ℕ, ◌+◌, ◌<◌, ℤ, pos, ◌-ℤ◌, ◌*ℤ◌, neg_ℤ, List, map, length, slice_index_or, All}
+use Rattle.std.specs.Prelude.{◌≡◌, ℕ, ◌+◌, ◌<◌, ℤ, pos, ◌-ℤ◌, ◌*ℤ◌, neg_ℤ, List, map, length}
+use Rattle.std.specs.Prelude.{slice_index_or, All}
 use Rattle.brake_base.specs.declared.space.Box3.{Box3}
 use Rattle.brake_base.specs.Vectors.{vector, plus, times, IsWithin}
 use Rattle.brake_base.specs.Turns.{Matrix, map_of}
@@ -34,7 +35,8 @@ column_over side line q tau =
     (plus (plus (vector line.to.0 line.to.1 (pos 0)) (times q (outward side)))
     (times (s *ℤ (q -ℤ tau)) z_axis))
 
--- what is kept of bend b: its parent, where its child stands on it flat and folded, and the column of its corner
+-- what is kept of bend b: its parent, where its child stands on it flat and folded, and the column
+-- of its corner
 pub record IsHingeOf (shape : ShapeData) (b : ℕ) (hinge : Hinge) : Type 0 where
   pub parent : hinge.parent ≡ (joint_of shape.part.faces b).on
   pub earlier : hinge.parent < b

@@ -1,6 +1,8 @@
--- The part on the machine before a stroke. The machine's axes are x along the bed, y to the back and z up. Lengths are in
--- micrometres.
-use Rattle.std.specs.Prelude.{◌≡◌, ℕ, zero, suc, ◌+◌, ◌-◌, ℤ, pos, negsuc, ◌+ℤ◌, ◌-ℤ◌, ◌*ℤ◌, neg_ℤ, int_le, nat_le, Bool, false, ◌&&◌, ◌||◌, IsTrue, List, ◌++◌, map, filter, find, unwrap_or, if◌then◌else◌}
+-- The part on the machine before a stroke. The machine's axes are x along the bed, y to the back
+-- and z up. Lengths are in micrometres.
+use Rattle.std.specs.Prelude.{◌≡◌, ℕ, zero, suc, ◌+◌, ◌-◌, ℤ, pos, negsuc, ◌+ℤ◌, ◌-ℤ◌, ◌*ℤ◌, neg_ℤ}
+use Rattle.std.specs.Prelude.{int_le, nat_le, Bool, false, ◌&&◌, ◌||◌, IsTrue, List, ◌++◌, map}
+use Rattle.std.specs.Prelude.{filter, find, unwrap_or, if◌then◌else◌}
 use Rattle.std.specs.Int.{int_min, int_div_euclid}
 use Rattle.std.specs.List.{range_with_len}
 use Rattle.brake_base.specs.declared.space.V3.{V3}
@@ -10,7 +12,8 @@ use Rattle.brake_base.specs.declared.stroke.Back.{Back}
 use Rattle.brake_base.specs.declared.stroke.Back.TheVariants.{Parent, Child}
 use Rattle.brake_base.specs.declared.stroke.Half.{Half}
 use Rattle.brake_base.specs.Vectors.{vector, times, origin}
-use Rattle.brake_base.specs.Turns.{Matrix, Map, IsTurn, identity, transpose, multiply, apply, turn_of, mapped, after, map_of}
+use Rattle.brake_base.specs.Turns.{Matrix, Map, IsTurn, identity, transpose, multiply, apply}
+use Rattle.brake_base.specs.Turns.{turn_of, mapped, after, map_of}
 use Rattle.brake_base.specs.Boxes.{image}
 use Rattle.brake_base.specs.Masks.{has}
 use Rattle.part_file.specs.declared.part.Side.{Side}
@@ -30,8 +33,8 @@ use Rattle.fold_boxes.specs.Folded.{place_of, face_box, corner_box}
 abbrev pub lead_of : ShapeData → Mask → ℕ
 lead_of shape group = unwrap_or (find (has group) (bend_numbers shape.part.faces)) 0
 
--- Bends that may be bent in one stroke where those of the mask are folded: some bends, none of them folded, all with the
--- parent, the side and the direction of the lead.
+-- Bends that may be bent in one stroke where those of the mask are folded: some bends, none of them
+-- folded, all with the parent, the side and the direction of the lead.
 pub record IsGroup (shape : ShapeData) (mask group : Mask) : Type 0 where
   pub some : IsTrue (has group (lead_of shape group))
   pub mates : (b : ℕ) → IsTrue (has group b) → IsTrue (is_mate shape (lead_of shape group) b)
@@ -67,9 +70,10 @@ span_end shape group distance =
 abbrev pub taken : ShapeData → Mask → Mask → Map → V3 → V3
 taken shape mask group m v = mapped m (mapped (parent_place shape mask (lead_of shape group)) v)
 
--- The map of a pose, by its effect on the placed frame of the lead's parent. Its turn takes the direction in which the bends
--- fold upwards, and that out of their side to the back or to the front. It brings the group's lines to y = 0, the parent's
--- mid-plane half the thickness below z = 0, and the lower end of the span to the span's start.
+-- The map of a pose, by its effect on the placed frame of the lead's parent. Its turn takes the
+-- direction in which the bends fold upwards, and that out of their side to the back or to the
+-- front. It brings the group's lines to y = 0, the parent's mid-plane half the thickness below z =
+-- 0, and the lower end of the span to the span's start.
 pub record IsPoseMap (shape : ShapeData) (mask group : Mask) (back : Back) (x0 x1 : ℤ) (m : Map)
     : Type 0 where
   pub turn : IsTurn m.turn
@@ -96,7 +100,8 @@ pub record IsPoseMap (shape : ShapeData) (mask group : Mask) (back : Back) (x0 x
       (taken shape mask group m (span_end shape group (span shape (has group)).1)).x
       ≡ span_start shape group x0 x1
 
--- where a pose points a direction of the frame of a face that is bent at this side in this direction
+-- where a pose points a direction of the frame of a face that is bent at this side in this
+-- direction
 abbrev pub pointed : Side → Dir → Back → V3 → V3
 pointed side dir back v =
     vector ((back_sign back *ℤ fold_sign dir) *ℤ dot v (along side))
@@ -110,9 +115,10 @@ frame_turn side dir back = record {
   z = pointed side dir back identity.z;
 }
 
--- Where a pose has a point of the frame of the lead's parent: as far along the bed from the span's start as it lies along
--- the side from that end of the span which comes to the left, as far to the back or the front as it lies beyond the lines,
--- and as far above the mid-plane as it lies on the side to which the bends fold.
+-- Where a pose has a point of the frame of the lead's parent: as far along the bed from the span's
+-- start as it lies along the side from that end of the span which comes to the left, as far to the
+-- back or the front as it lies beyond the lines, and as far above the mid-plane as it lies on the
+-- side to which the bends fold.
 abbrev pub posed : ShapeData → Mask → Back → ℤ → ℤ → V3 → V3
 posed shape group back x0 x1 p =
     let b = lead_of shape group in
@@ -141,7 +147,8 @@ inverse_of m = record {
   shift = times (negsuc 0) (apply (transpose m.turn) m.shift);
 }
 
--- the map of a pose, from the coordinates of face 0 to those of the machine; IsPoseMap holds of it alone
+-- the map of a pose, from the coordinates of face 0 to those of the machine; IsPoseMap holds of it
+-- alone
 unfoldable pub pose_map : ShapeData → Mask → Mask → Back → ℤ → ℤ → Map
 pose_map shape mask group back x0 x1 =
     after (posed_frame shape group back x0 x1)
@@ -250,7 +257,8 @@ pose_data pose = record {
   x1 = pose.x1;
 }
 
--- the pose of a group where the bends of the mask are folded: the part's boxes and places under the one map
+-- the pose of a group where the bends of the mask are folded: the part's boxes and places under the
+-- one map
 abbrev pub pose_of : ShapeData → Mask → Mask → Back → ℤ → ℤ → PoseData
 pose_of shape mask group back x0 x1 = record {
   bend = lead_of shape group;

@@ -1,5 +1,6 @@
 -- The bound: what every rest from a key costs at least, in tenths of a second.
-use Rattle.std.specs.Prelude.{ℕ, ◌+◌, ◌*◌, ◌==◌, min, max, List, [], ◌∷◌, map, filter, length, if◌then◌else◌}
+use Rattle.std.specs.Prelude.{ℕ, ◌+◌, ◌*◌, ◌==◌, min, max, List, [], ◌∷◌, map, filter, length}
+use Rattle.std.specs.Prelude.{if◌then◌else◌}
 use Rattle.std.specs.List.{range_with_len}
 use Rattle.brake_base.specs.declared.mask.Mask.{Mask}
 use Rattle.brake_base.specs.declared.stroke.Key.{Key}
@@ -12,7 +13,8 @@ use Rattle.job_setup.specs.StageOf.{stage_of}
 use Rattle.job_setup.specs.Reasons.{meets}
 use Rattle.handling_cost.specs.StepCost.{distance, key_after, cost_of}
 
--- the leads left: the bends of the strokes that may come next where the bends of the mask are folded
+-- the leads left: the bends of the strokes that may come next where the bends of the mask are
+-- folded
 abbrev pub leads_left : JobData → Mask → List ℕ
 leads_left job mask = members (shape_of job) (is_lead job mask)
 
@@ -33,7 +35,8 @@ abbrev pub greatest : List ℕ → ℕ
 greatest [] = 0
 greatest (n ∷ ns) = max n (greatest ns)
 
--- the greatest, over the leads left, of the distance from a stage to the nearest that meets the lead's group
+-- the greatest, over the leads left, of the distance from a stage to the nearest that meets the
+-- lead's group
 unfoldable pub farthest : JobData → Mask → ℕ → ℕ
 farthest job mask from =
     greatest (map (λ b. nearest from (meeting_stages job mask b)) (leads_left job mask))
@@ -43,7 +46,8 @@ abbrev pub bound_with : JobData → Mask → ℕ → ℕ → ℕ
 bound_with job mask leads way =
     job.setup.cost.stroke * leads + (if mask.0 == 0 then 0 else job.setup.cost.stage * way)
 
--- a stroke for each lead left, and the way to the stage that is farthest; 0 where every bend is folded, since no lead is left
+-- a stroke for each lead left, and the way to the stage that is farthest; 0 where every bend is
+-- folded, since no lead is left
 unfoldable pub bound_of : JobData → Key → ℕ
 bound_of job key =
     bound_with job key.mask (length (leads_left job key.mask)) (farthest job key.mask key.stage)

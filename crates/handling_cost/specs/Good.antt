@@ -1,5 +1,6 @@
--- What rows and notes prove. A table is given by two relations: which keys have a row of which worth, and which actions have a
--- note of which reason at which key. So neither the order of the rows nor how they are kept plays a part.
+-- What rows and notes prove. A table is given by two relations: which keys have a row of which
+-- worth, and which actions have a note of which reason at which key. So neither the order of the
+-- rows nor how they are kept plays a part.
 use Rattle.std.specs.Prelude.{◌≡◌, ◌⊎◌, ℕ, List, Some, slice_get}
 use Rattle.brake_base.specs.declared.stroke.Key.{Key}
 use Rattle.brake_base.specs.declared.stroke.Action.{Action}
@@ -13,7 +14,8 @@ use Rattle.handling_cost.specs.StepCost.{IsActionAt, key_after, cost_of}
 use Rattle.handling_cost.specs.Plan.{IsReasonFor, IsPlan, total, start}
 use Rattle.handling_cost.specs.Bound.{bound_of}
 
--- a worth that stands for a key: its bound, or the worth of its row; what is proved of a key is the greatest of them
+-- a worth that stands for a key: its bound, or the worth of its row; what is proved of a key is the
+-- greatest of them
 abbrev pub Proves : JobData → (Key → Worth → Type 0) → Key → Worth → Type 0
 Proves job HasRow key worth = (worth ≡ Cost (bound_of job key)) ⊎ HasRow key worth
 
@@ -23,7 +25,8 @@ IsClosed job HasRow key action worth =
     (next : Worth) × Proves job HasRow (key_after job key action) next
     × IsAtMost worth (plus (cost_of job key action) next)
 
--- the condition at one row and action: of the reasons noted against the action one holds, or none is noted and it is closed
+-- the condition at one row and action: of the reasons noted against the action one holds, or none
+-- is noted and it is closed
 abbrev pub MeetsConditionAt :
     JobData → (Key → Worth → Type 0) → (Reason → Type 0) → Key → Worth → Action → Type 0
 MeetsConditionAt job HasRow IsNoted key worth action =
@@ -42,7 +45,8 @@ abbrev pub AreClaimed : JobData → Worth → List Step → Type 0
 AreClaimed job (Cost cost) steps = IsPlan job steps × (total job start steps ≡ cost)
 AreClaimed job Blocked steps = Unit {0}
 
--- a certificate of a claim is good: its steps are as claimed, its rows meet their condition, and the claim is proved of the start
+-- a certificate of a claim is good: its steps are as claimed, its rows meet their condition, and
+-- the claim is proved of the start
 pub record IsGood (job : JobData) (claim : Worth) (steps : List Step)
     (HasRow : Key → Worth → Type 0) (HasNote : Key → Action → Reason → Type 0) : Type 0 where
   pub claimed : AreClaimed job claim steps

@@ -1,5 +1,5 @@
--- The plans of a job: lists of legal steps that fold every bend, and what they cost in tenths of a second. From sequence
--- planning over bends with tooling, gauging and handling costs.
+-- The plans of a job: lists of legal steps that fold every bend, and what they cost in tenths of a
+-- second. From sequence planning over bends with tooling, gauging and handling costs.
 use Rattle.std.specs.Prelude.{◌≢◌, ℕ, ◌+◌, List, [], ◌∷◌}
 use Rattle.brake_base.specs.declared.mask.Mask.{Mask}
 use Rattle.brake_base.specs.declared.stroke.Key.{Key}
@@ -40,7 +40,8 @@ pub record IsLegal (job : JobData) (key : Key) (step : Step) : Type 0 where
   pub free : IsUnopposed job key.mask step.action
   pub gauge : IsGaugeFor job key.mask step.action step.gauge
 
--- a rest from a key: steps, each legal at the key that those before it lead to, after which every bend is folded
+-- a rest from a key: steps, each legal at the key that those before it lead to, after which every
+-- bend is folded
 abbrev pub IsRest : JobData → Key → List Step → Type 0
 IsRest job key [] = IsFull job key
 IsRest job key (step ∷ steps) =

@@ -1,5 +1,6 @@
 -- The keys that legal steps reach, and how many there can be.
-use Rattle.std.specs.Prelude.{◌≡◌, ◌≢◌, ℕ, ◌+◌, ◌-◌, ◌*◌, ◌^◌, ◌<◌, ◌==◌, List, [], ◌∷◌, length, All, AllPairs, if◌then◌else◌}
+use Rattle.std.specs.Prelude.{◌≡◌, ◌≢◌, ℕ, ◌+◌, ◌-◌, ◌*◌, ◌^◌, ◌<◌, ◌==◌, List, [], ◌∷◌, length}
+use Rattle.std.specs.Prelude.{All, AllPairs, if◌then◌else◌}
 use Rattle.brake_base.specs.declared.stroke.Key.{Key}
 use Rattle.brake_base.specs.declared.stroke.Step.{Step}
 use Rattle.job_setup.specs.Setup.{JobData, bend_count, stage_count}
@@ -26,6 +27,7 @@ abbrev pub ReachIsAbove : JobData → ℕ → Type 0
 ReachIsAbove job count =
     (keys : List Key) × (count < length keys) × AllPairs (λ a b. a ≢ b) keys × All (IsNode job) keys
 
--- the start, and for each other mask that isn't full one key for each attitude and stage; none where there is no bend
+-- the start, and for each other mask that isn't full one key for each attitude and stage; none
+-- where there is no bend
 abbrev pub nodes : JobData → ℕ
 nodes job = if bend_count job == 0 then 0 else 1 + (2 ^ bend_count job - 2) * (24 * stage_count job)

@@ -1,5 +1,6 @@
 -- What an action is at a key, what it costs, and where it leads. Costs are in tenths of a second.
-use Rattle.std.specs.Prelude.{◌≡◌, ℕ, ◌+◌, ◌-◌, ◌*◌, ◌^◌, ◌<◌, ◌≤◌, ◌==◌, pos, negsuc, Bool, true, not, IsTrue, length, if◌then◌else◌}
+use Rattle.std.specs.Prelude.{◌≡◌, ℕ, ◌+◌, ◌-◌, ◌*◌, ◌^◌, ◌<◌, ◌≤◌, ◌==◌, pos, negsuc, Bool, true}
+use Rattle.std.specs.Prelude.{not, IsTrue, length, if◌then◌else◌}
 use Rattle.std.specs.Ordering.{int_eq}
 use Rattle.brake_base.specs.declared.mask.Mask.{Mask}
 use Rattle.brake_base.specs.declared.stroke.Key.{Key}
@@ -9,7 +10,8 @@ use Rattle.brake_base.specs.Masks.{has, union}
 use Rattle.brake_base.specs.Turns.{Matrix, turn_of, multiply, transpose}
 use Rattle.machine_file.specs.declared.machine.Costs.{Costs}
 use Rattle.handling_cost.specs.declared.attitudes.Change.{Change}
-use Rattle.handling_cost.specs.declared.attitudes.Change.TheVariants.{Same, Quarter, Half, Flip, Roll}
+use Rattle.handling_cost.specs.declared.attitudes.Change.TheVariants.{Same, Quarter, Half, Flip}
+use Rattle.handling_cost.specs.declared.attitudes.Change.TheVariants.{Roll}
 use Rattle.fold_boxes.specs.Groups.{members}
 use Rattle.job_setup.specs.Setup.{JobData, shape_of, bend_count, stage_count}
 use Rattle.job_setup.specs.StrokeGroup.{group_of, is_lead}
@@ -40,7 +42,8 @@ IsFull job key = (b : ℕ) → 1 ≤ b → b ≤ bend_count job → has key.mask
 unfoldable pub left : JobData → Key → ℕ
 left job key = length (members (shape_of job) (λ b. not (has key.mask b)))
 
--- the number of the attitude in which the part is held for an action where the bends of the mask are folded
+-- the number of the attitude in which the part is held for an action where the bends of the mask
+-- are folded
 unfoldable pub attitude_at : JobData → Mask → Action → ℕ
 attitude_at job mask action = attitude_of (shape_of job) mask action.bend action.back
 
@@ -56,8 +59,9 @@ key_after job key action = record {
 abbrev pub change : ℕ → ℕ → Matrix
 change from to = multiply (turn_of to) (transpose (turn_of from))
 
--- What becomes of the part as its attitude changes. Where what points up stays up it is held as before, or makes a half or a quarter
--- turn, as the x axis stays, points back or points aside; where it comes to point down the part is flipped; else it is rolled.
+-- What becomes of the part as its attitude changes. Where what points up stays up it is held as
+-- before, or makes a half or a quarter turn, as the x axis stays, points back or points aside;
+-- where it comes to point down the part is flipped; else it is rolled.
 abbrev pub kind_of_change : Matrix → Change
 kind_of_change m =
     if int_eq m.z.z (pos 1)

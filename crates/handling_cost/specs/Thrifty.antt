@@ -11,7 +11,8 @@ use Rattle.handling_cost.specs.StepCost.{IsActionAt, key_after}
 use Rattle.handling_cost.specs.Plan.{start}
 use Rattle.handling_cost.specs.Bound.{sum_of}
 
--- a row of this key and worth, by an action that has no note, leads to the key, and the action's sum is at most the row's worth
+-- a row of this key and worth, by an action that has no note, leads to the key, and the action's
+-- sum is at most the row's worth
 abbrev pub HasSourceIn :
     JobData → (Key → Worth → Type 0) → (Key → Action → Reason → Type 0) → Key → Type 0
 HasSourceIn job HasRow HasNote key =

@@ -3,9 +3,13 @@ use Rattle.std.specs.Prelude.{ℕ, List, [], ◌∷◌}
 use Rattle.allowance.specs.FaultNumbers.{allow_number}
 use Rattle.unfolder.specs.FaultNumbers.{unfold_numbers}
 use Rattle.job_setup.specs.declared.fault.JobFault.{JobFault}
-use Rattle.job_setup.specs.declared.fault.JobFault.TheVariants.{Allow, Unfold, UnknownTool, UnequalHeight, StageOverlap, OffBed, NoStage, StockShort, NoLoad, TwoLoads}
+use Rattle.job_setup.specs.declared.fault.JobFault.TheVariants.{Allow, Unfold, UnknownTool}
+use Rattle.job_setup.specs.declared.fault.JobFault.TheVariants.{UnequalHeight, StageOverlap, OffBed}
+use Rattle.job_setup.specs.declared.fault.JobFault.TheVariants.{NoStage, StockShort, NoLoad}
+use Rattle.job_setup.specs.declared.fault.JobFault.TheVariants.{TwoLoads}
 
--- the number of the refusal, and then its own numbers; those of the deduction or of the blank stand behind that of the job
+-- the number of the refusal, and then its own numbers; those of the deduction or of the blank stand
+-- behind that of the job
 abbrev pub job_numbers : JobFault → List ℕ
 job_numbers (Allow fault) = 1 ∷ allow_number fault ∷ []
 job_numbers (Unfold fault) = 2 ∷ unfold_numbers fault

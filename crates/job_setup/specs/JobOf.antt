@@ -86,7 +86,8 @@ pub data FileFault : Type 0 where
   machine_refused : MachineFault → FileFault
   job_refused : JobFault → FileFault
 
--- the job of three files, or the first refusal: of the part, of the tools, of the machine, of the job
+-- the job of three files, or the first refusal: of the part, of the tools, of the machine, of the
+-- job
 unfoldable pub job_of : List ℕ → List ℕ → List ℕ → Result JobData FileFault
 job_of part_bytes tools_bytes machine_bytes = do
   part ← refusing part_refused (part_of part_bytes)

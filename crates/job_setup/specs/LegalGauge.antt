@@ -1,5 +1,6 @@
 -- Where the two fingers of the backgauge may stand. Lengths are in micrometres.
-use Rattle.std.specs.Prelude.{◌≡◌, ◌⊎◌, ℕ, ◌<◌, ◌≤◌, ℤ, pos, negsuc, neg_ℤ, ◌+ℤ◌, ◌-ℤ◌, ◌≤ℤ◌, All, Any, List, length, slice_index_or}
+use Rattle.std.specs.Prelude.{◌≡◌, ◌⊎◌, ℕ, ◌<◌, ◌≤◌, ℤ, pos, negsuc, neg_ℤ, ◌+ℤ◌, ◌-ℤ◌, ◌≤ℤ◌, All}
+use Rattle.std.specs.Prelude.{Any, List, length, slice_index_or}
 use Rattle.brake_base.specs.declared.space.V3.{V3}
 use Rattle.brake_base.specs.declared.space.Box3.{Box3}
 use Rattle.brake_base.specs.declared.stroke.Half.TheVariants.{Back}

@@ -1,5 +1,7 @@
--- The load of a stage by the load table, and the refusals of a stage for which the table has no row, or two.
-use Rattle.std.specs.Prelude.{ℕ, ℤ, pos, List, length, find, count_by, position, Bool, ◌&&◌, nat_lt, nat_le, ◌==◌, bytes_eq, Option, Some, None, Result}
+-- The load of a stage by the load table, and the refusals of a stage for which the table has no
+-- row, or two.
+use Rattle.std.specs.Prelude.{ℕ, ℤ, pos, List, length, find, count_by, position, Bool, ◌&&◌, nat_lt}
+use Rattle.std.specs.Prelude.{nat_le, ◌==◌, bytes_eq, Option, Some, None, Result}
 use Rattle.std.specs.Ordering.{int_eq}
 use Rattle.toml_fields.specs.Results.{◌>>=◌, refuse_found}
 use Rattle.part_file.specs.Part.{PartData}

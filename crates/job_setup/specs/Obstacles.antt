@@ -1,6 +1,7 @@
--- What stands around the part at a stage: y runs to the back, z up from the punch's tip, at which the sheet's upper surface lies.
--- Lengths are in micrometres.
-use Rattle.std.specs.Prelude.{◌≡◌, ℕ, ℤ, pos, ◌≤ℤ◌, ◌+ℤ◌, ◌-ℤ◌, neg_ℤ, int_le, int_div, Bool, ◌&&◌, ◌||◌, List, [], ◌∷◌, ◌++◌, map, flat_map, Option, Some, None}
+-- What stands around the part at a stage: y runs to the back, z up from the punch's tip, at which
+-- the sheet's upper surface lies. Lengths are in micrometres.
+use Rattle.std.specs.Prelude.{◌≡◌, ℕ, ℤ, pos, ◌≤ℤ◌, ◌+ℤ◌, ◌-ℤ◌, neg_ℤ, int_le, int_div, Bool, ◌&&◌}
+use Rattle.std.specs.Prelude.{◌||◌, List, [], ◌∷◌, ◌++◌, map, flat_map, Option, Some, None}
 use Rattle.std.specs.List.{enumerate_from}
 use Rattle.brake_base.specs.declared.plane.Rect.{Rect}
 use Rattle.machine_file.specs.declared.machine.Fixed.{Fixed}
@@ -20,13 +21,15 @@ raised_box by box = record { x0 = box.x0; x1 = box.x1; rect = raised by box.rect
 abbrev pub along_stage : StageData → Rect → Fixed
 along_stage stage profile = record { x0 = stage.x0; x1 = stage.x1; rect = profile }
 
--- The beam and the punches: the machine's boxes on top of the punches, which are equally high, then those of each stage's punch.
+-- The beam and the punches: the machine's boxes on top of the punches, which are equally high, then
+-- those of each stage's punch.
 abbrev pub upper_boxes : JobData → List Fixed
 upper_boxes job =
     map (raised_box (stage_of job 0).punch.height) job.setup.upper
     ++ flat_map (λ stage. map (along_stage stage) stage.punch.body) job.setup.stages
 
--- The bed and the dies, where the dies' upper edges lie at z = 0: the machine's boxes under the dies, then those of each stage's die.
+-- The bed and the dies, where the dies' upper edges lie at z = 0: the machine's boxes under the
+-- dies, then those of each stage's die.
 abbrev pub lower_boxes : JobData → List Fixed
 lower_boxes job =
     map (raised_box (neg_ℤ (stage_of job 0).die.height)) job.setup.lower
@@ -36,13 +39,15 @@ lower_boxes job =
 abbrev pub half_opening : StageData → ℤ
 half_opening stage = int_div stage.die.v (pos 2)
 
--- A lower box that the rising sheet can't meet: not above the die's edges, and behind, before, or as deep as half the opening.
+-- A lower box that the rising sheet can't meet: not above the die's edges, and behind, before, or
+-- as deep as half the opening.
 abbrev pub is_sunk : ℤ → Rect → Bool
 is_sunk half r =
     int_le r.z1 (pos 0)
     && ((int_le half r.y0 || int_le r.y1 (neg_ℤ half)) || int_le r.z1 (neg_ℤ half))
 
--- where a lower box stands while the sheet is bent: below the sheet's thickness to begin with, and risen by at most half the opening
+-- where a lower box stands while the sheet is bent: below the sheet's thickness to begin with, and
+-- risen by at most half the opening
 abbrev pub swept_rect : ℤ → ℤ → Rect → Rect
 swept_rect thickness half r = record {
   y0 = r.y0;

@@ -1,11 +1,13 @@
 -- The stages of a setup beside one another.
-use Rattle.std.specs.Prelude.{ℕ, ◌==◌, ℤ, pos, int_lt, int_le, List, map, length, position, find, slice_index_or, Bool, not, ◌&&◌, Option, Some, None, Result, Ok, Err}
+use Rattle.std.specs.Prelude.{ℕ, ◌==◌, ℤ, pos, int_lt, int_le, List, map, length, position, find}
+use Rattle.std.specs.Prelude.{slice_index_or, Bool, not, ◌&&◌, Option, Some, None, Result, Ok, Err}
 use Rattle.std.specs.Ordering.{int_eq}
 use Rattle.std.specs.Int.{int_min, int_max}
 use Rattle.toml_fields.specs.Results.{◌>>=◌, refuse_first, refuse_found, refuse_if}
 use Rattle.unfolder.specs.Blank.{pairs_below}
 use Rattle.job_setup.specs.declared.fault.JobFault.{JobFault}
-use Rattle.job_setup.specs.declared.fault.JobFault.TheVariants.{UnequalHeight, StageOverlap, OffBed, NoStage}
+use Rattle.job_setup.specs.declared.fault.JobFault.TheVariants.{UnequalHeight, StageOverlap, OffBed}
+use Rattle.job_setup.specs.declared.fault.JobFault.TheVariants.{NoStage}
 use Rattle.job_setup.specs.Setup.{StageData}
 
 -- how high the punch and the die of a stage are
@@ -44,8 +46,8 @@ abbrev pub refuse_pair : Option (ℕ × ℕ) → Result (Unit {0}) JobFault
 refuse_pair None = Ok tt
 refuse_pair (Some pair) = Err (StageOverlap pair.0 pair.1)
 
--- the first stage with other heights than stage 0, then the first pair in order of its first and then its second that overlaps,
--- then the first stage off the bed, and then that there is no stage
+-- the first stage with other heights than stage 0, then the first pair in order of its first and
+-- then its second that overlaps, then the first stage off the bed, and then that there is no stage
 unfoldable pub places_fit : ℤ × ℤ → List StageData → Result (Unit {0}) JobFault
 places_fit bed stages = do
   level ← refuse_first (differs_from_first stages) (length stages) UnequalHeight

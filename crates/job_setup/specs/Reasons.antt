@@ -1,6 +1,9 @@
--- Why a stroke is refused at a stage. Lengths are in micrometres, loads and limits in newtons per millimetre, forces in newtons.
--- A stroke is given by the bends that are folded before it, the group that it folds, the side at the back, and the stage.
-use Rattle.std.specs.Prelude.{◌≡◌, ◌≢◌, ℕ, ◌<◌, ℤ, pos, neg_ℤ, ◌+ℤ◌, ◌-ℤ◌, ◌*ℤ◌, int_lt, int_le, unsigned_abs, Bool, true, false, not, ◌&&◌, ◌||◌, IsTrue, List, fold, map, length, Any, Option, Some, None, IsSomeAnd}
+-- Why a stroke is refused at a stage. Lengths are in micrometres, loads and limits in newtons per
+-- millimetre, forces in newtons. A stroke is given by the bends that are folded before it, the
+-- group that it folds, the side at the back, and the stage.
+use Rattle.std.specs.Prelude.{◌≡◌, ◌≢◌, ℕ, ◌<◌, ℤ, pos, neg_ℤ, ◌+ℤ◌, ◌-ℤ◌, ◌*ℤ◌, int_lt, int_le}
+use Rattle.std.specs.Prelude.{unsigned_abs, Bool, true, false, not, ◌&&◌, ◌||◌, IsTrue, List, fold}
+use Rattle.std.specs.Prelude.{map, length, Any, Option, Some, None, IsSomeAnd}
 use Rattle.std.specs.Ordering.{int_eq}
 use Rattle.std.specs.List.{list_any}
 use Rattle.brake_base.specs.declared.plane.Rect.{Rect}
@@ -13,7 +16,8 @@ use Rattle.brake_base.specs.declared.stroke.Back.TheVariants.{Parent, Child}
 use Rattle.brake_base.specs.declared.stroke.Half.{Half}
 use Rattle.brake_base.specs.declared.stroke.Half.TheVariants.{Back as BackHalf, Front as FrontHalf}
 use Rattle.brake_base.specs.declared.reason.Reason.{Reason}
-use Rattle.brake_base.specs.declared.reason.Reason.TheVariants.{Cover, Rest, Frame, Upper, Nose, Lower, SelfHit, NoGauge, Load}
+use Rattle.brake_base.specs.declared.reason.Reason.TheVariants.{Cover, Rest, Frame, Upper, Nose}
+use Rattle.brake_base.specs.declared.reason.Reason.TheVariants.{Lower, SelfHit, NoGauge, Load}
 use Rattle.brake_base.specs.Masks.{has}
 use Rattle.brake_base.specs.Reasons.{ReasonIsBefore}
 use Rattle.part_file.specs.declared.part.Side.{Side}
@@ -30,7 +34,8 @@ use Rattle.sector_geom.specs.Covers.{cover_of}
 use Rattle.sector_geom.specs.Clear.{IsClearOfNose}
 use Rattle.sector_geom.specs.Free.{IsFree}
 use Rattle.job_setup.specs.declared.obstacle.Group.{Group}
-use Rattle.job_setup.specs.declared.obstacle.Group.TheVariants.{Upper as UpperGroup, Lower as LowerGroup}
+use Rattle.job_setup.specs.declared.obstacle.Group.TheVariants.{Upper as UpperGroup}
+use Rattle.job_setup.specs.declared.obstacle.Group.TheVariants.{Lower as LowerGroup}
 use Rattle.job_setup.specs.declared.obstacle.Obstacle.{Obstacle}
 use Rattle.job_setup.specs.Setup.{StageData, JobData, shape_of}
 use Rattle.job_setup.specs.StageOf.{stage_of}
@@ -45,19 +50,22 @@ core_depth shape E f = core_width shape f
 core_depth shape S f = core_length shape f
 core_depth shape W f = core_width shape f
 
--- how far the core of the parent, or of the child, reaches away from the line of bend b; a child is joined at its side S
+-- how far the core of the parent, or of the child, reaches away from the line of bend b; a child is
+-- joined at its side S
 abbrev pub reach : ShapeData → Back → ℕ → ℤ
 reach shape Parent b =
     let joint = joint_of shape.part.faces b in core_depth shape joint.side joint.on
 reach shape Child b = core_depth shape S b
 
--- Cover: the span of the group is longer than the stage and what it may leave uncovered at either end
+-- Cover: the span of the group is longer than the stage and what it may leave uncovered at either
+-- end
 abbrev pub is_uncovered : JobData → (ℕ → Bool) → StageData → Bool
 is_uncovered job group stage =
     let range = span (shape_of job) group in
     int_lt ((stage.x1 -ℤ stage.x0) +ℤ pos 2 *ℤ job.setup.uncovered) (range.1 -ℤ range.0)
 
--- Rest: on the side of the parent, or on that of the child, a core at a line of the group is shorter than the die's least flange
+-- Rest: on the side of the parent, or on that of the child, a core at a line of the group is
+-- shorter than the die's least flange
 abbrev pub lacks_rest : JobData → (ℕ → Bool) → Back → StageData → Bool
 lacks_rest job group side stage =
     list_any (λ b. int_lt (reach (shape_of job) side b) stage.die.least_flange)
@@ -79,8 +87,9 @@ side_in FrontHalf Child = Parent
 abbrev pub lines_total : ShapeData → (ℕ → Bool) → ℤ
 lines_total shape group = fold ◌+ℤ◌ (pos 0) (map (line_length shape) (members shape group))
 
--- Load: the stage has a load, which is above its limit, or needs more force over the group's lines than the machine has; a limit
--- or a force of 0 is none, and a length in micrometres is a thousandth of one in millimetres
+-- Load: the stage has a load, which is above its limit, or needs more force over the group's lines
+-- than the machine has; a limit or a force of 0 is none, and a length in micrometres is a
+-- thousandth of one in millimetres
 abbrev pub is_overloaded : JobData → (ℕ → Bool) → StageData → Bool
 is_overloaded job group stage =
     not (int_eq stage.load (pos 0))
@@ -99,7 +108,8 @@ across body = record { y0 = body.lo.y; y1 = body.hi.y; z0 = body.lo.z; z1 = body
 abbrev pub mirrored : Rect → Rect
 mirrored r = record { y0 = neg_ℤ r.y1; y1 = neg_ℤ r.y0; z0 = r.z0; z1 = r.z1 }
 
--- the front half, and what stands around it, are looked at mirrored, so that both halves turn upwards alike
+-- the front half, and what stands around it, are looked at mirrored, so that both halves turn
+-- upwards alike
 abbrev pub seen_from : Half → Rect → Rect
 seen_from BackHalf r = r
 seen_from FrontHalf r = mirrored r
@@ -152,7 +162,8 @@ pub record IsNoseHit (job : JobData) (box : PoseBox) (quarter : Quarter) (stage 
       IsSomeAnd (piece_at job box quarter)
       (λ piece. IsClearOfNose (cover_of quarter Eighth piece) stage.punch.nose → ⊥)
 
--- The piece of a box of the back half meets a box of the front half, which isn't mirrored, while the one turns against the other.
+-- The piece of a box of the back half meets a box of the front half, which isn't mirrored, while
+-- the one turns against the other.
 pub record IsSelfHit (job : JobData) (box : PoseBox) (quarter : Quarter) (other : PoseBox)
     : Type 0 where
   pub back : box.half ≡ BackHalf

@@ -9,7 +9,8 @@ use Rattle.machine_file.specs.declared.machine.Costs.{Costs}
 use Rattle.job_setup.specs.declared.setup.Stage.{Stage}
 use Rattle.job_setup.specs.declared.setup.Setup.{Setup}
 
--- a stage: its tools, where it stands on the bed, the lengths of its pieces, its load and its limit in newtons per millimetre
+-- a stage: its tools, where it stands on the bed, the lengths of its pieces, its load and its limit
+-- in newtons per millimetre
 pub record StageData : Type 0 where
   pub punch : PunchData
   pub die : DieData
@@ -19,8 +20,8 @@ pub record StageData : Type 0 where
   pub load : ℤ
   pub limit : ℤ
 
--- a machine with its stages: costs are in tenths of a second, the force in newtons; `fine` is how often in a row a piece of the
--- part may be halved
+-- a machine with its stages: costs are in tenths of a second, the force in newtons; `fine` is how
+-- often in a row a piece of the part may be halved
 pub record SetupData : Type 0 where
   pub bed : ℤ × ℤ
   pub frames : List (ℤ × ℤ)

@@ -1,5 +1,6 @@
 -- The stages of a machine with the tools of their names.
-use Rattle.std.specs.Prelude.{ℕ, ℤ, pos, ◌+ℤ◌, List, [], fold, find, bytes_eq, Option, Result, Ok, ok_or, if◌then◌else◌}
+use Rattle.std.specs.Prelude.{ℕ, ℤ, pos, ◌+ℤ◌, List, [], fold, find, bytes_eq, Option, Result, Ok}
+use Rattle.std.specs.Prelude.{ok_or, if◌then◌else◌}
 use Rattle.std.specs.Ordering.{int_eq}
 use Rattle.std.specs.Int.{int_min}
 use Rattle.toml_fields.specs.Results.{◌>>=◌}

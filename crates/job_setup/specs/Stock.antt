@@ -1,5 +1,6 @@
 -- What the stages use of the shop's stock of tool pieces.
-use Rattle.std.specs.Prelude.{ℕ, ◌+◌, ℤ, List, [], length, take, sum_by, count_by, Bool, ◌||◌, nat_lt, bytes_eq, Option, Some, None, Result, if◌then◌else◌}
+use Rattle.std.specs.Prelude.{ℕ, ◌+◌, ℤ, List, [], length, take, sum_by, count_by, Bool, ◌||◌}
+use Rattle.std.specs.Prelude.{nat_lt, bytes_eq, Option, Some, None, Result, if◌then◌else◌}
 use Rattle.std.specs.List.{list_any}
 use Rattle.std.specs.Ordering.{int_eq}
 use Rattle.toml_fields.specs.Results.{refuse_first}
@@ -63,7 +64,8 @@ abbrev pub is_kind_short : ToolsData → List StageTextData → ToolKind → Boo
 is_kind_short tools stages kind =
     list_any (λ stage. is_tool_short tools stages kind (tool_name kind stage)) stages
 
--- some piece length has been used by stages 0 to i, with one punch or one die, more often than that tool's sections hold
+-- some piece length has been used by stages 0 to i, with one punch or one die, more often than that
+-- tool's sections hold
 unfoldable pub is_short : ToolsData → List StageTextData → ℕ → Bool
 is_short tools stages i =
     is_kind_short tools (take (i + 1) stages) Punch || is_kind_short tools (take (i + 1) stages) Die

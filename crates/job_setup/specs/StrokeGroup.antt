@@ -7,8 +7,8 @@ use Rattle.unfolder.specs.Blank.{bend_numbers}
 use Rattle.fold_boxes.specs.Groups.{is_mate}
 use Rattle.job_setup.specs.Setup.{JobData, shape_of}
 
--- Bend c is in the group of bend b where the bends of a set are folded: without gangs it is b itself, with gangs a mate
--- of b that isn't folded.
+-- Bend c is in the group of bend b where the bends of a set are folded: without gangs it is b
+-- itself, with gangs a mate of b that isn't folded.
 abbrev pub in_group : JobData → (ℕ → Bool) → ℕ → ℕ → Bool
 in_group job folded b c =
     if job.setup.gang then is_mate (shape_of job) b c && not (folded c) else (c == b)
@@ -17,7 +17,8 @@ in_group job folded b c =
 unfoldable pub group_of : JobData → Mask → ℕ → Mask
 group_of job mask bend = mask_of (in_group job (has mask) bend)
 
--- the bend is the lead of a stroke where the bends of the mask are folded: it isn't folded, and no lesser bend is in its group
+-- the bend is the lead of a stroke where the bends of the mask are folded: it isn't folded, and no
+-- lesser bend is in its group
 unfoldable pub is_lead : JobData → Mask → ℕ → Bool
 is_lead job mask b =
     not (has mask b)

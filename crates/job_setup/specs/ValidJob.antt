@@ -1,13 +1,16 @@
 -- What makes a job valid.
-use Rattle.std.specs.Prelude.{◌≡◌, ◌<◌, ◌≤◌, ℤ, pos, neg_ℤ, ◌+ℤ◌, ◌≤ℤ◌, [], length, All, Option, Some, None, Ok, IsOk}
+use Rattle.std.specs.Prelude.{◌≡◌, ◌<◌, ◌≤◌, ℤ, pos, neg_ℤ, ◌+ℤ◌, ◌≤ℤ◌, [], length, All, Option}
+use Rattle.std.specs.Prelude.{Some, None, Ok, IsOk}
 use Rattle.part_file.specs.Part.{IsPart, half_thickness}
 use Rattle.unfolder.specs.Blank.{blank_of_part}
 use Rattle.allowance.specs.Bounds.{greatest_half_deduction}
 use Rattle.tool_library.specs.Bounds.{greatest_load}
 use Rattle.tool_library.specs.Tools.{IsPunch, IsDie, IsLimit}
 use Rattle.toml_fields.specs.Ranges.{IsWithin}
-use Rattle.machine_file.specs.Bounds.{most_frames, most_fixed_boxes, most_stages, most_pieces, greatest_uncovered, greatest_force}
-use Rattle.machine_file.specs.Machine.{coordinate_limit, IsBedRange, IsFixed, IsGaugeRule, IsCosts, IsPiece}
+use Rattle.machine_file.specs.Bounds.{most_frames, most_fixed_boxes, most_stages, most_pieces}
+use Rattle.machine_file.specs.Bounds.{greatest_uncovered, greatest_force, greatest_fine}
+use Rattle.machine_file.specs.Machine.{coordinate_limit, IsBedRange, IsFixed, IsGaugeRule, IsCosts}
+use Rattle.machine_file.specs.Machine.{IsPiece}
 use Rattle.job_setup.specs.Setup.{StageData, SetupData, JobData}
 use Rattle.job_setup.specs.Stages.{total}
 use Rattle.job_setup.specs.Places.{places_fit}
@@ -48,7 +51,7 @@ pub record HasRules (s : SetupData) : Type 0 where
   pub cost : IsCosts s.cost
   pub uncovered : IsWithin (pos 0) greatest_uncovered s.uncovered
   pub force : IsWithin (pos 0) greatest_force s.force
-  pub fine : s.fine ≤ 12
+  pub fine : s.fine ≤ greatest_fine
 
 -- its stages, each by itself and beside one another
 pub record HasStages (s : SetupData) : Type 0 where
@@ -62,7 +65,8 @@ pub record IsSetup (s : SetupData) : Type 0 where
   pub rules : HasRules s
   pub stages : HasStages s
 
--- the part unfolds with its half deduction, which is at least half of the thickness, and the setup is valid
+-- the part unfolds with its half deduction, which is at least half of the thickness, and the setup
+-- is valid
 pub record IsJob (j : JobData) : Type 0 where
   pub part : IsPart j.part
   pub q_low : half_thickness j.part ≤ℤ j.q

@@ -94,7 +94,7 @@ fn first_with_two_loads(part: &Part, loads: &[LoadRow], stages: &[Stage]) -> Opt
 /// Refuses the first stage for which the table, which isn't empty, has no row, and then the first
 /// for which it has two.
 #[tactic(auto, using(crate::proofs::Lists::seen), unfolding(crate::specs::Loads::loads_fit))]
-pub(crate) fn check_loads(part: &Part, loads: &[LoadRow], stages: &[Stage]) -> Result<(), JobFault>
+pub fn check_loads(part: &Part, loads: &[LoadRow], stages: &[Stage]) -> Result<(), JobFault>
     requires { length stages.now ≤ 6 }
     ensures { result ≡ loads_fit (part_data part.now) (map load_data loads.now)
         (map stage_data stages.now) }

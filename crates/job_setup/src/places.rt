@@ -93,7 +93,7 @@ fn first_off_bed(bed: &(i64, i64), stages: &[Stage]) -> Option<usize>
 /// Refuses the first stage that isn't as high as stage 0, then the first two stages that overlap,
 /// then the first stage off the bed, and then that there is no stage.
 #[tactic(auto, using(crate::proofs::Lists::seen), unfolding(crate::specs::Places::places_fit))]
-pub(crate) fn check_places(bed: &(i64, i64), stages: &[Stage]) -> Result<(), JobFault>
+pub fn check_places(bed: &(i64, i64), stages: &[Stage]) -> Result<(), JobFault>
     requires { length stages.now ≤ 6 }
     ensures { result ≡ places_fit bed.now (map stage_data stages.now) }
 {

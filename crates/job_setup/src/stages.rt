@@ -146,7 +146,7 @@ fn stage_of_text(part: &Part, tools: &Tools, stage: u8, text: &StageText) -> Res
 }
 
 /// The stages with the tools of their names.
-pub(crate) fn stages_of(
+pub fn stages_of(
     part: &Part,
     tools: &Tools,
     texts: &[StageText],

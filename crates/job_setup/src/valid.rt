@@ -18,7 +18,8 @@ use crate::setup::{Setup, Stage};
 use crate::stages::total;
 use allowance::GREATEST_HALF_DEDUCTION;
 use machine_file::bounds::{
-    COORDINATE_LIMIT, GREATEST_FORCE, GREATEST_PIECE, GREATEST_UNCOVERED, LEAST_PIECE,
+    COORDINATE_LIMIT, GREATEST_FINE, GREATEST_FORCE, GREATEST_PIECE, GREATEST_UNCOVERED,
+    LEAST_PIECE,
 };
 use machine_file::{Fixed, are_within, is_bed_range};
 use part_file::Part;
@@ -116,11 +117,11 @@ fn are_fixtures(setup: &Setup) -> bool
 fn are_limits(setup: &Setup) -> bool
     ensures { IsTrue result
         ↔ (IsWithin (pos 0) GREATEST_UNCOVERED setup.now.uncovered
-        × IsWithin (pos 0) GREATEST_FORCE setup.now.force × (setup.now.fine ≤ 12)) }
+        × IsWithin (pos 0) GREATEST_FORCE setup.now.force × (setup.now.fine ≤ GREATEST_FINE)) }
 {
     is_within(setup.uncovered, 0, GREATEST_UNCOVERED)
         && is_within(setup.force, 0, GREATEST_FORCE)
-        && setup.fine <= 12
+        && setup.fine <= GREATEST_FINE
 }
 
 /// Whether the bed, the backgauge and the machine's numbers are in range.

@@ -10,7 +10,7 @@ use Rattle.toml_fields.specs.Ranges.{IsWithin}
 use Rattle.toml_fields.specs.Results.{each_from, refuse_if}
 use Rattle.toml_fields.proofs.Bind.{bind_ok, ok_same, ok_or_ok, refused_not, checked_is_name, checked_is_within}
 use Rattle.machine_file.specs.declared.fault.MachineFault.TheVariants.{BadField, UnknownKey, TooMany, BadBox}
-use Rattle.machine_file.specs.Bounds.{most_frames, most_fixed_boxes, most_stages, most_pieces, least_piece, greatest_piece, greatest_uncovered, greatest_force}
+use Rattle.machine_file.specs.Bounds.{most_frames, most_fixed_boxes, most_stages, most_pieces, least_piece, greatest_piece, greatest_uncovered, greatest_force, greatest_fine}
 use Rattle.machine_file.specs.Machine.{StageTextData, FixturesData, MachineData, coordinate_limit, IsBedRange, IsFixed, IsPiece, IsStageText, IsMachine}
 use Rattle.machine_file.specs.MachineFile.{bed_range_of, frame_of, fixed_between, gauge_of, costs_of, piece_of, pieces_at, piece_in, stage_text_of, stage_text_in, ends_in, rows_in, uncovered_in, table_in, stages_in, gang_in, force_in, fine_in, fixtures_of, too_many, machine_of_members}
 use Rattle.machine_file.proofs.Fit.{each_all, each_length, then_some, range_is, frame_is, box_is, gauge_is, costs_are}
@@ -136,14 +136,14 @@ few (pos n) within = omega (arith, ints, within.top)
 few (negsuc n) within = absurd (omega (arith, ints, within.bottom))
 
 -- how often a piece may be halved is at most 12
-fine_is : (ms : Members) (n : ℕ) → fine_in ms ≡ Ok n → n ≤ 12
-fine_is ms n given = by_read (integer_or (pos 0) (pos 0) (pos 12) (codes "fine") ms) refl (ok_or_ok (option_map unsigned_abs (integer_or (pos 0) (pos 0) (pos 12) (codes "fine") ms)) (BadField 0 29) n given)
+fine_is : (ms : Members) (n : ℕ) → fine_in ms ≡ Ok n → n ≤ greatest_fine
+fine_is ms n given = by_read (integer_or (pos 0) (pos 0) (pos greatest_fine) (codes "fine") ms) refl (ok_or_ok (option_map unsigned_abs (integer_or (pos 0) (pos 0) (pos greatest_fine) (codes "fine") ms)) (BadField 0 29) n given)
   where
-    by_read : (read : Option ℤ) → integer_or (pos 0) (pos 0) (pos 12) (codes "fine") ms ≡ read → option_map unsigned_abs read ≡ Some n → n ≤ 12
+    by_read : (read : Option ℤ) → integer_or (pos 0) (pos 0) (pos greatest_fine) (codes "fine") ms ≡ read → option_map unsigned_abs read ≡ Some n → n ≤ greatest_fine
     by_read None is found = absurd (cc)
     by_read (Some z) is found =
         let same : unsigned_abs z ≡ n = cc in
-        let within = or_is (pos 0) (pos 0) (pos 12) (codes "fine") ms z (record { bottom = record { le = tt }; top = record { le = tt } }) is in
+        let within = or_is (pos 0) (pos 0) (pos greatest_fine) (codes "fine") ms z (record { bottom = record { le = tt }; top = record { le = tt } }) is in
         subst (λ (k : ℕ). k ≤ 12) same (few z within)
 
 pub table_fits : (ms : Members) (m : MachineData) → machine_of_members ms ≡ Ok m → IsMachine m

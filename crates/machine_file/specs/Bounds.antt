@@ -1,5 +1,6 @@
--- The ends of the ranges of a machine file, as docs/formats.md states them; lengths are in micrometres. The code has
--- constants of its own, and its contracts tie each of them to its number here.
+-- The ends of the ranges of a machine file, as docs/formats.md states them; lengths are in
+-- micrometres. The code has constants of its own, and its contracts tie each of them to its number
+-- here.
 use Rattle.std.specs.Prelude.{ℕ, ℤ, pos}
 
 -- the greatest distance of a coordinate from 0: 20 m
@@ -48,3 +49,7 @@ greatest_cost = 1000000
 -- the greatest limit of the force, in newtons; the least is 0, which stands for no limit
 abbrev pub greatest_force : ℤ
 greatest_force = pos 100000000
+
+-- the greatest number of times that a piece of the part may be halved in a row
+abbrev pub greatest_fine : ℕ
+greatest_fine = 12

@@ -1,7 +1,9 @@
 -- The numbers of a refusal of the machine file.
 use Rattle.std.specs.Prelude.{ℕ, List, [], ◌∷◌}
 use Rattle.machine_file.specs.declared.fault.MachineFault.{MachineFault}
-use Rattle.machine_file.specs.declared.fault.MachineFault.TheVariants.{NotToml, BadField, UnknownKey, TooMany, BadBox, NoMemory}
+use Rattle.machine_file.specs.declared.fault.MachineFault.TheVariants.{NotToml, BadField}
+use Rattle.machine_file.specs.declared.fault.MachineFault.TheVariants.{UnknownKey, TooMany, BadBox}
+use Rattle.machine_file.specs.declared.fault.MachineFault.TheVariants.{NoMemory}
 
 -- the number of the refusal, and then its own numbers
 abbrev pub machine_numbers : MachineFault → List ℕ

@@ -3,7 +3,10 @@ use Rattle.std.specs.Prelude.{ℕ, ◌<◌, ◌≤◌, ℤ, pos, neg_ℤ, List, 
 use Rattle.toml_fields.specs.Fields.{is_name}
 use Rattle.toml_fields.specs.Ranges.{IsWithin, IsRange}
 pub use Rattle.machine_file.specs.Bounds.{coordinate_limit}
-use Rattle.machine_file.specs.Bounds.{most_frames, most_fixed_boxes, most_stages, most_pieces, least_piece, greatest_piece, greatest_uncovered, greatest_gauge_length, least_finger, greatest_cost, greatest_force}
+use Rattle.machine_file.specs.Bounds.{most_frames, most_fixed_boxes, most_stages, most_pieces}
+use Rattle.machine_file.specs.Bounds.{least_piece, greatest_piece, greatest_uncovered}
+use Rattle.machine_file.specs.Bounds.{greatest_gauge_length, least_finger, greatest_cost, greatest_fine}
+use Rattle.machine_file.specs.Bounds.{greatest_force}
 use Rattle.machine_file.specs.declared.machine.Fixed.{Fixed}
 use Rattle.machine_file.specs.declared.machine.GaugeRule.{GaugeRule}
 use Rattle.machine_file.specs.declared.machine.Costs.{Costs}
@@ -18,15 +21,17 @@ pub record StageTextData : Type 0 where
   pub at : ℤ
   pub pieces : List ℤ
 
--- what is fixed on a machine: the range of its bed, those of its side frames, and the boxes above and below the bed
+-- what is fixed on a machine: the range of its bed, those of its side frames, and the boxes above
+-- and below the bed
 pub record FixturesData : Type 0 where
   pub bed : ℤ × ℤ
   pub frames : List (ℤ × ℤ)
   pub upper : List Fixed
   pub lower : List Fixed
 
--- a machine: lengths are in micrometres, costs in tenths of a second, the force in newtons; `uncovered` is how much of a bend
--- line may stay uncovered at each end; `fine` is how often in a row a piece of the part may be halved
+-- a machine: lengths are in micrometres, costs in tenths of a second, the force in newtons;
+-- `uncovered` is how much of a bend line may stay uncovered at each end; `fine` is how often in a
+-- row a piece of the part may be halved
 pub record MachineData : Type 0 where
   pub bed : ℤ × ℤ
   pub frames : List (ℤ × ℤ)
@@ -41,10 +46,12 @@ pub record MachineData : Type 0 where
   pub fine : ℕ
 
 abbrev pub stage_text_data : StageText → StageTextData
-stage_text_data s = record { punch = s.punch.bytes; die = s.die.bytes; at = s.at; pieces = s.pieces.items }
+stage_text_data s =
+    record { punch = s.punch.bytes; die = s.die.bytes; at = s.at; pieces = s.pieces.items }
 
 abbrev pub fixtures_data : Fixtures → FixturesData
-fixtures_data f = record { bed = f.bed; frames = f.frames.items; upper = f.upper.items; lower = f.lower.items }
+fixtures_data f =
+    record { bed = f.bed; frames = f.frames.items; upper = f.upper.items; lower = f.lower.items }
 
 abbrev pub machine_data : Machine → MachineData
 machine_data m = record {
@@ -131,4 +138,4 @@ pub record IsMachine (m : MachineData) : Type 0 where
   pub stages : All IsStageText m.stages
   pub few_stages : length m.stages ≤ most_stages
   pub force : IsWithin (pos 0) greatest_force m.force
-  pub fine : m.fine ≤ 12
+  pub fine : m.fine ≤ greatest_fine

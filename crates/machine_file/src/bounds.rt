@@ -36,3 +36,6 @@ pub const GREATEST_COST: u64 = 1_000_000;
 
 /// The greatest limit of the force, in newtons; the least is 0, which stands for no limit.
 pub const GREATEST_FORCE: i64 = 100_000_000;
+
+/// The greatest number of times that a piece of the part may be halved in a row.
+pub const GREATEST_FINE: u8 = 12;

@@ -5,7 +5,9 @@ ghost use Rattle.toml_fields.specs.Results.{Gives, GivesOr};
 ghost use Rattle.machine_file.specs.Machine.{machine_data, IsMachine};
 ghost use Rattle.machine_file.specs.MachineFile.{ends_in, rows_in, uncovered_in, table_in, stages_in, gang_in, force_in, fine_in, too_many, machine_of, machine_of_members};
 
-use crate::bounds::{GREATEST_FORCE, GREATEST_UNCOVERED, MOST_BOXES, MOST_FRAMES, MOST_STAGES};
+use crate::bounds::{
+    GREATEST_FINE, GREATEST_FORCE, GREATEST_UNCOVERED, MOST_BOXES, MOST_FRAMES, MOST_STAGES,
+};
 use crate::boxes::{bad_field, fixtures_of};
 use crate::fault::MachineFault;
 use crate::machine::Machine;
@@ -96,7 +98,7 @@ fn force_in(table: &Table) -> Result<i64, MachineFault>
 fn fine_in(table: &Table) -> Result<u8, MachineFault>
     ensures value { result ≡ fine_in (table_view table.now) }
 {
-    match integer_or(table, "fine", 0, 0, 12) {
+    match integer_or(table, "fine", 0, 0, i64::from(GREATEST_FINE)) {
         Some(fine) => Ok(fine as u8),
         None => Err(bad_field(0, 29)),
     }

@@ -1,5 +1,6 @@
--- The ends of the ranges of a part file, as docs/formats.md states them; lengths are in micrometres. The code has
--- constants of its own, and its contracts tie each of them to its number here.
+-- The ends of the ranges of a part file, as docs/formats.md states them; lengths are in
+-- micrometres. The code has constants of its own, and its contracts tie each of them to its number
+-- here.
 use Rattle.std.specs.Prelude.{ℕ, ℤ, pos}
 
 -- of the thickness of the sheet

@@ -1,7 +1,9 @@
 -- The numbers of a refusal of the part file.
 use Rattle.std.specs.Prelude.{ℕ, List, [], ◌∷◌}
 use Rattle.part_file.specs.declared.fault.PartFault.{PartFault}
-use Rattle.part_file.specs.declared.fault.PartFault.TheVariants.{NotToml, BadField, UnknownKey, TooMany, BadSize, UnknownParent, OddThickness, SameName, NoMemory}
+use Rattle.part_file.specs.declared.fault.PartFault.TheVariants.{NotToml, BadField, UnknownKey}
+use Rattle.part_file.specs.declared.fault.PartFault.TheVariants.{TooMany, BadSize, UnknownParent}
+use Rattle.part_file.specs.declared.fault.PartFault.TheVariants.{OddThickness, SameName, NoMemory}
 
 -- the number of the refusal, and then its own numbers
 abbrev pub part_numbers : PartFault → List ℕ

@@ -1,10 +1,13 @@
 -- A part as its numbers, lists and texts, and the rules that each part that is read meets.
-use Rattle.std.specs.Prelude.{◌≡◌, ◌≢◌, ℕ, ◌<◌, ◌≤◌, ℤ, pos, neg_ℤ, ◌+ℤ◌, ◌≤ℤ◌, int_div, unsigned_abs, ◌%◌, ◌==◌, List, [], ◌∷◌, length, map, Bool, true, false, not, ◌&&◌, ◌||◌, Option, Some, None, IsTrue, AllPairs}
+use Rattle.std.specs.Prelude.{◌≡◌, ◌≢◌, ℕ, ◌<◌, ◌≤◌, ℤ, pos, neg_ℤ, ◌+ℤ◌, ◌≤ℤ◌, int_div}
+use Rattle.std.specs.Prelude.{unsigned_abs, ◌%◌, ◌==◌, List, [], ◌∷◌, length, map, Bool, true}
+use Rattle.std.specs.Prelude.{false, not, ◌&&◌, ◌||◌, Option, Some, None, IsTrue, AllPairs}
 use Rattle.std.specs.List.{list_any, slice_index_or}
 use Rattle.brake_base.specs.declared.space.V3.{V3}
 use Rattle.toml_fields.specs.Fields.{is_name}
 use Rattle.toml_fields.specs.Ranges.{IsWithin}
-use Rattle.part_file.specs.Bounds.{least_thickness, greatest_thickness, least_radius, greatest_radius, least_size, greatest_size, most_faces}
+use Rattle.part_file.specs.Bounds.{least_thickness, greatest_thickness, least_radius}
+use Rattle.part_file.specs.Bounds.{greatest_radius, least_size, greatest_size, most_faces}
 use Rattle.part_file.specs.declared.part.Side.{Side}
 use Rattle.part_file.specs.declared.part.Side.TheVariants.{N, E, S, W}
 use Rattle.part_file.specs.declared.part.Joint.{Joint}
@@ -29,7 +32,13 @@ abbrev pub face_data : Face → FaceData
 face_data f = record { name = f.name.bytes; width = f.width; length = f.length; joint = f.joint }
 
 abbrev pub part_data : Part → PartData
-part_data p = record { material = p.material.bytes; thickness = p.thickness; radius = p.radius; faces = map face_data p.faces.items }
+part_data p =
+    record {
+      material = p.material.bytes;
+      thickness = p.thickness;
+      radius = p.radius;
+      faces = map face_data p.faces.items;
+    }
 
 -- tau, half the thickness
 abbrev pub half_thickness : PartData → ℤ
@@ -89,18 +98,23 @@ is_joint_on f side (Some joint) = (joint.on == f) && same_side joint.side side
 
 -- some bend joins the face at that side; a face other than face 0 is joined at its own S side
 abbrev pub is_bent : List FaceData → ℕ → Side → Bool
-is_bent faces f side = (same_side S side && not (f == 0)) || list_any (λ face. is_joint_on f side face.joint) faces
+is_bent faces f side =
+    (same_side S side && not (f == 0)) || list_any (λ face. is_joint_on f side face.joint) faces
 
--- the face lies beyond the bend, seen from face 0: it is the bend's child, or its parent lies beyond
+-- the face lies beyond the bend, seen from face 0: it is the bend's child, or its parent lies
+-- beyond
 pub data IsBeyond (faces : List FaceData) (b : ℕ) : ℕ → Type 0 where
   child : (f : ℕ) → f ≡ b → IsBeyond faces b f
-  further : (f : ℕ) (joint : Joint) → joint_at faces f ≡ Some joint → IsBeyond faces b joint.on → IsBeyond faces b f
+  further : (f : ℕ) (joint : Joint) → joint_at faces f ≡ Some joint → IsBeyond faces b joint.on
+      → IsBeyond faces b f
 
 -- a walk from face to face over these bends, each from a child to its parent or back
 pub data IsWalk (faces : List FaceData) : ℕ → List ℕ → ℕ → Type 0 where
   stay : (f g : ℕ) → f ≡ g → IsWalk faces f [] g
-  inward : (f g : ℕ) (joint : Joint) (bends : List ℕ) → joint_at faces f ≡ Some joint → IsWalk faces joint.on bends g → IsWalk faces f (f ∷ bends) g
-  onward : (f g : ℕ) (joint : Joint) (bends : List ℕ) → joint_at faces f ≡ Some joint → IsWalk faces f bends g → IsWalk faces joint.on (f ∷ bends) g
+  inward : (f g : ℕ) (joint : Joint) (bends : List ℕ) → joint_at faces f ≡ Some joint
+      → IsWalk faces joint.on bends g → IsWalk faces f (f ∷ bends) g
+  onward : (f g : ℕ) (joint : Joint) (bends : List ℕ) → joint_at faces f ≡ Some joint
+      → IsWalk faces f bends g → IsWalk faces joint.on (f ∷ bends) g
 
 -- the path in the tree of faces from one to another: the walk that takes no bend twice
 pub record IsPath (faces : List FaceData) (from : ℕ) (bends : List ℕ) (to : ℕ) : Type 0 where
@@ -135,7 +149,8 @@ pub record HasSizes (face : FaceData) : Type 0 where
 pub record HasNewName (faces : List FaceData) (b : ℕ) : Type 0 where
   pub differs : (f : ℕ) → f < b → (face_at faces f).name ≢ (face_at faces b).name
 
--- a face of this width stands within the side of its parent, which isn't the S side of a face other than face 0
+-- a face of this width stands within the side of its parent, which isn't the S side of a face other
+-- than face 0
 pub record StandsWithin (parent : FaceData) (width : ℤ) (joint : Joint) : Type 0 where
   pub at_low : pos 0 ≤ℤ joint.at
   pub at_high : (joint.at +ℤ width) ≤ℤ side_length joint.side parent

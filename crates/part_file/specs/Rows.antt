@@ -22,4 +22,10 @@ abbrev pub joint_row_data : JointRow → JointRowData
 joint_row_data j = record { on = j.on.bytes; side = j.side; at = j.at; dir = j.dir }
 
 abbrev pub face_row_data : FaceRow → FaceRowData
-face_row_data f = record { name = f.name.bytes; width = f.width; length = f.length; joint = option_map joint_row_data f.joint }
+face_row_data f =
+    record {
+      name = f.name.bytes;
+      width = f.width;
+      length = f.length;
+      joint = option_map joint_row_data f.joint;
+    }

@@ -1,11 +1,13 @@
--- Numbers drawn from a number: the linear congruential generator of the C standard's example of `rand`, modulo 2^31.
+-- Numbers drawn from a number: the linear congruential generator of the C standard's example of
+-- `rand`, modulo 2^31.
 use Rattle.std.specs.Prelude.{ℕ, zero, suc, ◌+◌, ◌*◌, ◌/◌, ◌%◌}
 
 -- the state after another draw
 unfoldable pub next : ℕ → ℕ
 next x = (1103515245 * x + 12345) % 2147483648
 
--- what a draw at this state answers: one of the numbers below m, from the upper half of the next state
+-- what a draw at this state answers: one of the numbers below m, from the upper half of the next
+-- state
 unfoldable pub answer : ℕ → ℕ → ℕ
 answer x m = (next x / 65536) % m
 

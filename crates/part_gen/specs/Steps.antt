@@ -12,11 +12,13 @@ length_from x least m = pos (least + 1000 * answer x m)
 
 -- the first flange of a side, of this width
 abbrev pub first_from : ℕ → Side → ℤ → FaceData
-first_from x side width = first_face side width (length_from x 20000 11) (dir_of (answer (next x) 2))
+first_from x side width =
+    first_face side width (length_from x 20000 11) (dir_of (answer (next x) 2))
 
 -- the second flange of a side, of this width, as the face of this number
 abbrev pub second_from : ℕ → ℕ → Side → ℤ → FaceData
-second_from x number side width = second_face number side width (length_from x 15000 6) (dir_of (answer (next x) 2))
+second_from x number side width =
+    second_face number side width (length_from x 15000 6) (dir_of (answer (next x) 2))
 
 -- face 0 of these sizes and the first flange of each of its sides, whose draws follow one another
 abbrev pub first_faces : ℕ → ℤ → ℤ → List FaceData

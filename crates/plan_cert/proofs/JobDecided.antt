@@ -24,7 +24,7 @@ use Rattle.tool_library.specs.declared.bounds.TheConstants.{MOST_BOXES as MOST_B
 use Rattle.tool_library.specs.Tools.{PunchData, DieData, IsOpening, HasPunchSizes, HasDieSizes, HasLists, IsPunch, IsDie}
 use Rattle.tool_library.specs.ToolsFile.{is_body_box, is_section}
 use Rattle.tool_library.proofs.Decided.{boxes_decided, sections_decided}
-use Rattle.machine_file.specs.declared.bounds.TheConstants.{MOST_FRAMES, MOST_BOXES, MOST_STAGES, MOST_PIECES, LEAST_PIECE, GREATEST_PIECE, GREATEST_UNCOVERED, GREATEST_LENGTH, LEAST_FINGER, GREATEST_COST, GREATEST_FORCE}
+use Rattle.machine_file.specs.declared.bounds.TheConstants.{MOST_FRAMES, MOST_BOXES, MOST_STAGES, MOST_PIECES, LEAST_PIECE, GREATEST_PIECE, GREATEST_UNCOVERED, GREATEST_LENGTH, LEAST_FINGER, GREATEST_COST, GREATEST_FORCE, GREATEST_FINE}
 use Rattle.machine_file.specs.declared.machine.Fixed.{Fixed}
 use Rattle.machine_file.specs.declared.machine.GaugeRule.{GaugeRule}
 use Rattle.machine_file.specs.declared.machine.Costs.{Costs}
@@ -223,7 +223,7 @@ fixtures_test s =
 abbrev rules_test : (s : SetupData) → Test (HasRules s)
 rules_test s =
     like (λ r. record { bed = r.0.0; gauge = r.0.1.0; cost = r.0.1.1; uncovered = r.1.0; force = r.1.1.0; fine = r.1.1.1 }) (λ r. ((r.bed, (r.gauge, r.cost)), (r.uncovered, (r.force, r.fine))))
-    (both (both (bed_range_test s.bed) (both (gauge_test s.gauge) (costs_test s.cost))) (both (within (pos 0) GREATEST_UNCOVERED s.uncovered) (both (within (pos 0) GREATEST_FORCE s.force) (at_most s.fine 12))))
+    (both (both (bed_range_test s.bed) (both (gauge_test s.gauge) (costs_test s.cost))) (both (within (pos 0) GREATEST_UNCOVERED s.uncovered) (both (within (pos 0) GREATEST_FORCE s.force) (at_most s.fine GREATEST_FINE))))
 
 fit_decided : {E : Type 0} (r : Result (Unit {0}) E) → Decides (is_ok r) (r ≡ Ok tt)
 fit_decided (Ok x) = (λ t. refl, λ e. refl)

@@ -8,7 +8,9 @@ use Rattle.plan_cert.specs.declared.cert.Note.{Note}
 use Rattle.plan_cert.specs.declared.format.Format.{Format}
 use Rattle.plan_cert.specs.declared.format.Format.TheVariants.{Version1, Version2, Table}
 use Rattle.plan_cert.specs.Cert.{CertData}
-use Rattle.plan_cert.specs.Lines.{CertLine, format_line, gang_line, force_line, fine_line, load_line, claim_line, step_line, row_line, note_line, end_line, lines_text, action_at}
+use Rattle.plan_cert.specs.Lines.{CertLine, format_line, gang_line, force_line, fine_line}
+use Rattle.plan_cert.specs.Lines.{load_line, claim_line, step_line, row_line, note_line, end_line}
+use Rattle.plan_cert.specs.Lines.{lines_text, action_at}
 use Rattle.plan_cert.specs.JobText.{job_lines}
 
 -- the line of a note on a machine with so many stages

@@ -1,5 +1,6 @@
 -- What a reader keeps of a job.
-use Rattle.std.specs.Prelude.{◌≡◌, ℕ, ◌+◌, ◌-◌, ◌≤◌, ◌&&◌, Bool, false, nat_lt, List, length, slice_index_or}
+use Rattle.std.specs.Prelude.{◌≡◌, ℕ, ◌+◌, ◌-◌, ◌≤◌, ◌&&◌, Bool, false, nat_lt, List, length}
+use Rattle.std.specs.Prelude.{slice_index_or}
 use Rattle.brake_base.specs.declared.mask.Mask.{Mask}
 use Rattle.brake_base.specs.Masks.{has}
 use Rattle.job_setup.specs.Setup.{JobData, bend_count, stage_count}

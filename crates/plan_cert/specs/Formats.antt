@@ -1,5 +1,6 @@
 -- The formats that are read, and the first line, which names one.
-use Rattle.std.specs.Prelude.{ℕ, Bool, true, false, List, bytes_eq, codes, Option, Some, None, if◌then◌else◌}
+use Rattle.std.specs.Prelude.{ℕ, Bool, true, false, List, bytes_eq, codes, Option, Some, None}
+use Rattle.std.specs.Prelude.{if◌then◌else◌}
 use Rattle.plan_cert.specs.declared.format.TextKind.{TextKind}
 use Rattle.plan_cert.specs.declared.format.TextKind.TheVariants.{Certificate, Table as TableKind}
 use Rattle.plan_cert.specs.declared.format.Format.{Format}

@@ -1,5 +1,6 @@
 -- The items of a certificate or a table file, in order, up to its end or to the refusal.
-use Rattle.std.specs.Prelude.{ℕ, ◌+◌, ◌-◌, ◌^◌, min, Bool, true, false, ◌&&◌, List, [], ◌∷◌, Some, None, Result, Ok, Err, if◌then◌else◌}
+use Rattle.std.specs.Prelude.{ℕ, ◌+◌, ◌-◌, ◌^◌, min, Bool, true, false, ◌&&◌, List, [], ◌∷◌, Some}
+use Rattle.std.specs.Prelude.{None, Result, Ok, Err, if◌then◌else◌}
 use Rattle.std.specs.List.{slice_split}
 use Rattle.job_setup.specs.Setup.{JobData, bend_count, stage_count}
 use Rattle.brake_text.specs.Lines.{is_line_feed}
@@ -16,7 +17,8 @@ use Rattle.plan_cert.specs.Formats.{format_of}
 use Rattle.plan_cert.specs.LineKinds.{is_complete}
 use Rattle.plan_cert.specs.JobLines.{JobLinesData, no_lines, job_of}
 use Rattle.plan_cert.specs.JobReading.{take_line}
-use Rattle.plan_cert.specs.PlanReading.{may_leave, take_plan_line, may_follow_job, first_section, is_end_line}
+use Rattle.plan_cert.specs.PlanReading.{may_leave, take_plan_line, may_follow_job, first_section}
+use Rattle.plan_cert.specs.PlanReading.{is_end_line}
 use Rattle.plan_cert.specs.LineReading.{keyword_in, behind_keyword}
 
 -- the lines of a text without their line feeds, and what stands behind the last line feed

@@ -8,7 +8,8 @@ use Rattle.plan_cert.specs.LineKinds.{job_line_behind}
 use Rattle.plan_cert.specs.JobLines.{JobLinesData}
 use Rattle.plan_cert.specs.PartReading.{take_part, take_face}
 use Rattle.plan_cert.specs.FixtureReading.{take_bed, take_frame, take_upper, take_lower}
-use Rattle.plan_cert.specs.RuleReading.{take_uncovered, take_gauge, take_cost, take_gang, take_force, take_fine}
+use Rattle.plan_cert.specs.RuleReading.{take_uncovered, take_gauge, take_cost, take_gang}
+use Rattle.plan_cert.specs.RuleReading.{take_force, take_fine}
 use Rattle.plan_cert.specs.StageReading.{take_stage, take_pieces, take_load}
 use Rattle.plan_cert.specs.ToolReading.{take_punch, take_punch_box, take_die, take_die_box}
 
@@ -37,4 +38,5 @@ take_words s kinds.Load text = take_load s text
 
 -- the job lines with one more line, where it is a job line that may stand there
 unfoldable pub take_line : JobLinesData → List ℕ → Option JobLinesData
-take_line s line = job_line_behind s.last (keyword_in line) >>= λ kind. take_words s kind (behind_keyword line)
+take_line s line =
+    job_line_behind s.last (keyword_in line) >>= λ kind. take_words s kind (behind_keyword line)

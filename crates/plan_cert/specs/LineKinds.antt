@@ -1,5 +1,7 @@
--- The kinds of lines up to the end of the job: what is asked of the last one, and which one a keyword names.
-use Rattle.std.specs.Prelude.{ℕ, Bool, true, false, List, bytes_eq, codes, Option, Some, None, if◌then◌else◌}
+-- The kinds of lines up to the end of the job: what is asked of the last one, and which one a
+-- keyword names.
+use Rattle.std.specs.Prelude.{ℕ, Bool, true, false, List, bytes_eq, codes, Option, Some, None}
+use Rattle.std.specs.Prelude.{if◌then◌else◌}
 use Rattle.plan_cert.specs.declared.format.Format.{Format}
 use Rattle.plan_cert.specs.declared.format.Format.TheVariants.{Version1}
 use Rattle.plan_cert.specs.declared.line_kind.LineKind.{LineKind}
@@ -10,7 +12,8 @@ abbrev pub begins_job : LineKind → Bool
 begins_job kinds.Format = true
 begins_job _ = false
 
--- behind the bed's line come those of frames, of boxes above the bed, and of boxes below it, in this order
+-- behind the bed's line come those of frames, of boxes above the bed, and of boxes below it, in
+-- this order
 abbrev pub may_be_frame : LineKind → Bool
 may_be_frame kinds.Bed = true
 may_be_frame kinds.Frame = true

@@ -1,6 +1,7 @@
--- The lines of a certificate. A kind of line is its keyword and its words in their order, each word with one spelling.
--- Lengths are in micrometres, costs in tenths of a second, forces in newtons.
-use Rattle.std.specs.Prelude.{ℕ, ◌+◌, ◌/◌, ◌%◌, ◌==◌, ℤ, pos, List, [], ◌∷◌, ◌++◌, codes, map, Option, Some, None, if◌then◌else◌}
+-- The lines of a certificate. A kind of line is its keyword and its words in their order, each word
+-- with one spelling. Lengths are in micrometres, costs in tenths of a second, forces in newtons.
+use Rattle.std.specs.Prelude.{ℕ, ◌+◌, ◌/◌, ◌%◌, ◌==◌, ℤ, pos, List, [], ◌∷◌, ◌++◌, codes, map}
+use Rattle.std.specs.Prelude.{Option, Some, None, if◌then◌else◌}
 use Rattle.std.specs.List.{flat_map}
 use Rattle.std.specs.Fmt.{signed_decimal}
 use Rattle.brake_base.specs.declared.plane.Rect.{Rect}
@@ -14,7 +15,8 @@ use Rattle.brake_base.specs.declared.stroke.Step.{Step}
 use Rattle.brake_base.specs.declared.stroke.Worth.{Worth}
 use Rattle.brake_base.specs.declared.stroke.Worth.TheVariants.{Cost, Blocked}
 use Rattle.brake_base.specs.declared.reason.Reason.{Reason}
-use Rattle.brake_base.specs.declared.reason.Reason.TheVariants.{Cover, Rest, Frame, Upper, Nose, Lower, SelfHit, NoGauge, Load}
+use Rattle.brake_base.specs.declared.reason.Reason.TheVariants.{Cover, Rest, Frame, Upper, Nose}
+use Rattle.brake_base.specs.declared.reason.Reason.TheVariants.{Lower, SelfHit, NoGauge, Load}
 use Rattle.brake_base.specs.Reasons.{kind_of, quarter_number}
 use Rattle.part_file.specs.declared.part.Side.{Side}
 use Rattle.part_file.specs.declared.part.Side.TheVariants.{N, E, S, W}
@@ -85,7 +87,8 @@ worth_word Blocked = codes "none"
 abbrev pub face_words : FaceData → Option Joint → List (List ℕ)
 face_words face None = face.name ∷ signed_decimal face.width ∷ signed_decimal face.length ∷ []
 face_words face (Some joint) =
-    face.name ∷ number joint.on ∷ side_word joint.side ∷ signed_decimal joint.at ∷ signed_decimal face.width ∷ signed_decimal face.length ∷ dir_word joint.dir ∷ []
+    face.name ∷ number joint.on ∷ side_word joint.side ∷ signed_decimal joint.at
+    ∷ signed_decimal face.width ∷ signed_decimal face.length ∷ dir_word joint.dir ∷ []
 
 -- a fixed box: its range along the bed, and its rectangle across it
 abbrev pub fixed_words : Fixed → List (List ℕ)
@@ -154,27 +157,35 @@ keyword_of end_line = codes "end"
 -- the other words of a line
 abbrev pub words_of : CertLine → List (List ℕ)
 words_of (format_line format) = format_number format ∷ []
-words_of (part_line material thickness radius q) = material ∷ map signed_decimal (thickness ∷ radius ∷ q ∷ [])
+words_of (part_line material thickness radius q) =
+    material ∷ map signed_decimal (thickness ∷ radius ∷ q ∷ [])
 words_of (face_line face) = face_words face face.joint
 words_of (bed_line bed) = map signed_decimal (bed.0 ∷ bed.1 ∷ [])
 words_of (frame_line frame) = map signed_decimal (frame.0 ∷ frame.1 ∷ [])
 words_of (upper_line box) = fixed_words box
 words_of (lower_line box) = fixed_words box
 words_of (uncovered_line uncovered) = signed_decimal uncovered ∷ []
-words_of (gauge_line g) = map signed_decimal (g.near ∷ g.far ∷ g.inset ∷ g.finger ∷ g.gap ∷ g.depth ∷ g.above ∷ g.below ∷ [])
-words_of (cost_line stroke quarter half flip roll stage) = map signed_decimal (stroke ∷ quarter ∷ half ∷ flip ∷ roll ∷ stage ∷ [])
+words_of (gauge_line g) =
+    map signed_decimal (g.near ∷ g.far ∷ g.inset ∷ g.finger ∷ g.gap ∷ g.depth ∷ g.above ∷ g.below
+    ∷ [])
+words_of (cost_line stroke quarter half flip roll stage) =
+    map signed_decimal (stroke ∷ quarter ∷ half ∷ flip ∷ roll ∷ stage ∷ [])
 words_of (gang_line gang) = signed_decimal gang ∷ []
 words_of (force_line force) = signed_decimal force ∷ []
 words_of (fine_line depth) = signed_decimal depth ∷ []
 words_of (stage_line x0 x1) = map signed_decimal (x0 ∷ x1 ∷ [])
 words_of (punch_line name height nose) = name ∷ map signed_decimal (height ∷ nose ∷ [])
-words_of (die_line name height v least_flange) = name ∷ map signed_decimal (height ∷ v ∷ least_flange ∷ [])
+words_of (die_line name height v least_flange) =
+    name ∷ map signed_decimal (height ∷ v ∷ least_flange ∷ [])
 words_of (box_line box) = map signed_decimal (box.y0 ∷ box.y1 ∷ box.z0 ∷ box.z1 ∷ [])
 words_of (pieces_line pieces) = map signed_decimal pieces
 words_of (load_line load limit) = map signed_decimal (load ∷ limit ∷ [])
 words_of (claim_line claim) = worth_word claim ∷ []
-words_of (step_line step) = action_words step.action ++ number step.gauge.left_face ∷ number step.gauge.right_face ∷ []
-words_of (row_line row) = number row.key.mask.0 ∷ number row.key.attitude ∷ number row.key.stage ∷ worth_word row.worth ∷ []
+words_of (step_line step) =
+    action_words step.action ++ number step.gauge.left_face ∷ number step.gauge.right_face ∷ []
+words_of (row_line row) =
+    number row.key.mask.0 ∷ number row.key.attitude ∷ number row.key.stage ∷ worth_word row.worth
+    ∷ []
 words_of (note_line action reason) = action_words action ++ reason_words reason
 words_of end_line = []
 
@@ -198,7 +209,8 @@ line_text line = text_line (keyword_of line) (words_of line)
 abbrev pub lines_text : List CertLine → List ℕ
 lines_text lines = flat_map line_text lines
 
--- the action of a number on a machine with so many stages: they are numbered by bend, then by side at the back, then by stage
+-- the action of a number on a machine with so many stages: they are numbered by bend, then by side
+-- at the back, then by stage
 abbrev pub action_at : ℕ → ℕ → Action
 action_at stages number = record {
   bend = number / stages / 2 + 1;

@@ -27,11 +27,14 @@ unfoldable pub take_part : JobLinesData → List ℕ → Option JobLinesData
 take_part s text = only_if (may_take_part s) (part_in text >>= λ part. Some (with_part s part))
 
 unfoldable pub with_face : JobLinesData → FaceData → JobLinesData
-with_face s face = record s { last = kinds.Face; part = record s.part { faces = s.part.faces ++ face ∷ [] } }
+with_face s face =
+    record s { last = kinds.Face; part = record s.part { faces = s.part.faces ++ face ∷ [] } }
 
 -- there is room for another face
 abbrev pub may_take_face : JobLinesData → Bool
 may_take_face s = nat_lt (length s.part.faces) most_faces
 
 unfoldable pub take_face : JobLinesData → List ℕ → Option JobLinesData
-take_face s text = only_if (may_take_face s) (face_behind s.last (length s.part.faces) text >>= λ face. Some (with_face s face))
+take_face s text =
+    only_if (may_take_face s) (face_behind s.last (length s.part.faces) text
+    >>= λ face. Some (with_face s face))

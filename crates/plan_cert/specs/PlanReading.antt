@@ -1,5 +1,6 @@
 -- Reading the lines behind the job: which line may stand where, and what it gives.
-use Rattle.std.specs.Prelude.{ℕ, ◌+◌, ◌==◌, Bool, true, false, ◌&&◌, ◌||◌, nat_le, nat_lt, List, bytes_eq, codes, Option, Some, None, is_some, if◌then◌else◌}
+use Rattle.std.specs.Prelude.{ℕ, ◌+◌, ◌==◌, Bool, true, false, ◌&&◌, ◌||◌, nat_le, nat_lt, List}
+use Rattle.std.specs.Prelude.{bytes_eq, codes, Option, Some, None, is_some, if◌then◌else◌}
 use Rattle.brake_base.specs.declared.stroke.Action.{Action}
 use Rattle.brake_base.specs.declared.stroke.Key.{Key}
 use Rattle.brake_base.specs.declared.stroke.Worth.{Worth}
@@ -23,7 +24,8 @@ use Rattle.plan_cert.specs.LineReading.{only_if, keyword_in, behind_keyword}
 -- the first key stands before the second in the order of keys
 abbrev pub is_before : Key → Key → Bool
 is_before a b = nat_lt a.mask.0 b.mask.0
-    || ((a.mask.0 == b.mask.0) && (nat_lt a.attitude b.attitude || ((a.attitude == b.attitude) && nat_lt a.stage b.stage)))
+    || ((a.mask.0 == b.mask.0)
+    && (nat_lt a.attitude b.attitude || ((a.attitude == b.attitude) && nat_lt a.stage b.stage)))
 
 -- behind a cost as the claim come the steps, and behind `none` the rows
 abbrev pub behind_claim : Worth → Section
@@ -48,20 +50,30 @@ may_be_row format bends (sections.Notes last number) key = is_before last key
 may_be_row format bends section key = may_leave format bends section
 
 unfoldable pub take_claim : Section → List ℕ → Option (Item × Section)
-take_claim sections.Claim text = claim_in text >>= λ claim. Some (given.Claim claim, behind_claim claim)
+take_claim sections.Claim text =
+    claim_in text >>= λ claim. Some (given.Claim claim, behind_claim claim)
 take_claim _ text = None
 
 -- a step behind so many steps: there is at most one for each bend
 unfoldable pub step_behind : ℕ → ℕ → ℕ → List ℕ → Option (Item × Section)
-step_behind bends stages steps text = only_if (nat_lt steps bends) (step_in bends stages text >>= λ step. Some (given.Step step, sections.Steps (steps + 1)))
+step_behind bends stages steps text =
+    only_if (nat_lt steps bends) (step_in bends stages text
+    >>= λ step. Some (given.Step step, sections.Steps (steps + 1)))
 
 unfoldable pub take_step : JobData → Section → List ℕ → Option (Item × Section)
-take_step job (sections.Steps steps) text = step_behind (bend_count job) (stage_count job) steps text
+take_step job (sections.Steps steps) text =
+    step_behind (bend_count job) (stage_count job) steps text
 take_step job _ text = None
 
 unfoldable pub row_behind : Format → ℕ → ℕ → Section → List ℕ → Option (Item × Section)
 row_behind format bends stages section text = row_in bends stages text >>= λ row.
-    only_if (may_be_row format bends section row.0) (Some (given.Row (record { key = row.0; worth = row.1 }), sections.Notes row.0 0))
+    only_if (may_be_row format bends section row.0) (Some (
+      given.Row (record {
+        key = row.0;
+        worth = row.1;
+      }),
+      sections.Notes row.0 0,
+    ))
 
 unfoldable pub take_row : Format → JobData → Section → List ℕ → Option (Item × Section)
 take_row format job section text = row_behind format (bend_count job) (stage_count job) section text
@@ -69,14 +81,20 @@ take_row format job section text = row_behind format (bend_count job) (stage_cou
 -- a reason against an action at a key, where the next note's number is at least the least
 unfoldable pub noted : JobData → Key → ℕ → Action → Reason → Option (Item × Section)
 noted job key least action reason = let number = number_of_action (stage_count job) action in
-    only_if (nat_le least number && is_lead job key.mask action.bend) (Some (given.Note number reason, sections.Notes key (number + 1)))
+    only_if (nat_le least number
+    && is_lead job key.mask action.bend) (Some (
+      given.Note number reason,
+      sections.Notes key (number + 1),
+    ))
 
 unfoldable pub note_behind : JobData → ℕ → ℕ → Key → ℕ → List ℕ → Option (Item × Section)
-note_behind job bends stages key least text = note_in bends stages text >>= λ note. noted job key least note.0 note.1
+note_behind job bends stages key least text =
+    note_in bends stages text >>= λ note. noted job key least note.0 note.1
 
 -- the notes of a row stand in the order of their actions
 unfoldable pub take_note : JobData → Section → List ℕ → Option (Item × Section)
-take_note job (sections.Notes key least) text = note_behind job (bend_count job) (stage_count job) key least text
+take_note job (sections.Notes key least) text =
+    note_behind job (bend_count job) (stage_count job) key least text
 take_note job _ text = None
 
 -- the kind of a line behind the job by its keyword
@@ -88,15 +106,18 @@ plan_line_of keyword = if bytes_eq keyword (codes "claim") then Some kinds.Claim
     else None
 
 -- what the words of a line of a kind give, and where the next line stands
-unfoldable pub take_plan_words : Format → JobData → Section → PlanLine → List ℕ → Option (Item × Section)
+unfoldable pub take_plan_words : Format → JobData → Section → PlanLine → List ℕ
+    → Option (Item × Section)
 take_plan_words format job section kinds.Claim text = take_claim section text
 take_plan_words format job section kinds.Step text = take_step job section text
 take_plan_words format job section kinds.Row text = take_row format job section text
 take_plan_words format job section kinds.Note text = take_note job section text
 
 -- what a line gives, and where the next one stands
-unfoldable pub take_plan_line : Format → JobData → Section → List ℕ → List ℕ → Option (Item × Section)
-take_plan_line format job section keyword text = plan_line_of keyword >>= λ kind. take_plan_words format job section kind text
+unfoldable pub take_plan_line : Format → JobData → Section → List ℕ → List ℕ
+    → Option (Item × Section)
+take_plan_line format job section keyword text =
+    plan_line_of keyword >>= λ kind. take_plan_words format job section kind text
 
 -- the line that ends a certificate or a table file
 abbrev pub is_end_line : List ℕ → Bool
@@ -104,11 +125,13 @@ is_end_line line = bytes_eq line (codes "end")
 
 -- a line of a claim
 abbrev pub is_claim_line : List ℕ → Bool
-is_claim_line line = bytes_eq (keyword_in line) (codes "claim") && is_some (claim_in (behind_keyword line))
+is_claim_line line =
+    bytes_eq (keyword_in line) (codes "claim") && is_some (claim_in (behind_keyword line))
 
 -- a line of a row of a job of so many bends and stages
 abbrev pub is_row_line : ℕ → ℕ → List ℕ → Bool
-is_row_line bends stages line = bytes_eq (keyword_in line) (codes "row") && is_some (row_in bends stages (behind_keyword line))
+is_row_line bends stages line =
+    bytes_eq (keyword_in line) (codes "row") && is_some (row_in bends stages (behind_keyword line))
 
 -- the first line behind the job: the claim, or in a table file a row or the end
 abbrev pub may_follow_job : Format → ℕ → ℕ → List ℕ → Bool

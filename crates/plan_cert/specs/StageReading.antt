@@ -1,5 +1,6 @@
 -- Reading the lines of a stage but for those of its tools: its range, its pieces and its load.
-use Rattle.std.specs.Prelude.{ℕ, ℤ, pos, Bool, ◌&&◌, List, [], ◌∷◌, ◌++◌, Option, Some, if◌then◌else◌}
+use Rattle.std.specs.Prelude.{ℕ, ℤ, pos, Bool, ◌&&◌, List, [], ◌∷◌, ◌++◌, Option, Some}
+use Rattle.std.specs.Prelude.{if◌then◌else◌}
 use Rattle.plan_cert.specs.declared.line_kind.LineKind.TheVariants as kinds
 use Rattle.cert_words.specs.LineWords.{◌>>=◌}
 use Rattle.cert_words.specs.JobWords.{pair_in, pieces_in}
@@ -19,7 +20,11 @@ take_stage s text = only_if (may_take_stage s) (pair_in text >>= λ range. Some 
 
 -- the stage is complete
 unfoldable pub with_stage : JobLinesData → JobLinesData
-with_stage s = record s { setup = record s.setup { stages = s.setup.stages ++ s.stage ∷ [] }; stage = begun_stage (pos 0) (pos 0) }
+with_stage s =
+    record s {
+      setup = record s.setup { stages = s.setup.stages ++ s.stage ∷ [] };
+      stage = begun_stage (pos 0) (pos 0);
+    }
 
 unfoldable pub with_pieces : JobLinesData → List ℤ → JobLinesData
 with_pieces s pieces = record s { last = kinds.Pieces; stage = record s.stage { pieces = pieces } }
@@ -32,14 +37,18 @@ abbrev pub may_take_pieces : JobLinesData → Bool
 may_take_pieces s = is_of_die s.last && has_room s
 
 unfoldable pub take_pieces : JobLinesData → List ℕ → Option JobLinesData
-take_pieces s text = only_if (may_take_pieces s) (pieces_in text >>= λ pieces. Some (behind_pieces (with_pieces s pieces)))
+take_pieces s text =
+    only_if (may_take_pieces s) (pieces_in text
+    >>= λ pieces. Some (behind_pieces (with_pieces s pieces)))
 
 unfoldable pub with_load : JobLinesData → ℤ × ℤ → JobLinesData
-with_load s load = record s { last = kinds.Load; stage = record s.stage { load = load.0; limit = load.1 } }
+with_load s load =
+    record s { last = kinds.Load; stage = record s.stage { load = load.0; limit = load.1 } }
 
 -- version 1 has no loads
 abbrev pub may_take_load : JobLinesData → Bool
 may_take_load s = (has_loads s.format && is_pieces s.last) && has_room s
 
 unfoldable pub take_load : JobLinesData → List ℕ → Option JobLinesData
-take_load s text = only_if (may_take_load s) (pair_in text >>= λ load. Some (with_stage (with_load s load)))
+take_load s text =
+    only_if (may_take_load s) (pair_in text >>= λ load. Some (with_stage (with_load s load)))

@@ -1,5 +1,6 @@
 -- What a contract sees of `Notes`.
-use Rattle.std.specs.Prelude.{◌≡◌, ◌≢◌, ℕ, ◌/◌, ◌%◌, ◌==◌, Bool, true, if◌then◌else◌, List, [], Option, None, slice_index_or, ◌⊎◌}
+use Rattle.std.specs.Prelude.{◌≡◌, ◌≢◌, ℕ, ◌/◌, ◌%◌, ◌==◌, Bool, true, if◌then◌else◌, List, []}
+use Rattle.std.specs.Prelude.{Option, None, slice_index_or, ◌⊎◌}
 use Rattle.std.specs.Int.{bit_at}
 use Rattle.brake_base.specs.declared.reason.Reason.{Reason}
 use Rattle.row_pool.specs.declared.kept_reason.KeptReason.{KeptReason}

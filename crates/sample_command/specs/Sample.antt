@@ -23,4 +23,5 @@ marked mark words contents = record {
 -- the mark is `one` or `two`
 abbrev pub IsSampleAnswer : Meaning
 IsSampleAnswer words contents answer =
-    (answer ≡ marked (codes "one\n") words contents) ⊎ (answer ≡ marked (codes "two\n") words contents)
+    (answer ≡ marked (codes "one\n") words contents)
+    ⊎ (answer ≡ marked (codes "two\n") words contents)

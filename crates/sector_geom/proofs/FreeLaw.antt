@@ -1,11 +1,11 @@
 -- The halves of a piece are pieces of its quarter that hold it together, and what is free at a depth stays apart at every turn and is
 -- free at each greater depth.
-use Rattle.std.proofs.Common.{◌≡◌, ◌⊎◌, ◌↔◌, inl, inr, ℕ, zero, suc, ap, sym, ◌∙◌, IsTrue, ◌≤◌, ◌^◌, Option, Some, None, ℤ, pos, negsuc, ◌+ℤ◌, ◌*ℤ◌, ◌≤ℤ◌, ◌<ℤ◌, unsigned_abs, arith, refl, subst}
+use Rattle.std.proofs.Common.{◌≡◌, ◌⊎◌, ◌↔◌, inl, inr, ℕ, zero, suc, ap, sym, ◌∙◌, IsTrue, ◌≤◌, ◌^◌, Option, Some, None, ℤ, pos, ◌+ℤ◌, ◌*ℤ◌, ◌≤ℤ◌, ◌<ℤ◌, unsigned_abs, arith, refl, subst}
 use Rattle.std.specs.Prelude.{Bool, true, false, if◌then◌else◌, IsSomeAnd}
-use Rattle.std.specs.Int.{int_div_euclid}
 use Rattle.std.proofs.lemmas.Option.{cond_some, none-some}
 use Rattle.std.proofs.lemmas.Bool.{false≢true}
 use Rattle.std.proofs.lemmas.Int.{ints, clamps}
+use Rattle.algebra.proofs.Halves.{floor_half}
 use Rattle.algebra.proofs.Order.{signs}
 use Rattle.algebra.proofs.Widths.{abs_in, abs_out}
 use Rattle.brake_base.specs.declared.plane.Rect.{Rect}
@@ -25,11 +25,6 @@ use Rattle.sector_geom.proofs.PieceLaws.{IsPiece}
 use Rattle.sector_geom.proofs.CoverLaw.{cover_law}
 use Rattle.sector_geom.proofs.CoverShape.{cover_of_some}
 use Rattle.sector_geom.proofs.Cases.{apart}
-
--- Where a range is cut: the middle, doubled, is the sum of the ends or one less.
-floor_half : (n : ℤ) → ((int_div_euclid n (pos 2) +ℤ int_div_euclid n (pos 2)) ≤ℤ n) × (n ≤ℤ ((int_div_euclid n (pos 2) +ℤ int_div_euclid n (pos 2)) +ℤ pos 1))
-floor_half (pos n) = (omega (arith, ints), omega (arith, ints))
-floor_half (negsuc n) = (omega (arith, ints), omega (arith, ints))
 
 -- The middle of a range of at least 2 lies strictly between its ends.
 record IsCut (low high : ℤ) : Type 0 where

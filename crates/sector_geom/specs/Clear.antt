@@ -1,4 +1,5 @@
--- When a sector is clear of a rectangle or of a nose, by looking at finitely many points; and what that is worth.
+-- When a sector is clear of a rectangle or of a nose, by looking at finitely many points; and what
+-- that is worth.
 use Rattle.std.specs.Prelude.{◌≡◌, ◌≢◌, ◌⊎◌, ℤ, pos, ◌*ℤ◌, neg_ℤ, ◌≤ℤ◌, ◌<ℤ◌}
 use Rattle.brake_base.specs.declared.plane.Rect.{Rect}
 use Rattle.brake_base.specs.declared.plane.Rat2.{Rat2}
@@ -24,32 +25,44 @@ IsOnSide r p = (p.y ≡ r.y0 *ℤ p.d) ⊎ (p.y ≡ r.y1 *ℤ p.d)
 abbrev pub IsOnLevel : Rect → Rat2 → Type 0
 IsOnLevel r p = (p.z ≡ r.z0 *ℤ p.d) ⊎ (p.z ≡ r.z1 *ℤ p.d)
 
--- The kinds of special points among those that the rectangle holds: its corners in the wedge; where one of the two rays
--- meets an edge that it doesn't run along (one that runs along an edge meets it in one point only at the origin);
--- the feet of the perpendiculars from the origin to its edges, where they lie in the wedge; and the origin.
+-- The kinds of special points among those that the rectangle holds: its corners in the wedge; where
+-- one of the two rays meets an edge that it doesn't run along (one that runs along an edge meets it
+-- in one point only at the origin); the feet of the perpendiculars from the origin to its edges,
+-- where they lie in the wedge; and the origin.
 pub data IsSpecial (lower upper : Point) (r : Rect) (p : Rat2) : Type 0 where
-  corner : IsOnSide r p → IsOnLevel r p → IsInWedge lower upper (numerators p) → IsSpecial lower upper r p
-  lower_side : IsOnSide r p → IsOnRay lower (numerators p) → (lower.0 ≢ pos 0) → IsSpecial lower upper r p
-  upper_side : IsOnSide r p → IsOnRay upper (numerators p) → (upper.0 ≢ pos 0) → IsSpecial lower upper r p
-  lower_level : IsOnLevel r p → IsOnRay lower (numerators p) → (lower.1 ≢ pos 0) → IsSpecial lower upper r p
-  upper_level : IsOnLevel r p → IsOnRay upper (numerators p) → (upper.1 ≢ pos 0) → IsSpecial lower upper r p
-  foot_on_side : IsOnSide r p → (p.z ≡ pos 0) → IsInWedge lower upper (numerators p) → IsSpecial lower upper r p
-  foot_on_level : IsOnLevel r p → (p.y ≡ pos 0) → IsInWedge lower upper (numerators p) → IsSpecial lower upper r p
+  corner : IsOnSide r p → IsOnLevel r p → IsInWedge lower upper (numerators p)
+      → IsSpecial lower upper r p
+  lower_side : IsOnSide r p → IsOnRay lower (numerators p) → (lower.0 ≢ pos 0)
+      → IsSpecial lower upper r p
+  upper_side : IsOnSide r p → IsOnRay upper (numerators p) → (upper.0 ≢ pos 0)
+      → IsSpecial lower upper r p
+  lower_level : IsOnLevel r p → IsOnRay lower (numerators p) → (lower.1 ≢ pos 0)
+      → IsSpecial lower upper r p
+  upper_level : IsOnLevel r p → IsOnRay upper (numerators p) → (upper.1 ≢ pos 0)
+      → IsSpecial lower upper r p
+  foot_on_side : IsOnSide r p → (p.z ≡ pos 0) → IsInWedge lower upper (numerators p)
+      → IsSpecial lower upper r p
+  foot_on_level : IsOnLevel r p → (p.y ≡ pos 0) → IsInWedge lower upper (numerators p)
+      → IsSpecial lower upper r p
   origin : (p.y ≡ pos 0) → (p.z ≡ pos 0) → IsSpecial lower upper r p
 
 -- Each special point's squared distance is at least so much.
 abbrev pub AllBeyond : Point → Point → Rect → ℤ → Type 0
-AllBeyond lower upper r n = (p : Rat2) → Holds r p → IsSpecial lower upper r p → (n *ℤ (p.d *ℤ p.d)) ≤ℤ norm_of (numerators p)
+AllBeyond lower upper r n =
+    (p : Rat2) → Holds r p → IsSpecial lower upper r p
+    → (n *ℤ (p.d *ℤ p.d)) ≤ℤ norm_of (numerators p)
 
 -- Each special point's squared distance is at most so much.
 abbrev pub AllWithin : Point → Point → Rect → ℤ → Type 0
-AllWithin lower upper r n = (p : Rat2) → Holds r p → IsSpecial lower upper r p → norm_of (numerators p) ≤ℤ (n *ℤ (p.d *ℤ p.d))
+AllWithin lower upper r n =
+    (p : Rat2) → Holds r p → IsSpecial lower upper r p
+    → norm_of (numerators p) ≤ℤ (n *ℤ (p.d *ℤ p.d))
 
 abbrev pub EachCorner : Rect → (Point → Type 0) → Type 0
 EachCorner r P = P (r.y0, r.z0) × P (r.y0, r.z1) × P (r.y1, r.z0) × P (r.y1, r.z1)
 
--- All corners lie clockwise of the lower ray, or all counterclockwise of the upper one, or all special points beyond the
--- sector's outer circle, or all within its inner one.
+-- All corners lie clockwise of the lower ray, or all counterclockwise of the upper one, or all
+-- special points beyond the sector's outer circle, or all within its inner one.
 abbrev pub IsClear : Sector → Rect → Type 0
 IsClear s r =
     EachCorner r (λ c. cross_of s.lower c ≤ℤ pos 0)
@@ -61,7 +74,8 @@ IsClear s r =
 abbrev pub IsApart : Sector → Rect → Type 0
 IsApart s r = (p : Rat2) → IsInSector s p → IsInside r p → ⊥
 
--- The rational point is inside the punch's nose of that size: above both diagonals, and within the nose's corners.
+-- The rational point is inside the punch's nose of that size: above both diagonals, and within the
+-- nose's corners.
 pub record IsInNose (nose : ℤ) (p : Rat2) : Type 0 where
   pub positive : pos 0 <ℤ p.d
   pub right : p.y <ℤ p.z

@@ -4,7 +4,8 @@ use Rattle.brake_base.specs.declared.plane.Quarter.{Quarter}
 use Rattle.brake_base.specs.declared.plane.Quarter.TheVariants.{Q1, Q2, Q3, Q4}
 use Rattle.sector_geom.specs.Plane.{Point}
 
--- The corner of a piece that the ray from the origin meets first as it turns counterclockwise, and the farthest such corner.
+-- The corner of a piece that the ray from the origin meets first as it turns counterclockwise, and
+-- the farthest such corner.
 abbrev pub least_angle : Quarter → Rect → Point
 least_angle Q1 r = (r.y1, r.z0)
 least_angle Q2 r = (r.y1, r.z1)

@@ -7,25 +7,34 @@ use Rattle.brake_base.specs.declared.plane.Quarter.{Quarter}
 use Rattle.sector_geom.specs.declared.sector.Sector.{Sector}
 use Rattle.sector_geom.specs.declared.sector.Sweep.{Sweep}
 use Rattle.sector_geom.specs.declared.sector.Sweep.TheVariants.{Eighth, Fourth}
-use Rattle.sector_geom.specs.Plane.{Point, cross_of, norm_of, numerators, Holds, HasInterior, IsInRange}
+use Rattle.sector_geom.specs.Plane.{Point, cross_of, norm_of, numerators, Holds, HasInterior}
+use Rattle.sector_geom.specs.Plane.{IsInRange}
 use Rattle.sector_geom.specs.Pieces.{LiesIn}
 use Rattle.sector_geom.specs.Corners.{least_angle, greatest_angle}
 use Rattle.sector_geom.specs.Motion.{Triple, IsTriple, IsWideTriple, turned}
 
 -- The squared distances of the four corners from the origin: the least, and the greatest.
 abbrev pub nearest2 : Rect → ℤ
-nearest2 r = int_min (int_min (norm_of (r.y0, r.z0)) (norm_of (r.y0, r.z1))) (int_min (norm_of (r.y1, r.z0)) (norm_of (r.y1, r.z1)))
+nearest2 r =
+    int_min (int_min (norm_of (r.y0, r.z0)) (norm_of (r.y0, r.z1))) (int_min (norm_of (
+      r.y1,
+      r.z0,
+    )) (norm_of (r.y1, r.z1)))
 
 abbrev pub farthest2 : Rect → ℤ
-farthest2 r = int_max (int_max (norm_of (r.y0, r.z0)) (norm_of (r.y0, r.z1))) (int_max (norm_of (r.y1, r.z0)) (norm_of (r.y1, r.z1)))
+farthest2 r =
+    int_max (int_max (norm_of (r.y0, r.z0)) (norm_of (r.y0, r.z1))) (int_max (norm_of (
+      r.y1,
+      r.z0,
+    )) (norm_of (r.y1, r.z1)))
 
 -- The direction of a point after the whole sweep: turned by 45 degrees (and scaled), or by 90.
 abbrev pub swept : Sweep → Point → Point
 swept Eighth p = (p.0 -ℤ p.1, p.0 +ℤ p.1)
 swept Fourth p = (neg_ℤ p.1, p.0)
 
--- The cover: between the circles through the nearest and the farthest corner, from the ray through the corner of least angle
--- to the ray through the corner of greatest angle after the sweep.
+-- The cover: between the circles through the nearest and the farthest corner, from the ray through
+-- the corner of least angle to the ray through the corner of greatest angle after the sweep.
 abbrev pub cover_of : Quarter → Sweep → Rect → Sector
 cover_of quarter sweep r = record {
   near2 = nearest2 r;
@@ -61,4 +70,5 @@ IsTurnOf Fourth t = IsWideTriple t
 
 -- The cover law: each turn of each rational point of the piece is in the sector.
 abbrev pub HoldsTurned : Rect → Sweep → Sector → Type 0
-HoldsTurned piece sweep s = (p : Rat2) (t : Triple) → Holds piece p → IsTurnOf sweep t → IsInSector s (turned t p)
+HoldsTurned piece sweep s =
+    (p : Rat2) (t : Triple) → Holds piece p → IsTurnOf sweep t → IsInSector s (turned t p)

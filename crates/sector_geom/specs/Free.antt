@@ -1,6 +1,7 @@
--- When a piece is free of a rectangle: its cover is clear of it, or those of its halves are, or of their halves, and so on; and what
--- that is worth.
-use Rattle.std.specs.Prelude.{◌⊎◌, ℕ, zero, suc, Bool, ℤ, pos, ◌+ℤ◌, ◌-ℤ◌, int_le, int_lt, if◌then◌else◌, Option, Some, None, IsSomeAnd}
+-- When a piece is free of a rectangle: its cover is clear of it, or those of its halves are, or of
+-- their halves, and so on; and what that is worth.
+use Rattle.std.specs.Prelude.{◌⊎◌, ℕ, zero, suc, Bool, ℤ, pos, ◌+ℤ◌, ◌-ℤ◌, int_le, int_lt}
+use Rattle.std.specs.Prelude.{if◌then◌else◌, Option, Some, None, IsSomeAnd}
 use Rattle.std.specs.Int.{int_max, int_div_euclid}
 use Rattle.brake_base.specs.declared.plane.Rect.{Rect}
 use Rattle.brake_base.specs.declared.plane.Rat2.{Rat2}
@@ -38,18 +39,24 @@ halves_along_z r = let at = middle r.z0 r.z1 in record {
   upper = record { y0 = r.y0; y1 = r.y1; z0 = at; z1 = r.z1 };
 }
 
--- The halves of a rectangle, cut along its longer side, of two equal ones along y. It has none where that side is below 2.
+-- The halves of a rectangle, cut along its longer side, of two equal ones along y. It has none
+-- where that side is below 2.
 abbrev pub halves_of : Rect → Option Halves
-halves_of r = if is_short r then None else if is_wide r then Some (halves_along_y r) else Some (halves_along_z r)
+halves_of r =
+    if is_short r then None else if is_wide r then Some (halves_along_y r)
+    else Some (halves_along_z r)
 
--- The piece in the quarter is free of the rectangle at the depth, which says how often in a row it may be halved: its cover is clear
--- of it, or it has halves and both are free of it at the depth less one.
+-- The piece in the quarter is free of the rectangle at the depth, which says how often in a row it
+-- may be halved: its cover is clear of it, or it has halves and both are free of it at the depth
+-- less one.
 abbrev pub IsFree : ℕ → Quarter → Sweep → Rect → Rect → Type 0
 IsFree zero quarter sweep piece o = IsClear (cover_of quarter sweep piece) o
 IsFree (suc depth) quarter sweep piece o =
     IsClear (cover_of quarter sweep piece) o
-    ⊎ IsSomeAnd (halves_of piece) (λ halves. IsFree depth quarter sweep halves.lower o × IsFree depth quarter sweep halves.upper o)
+    ⊎ IsSomeAnd (halves_of piece) (λ halves. IsFree depth quarter sweep halves.lower o
+    × IsFree depth quarter sweep halves.upper o)
 
 -- The free law: no rational point of the piece is, at any turn of the sweep, inside the rectangle.
 abbrev pub StaysApart : Sweep → Rect → Rect → Type 0
-StaysApart sweep piece o = (p : Rat2) (t : Triple) → Holds piece p → IsTurnOf sweep t → IsInside o (turned t p) → ⊥
+StaysApart sweep piece o =
+    (p : Rat2) (t : Triple) → Holds piece p → IsTurnOf sweep t → IsInside o (turned t p) → ⊥

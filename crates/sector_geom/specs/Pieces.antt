@@ -1,5 +1,6 @@
 -- A rectangle widened for the sweep, and its pieces in the four quarters of the plane.
-use Rattle.std.specs.Prelude.{Option, Some, None, List, [], ◌∷◌, ℤ, pos, ◌+ℤ◌, ◌-ℤ◌, ◌≤ℤ◌, ◌⊎◌, ◌&&◌, int_le, int_lt, if◌then◌else◌}
+use Rattle.std.specs.Prelude.{Option, Some, None, List, [], ◌∷◌, ℤ, pos, ◌+ℤ◌, ◌-ℤ◌, ◌≤ℤ◌, ◌⊎◌}
+use Rattle.std.specs.Prelude.{◌&&◌, int_le, int_lt, if◌then◌else◌}
 use Rattle.std.specs.Int.{int_max, int_min}
 use Rattle.brake_base.specs.declared.plane.Rect.{Rect}
 use Rattle.brake_base.specs.declared.plane.Rat2.{Rat2}
@@ -15,9 +16,11 @@ start_widened_by by low = if int_le (pos 0) low then int_max (low -ℤ by) (pos 
 abbrev pub end_widened_by : ℤ → ℤ → ℤ
 end_widened_by by high = if int_le high (pos 0) then int_min (high +ℤ by) (pos 0) else high +ℤ by
 
--- The rectangle grown by so much at both ends of its range of y, but not past y = 0 where it lies on one side of it.
+-- The rectangle grown by so much at both ends of its range of y, but not past y = 0 where it lies
+-- on one side of it.
 abbrev pub widened_by : ℤ → Rect → Rect
-widened_by by r = record { y0 = start_widened_by by r.y0; y1 = end_widened_by by r.y1; z0 = r.z0; z1 = r.z1 }
+widened_by by r =
+    record { y0 = start_widened_by by r.y0; y1 = end_widened_by by r.y1; z0 = r.z0; z1 = r.z1 }
 
 -- The first rectangle holds each point of the second.
 abbrev pub HoldsAll : Rect → Rect → Type 0

@@ -7,7 +7,8 @@ use Rattle.brake_base.specs.declared.plane.Rat2.{Rat2}
 abbrev pub Point : Type 0
 Point = ℤ × ℤ
 
--- The cross product: positive where the second point lies counterclockwise of the first, by less than half a turn.
+-- The cross product: positive where the second point lies counterclockwise of the first, by less
+-- than half a turn.
 abbrev pub cross_of : Point → Point → ℤ
 cross_of p q = p.0 *ℤ q.1 -ℤ p.1 *ℤ q.0
 
@@ -19,7 +20,8 @@ dot_of p q = p.0 *ℤ q.0 +ℤ p.1 *ℤ q.1
 abbrev pub norm_of : Point → ℤ
 norm_of p = p.0 *ℤ p.0 +ℤ p.1 *ℤ p.1
 
--- The point (y, z), on one ray with the rational point (y/d, z/d) and d times as far from the origin.
+-- The point (y, z), on one ray with the rational point (y/d, z/d) and d times as far from the
+-- origin.
 abbrev pub numerators : Rat2 → Point
 numerators p = (p.y, p.z)
 

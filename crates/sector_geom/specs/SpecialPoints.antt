@@ -34,7 +34,8 @@ IsBoundMet (AtLeast n) p d = (n *ℤ (d *ℤ d)) ≤ℤ norm_of p
 
 -- Each special point is.
 abbrev pub AllMeet : Point → Point → Rect → Bound → Type 0
-AllMeet lower upper r bound = (p : Rat2) → Holds r p → IsSpecial lower upper r p → IsBoundMet bound (numerators p) p.d
+AllMeet lower upper r bound =
+    (p : Rat2) → Holds r p → IsSpecial lower upper r p → IsBoundMet bound (numerators p) p.d
 
 -- The point is, where it lies in the wedge.
 abbrev pub PointMeetsBound : Sector → Bound → Point → Type 0
@@ -46,22 +47,27 @@ PairIsMet s bound p q = PointMeetsBound s bound p × PointMeetsBound s bound q
 
 -- The four corners are.
 abbrev pub CornersAreMet : Sector → Rect → Bound → Type 0
-CornersAreMet s r bound = PairIsMet s bound (r.y0, r.z0) (r.y0, r.z1) × PairIsMet s bound (r.y1, r.z0) (r.y1, r.z1)
+CornersAreMet s r bound =
+    PairIsMet s bound (r.y0, r.z0) (r.y0, r.z1) × PairIsMet s bound (r.y1, r.z0) (r.y1, r.z1)
 
 -- The feet of the perpendiculars from the origin to the lower and the upper edge are.
 abbrev pub LevelFeetAreMet : Sector → Rect → Bound → Type 0
-LevelFeetAreMet s r bound = r.y0 ≤ℤ pos 0 → pos 0 ≤ℤ r.y1 → PairIsMet s bound (pos 0, r.z0) (pos 0, r.z1)
+LevelFeetAreMet s r bound =
+    r.y0 ≤ℤ pos 0 → pos 0 ≤ℤ r.y1 → PairIsMet s bound (pos 0, r.z0) (pos 0, r.z1)
 
 -- Those to the two sides are.
 abbrev pub SideFeetAreMet : Sector → Rect → Bound → Type 0
-SideFeetAreMet s r bound = r.z0 ≤ℤ pos 0 → pos 0 ≤ℤ r.z1 → PairIsMet s bound (r.y0, pos 0) (r.y1, pos 0)
+SideFeetAreMet s r bound =
+    r.z0 ≤ℤ pos 0 → pos 0 ≤ℤ r.z1 → PairIsMet s bound (r.y0, pos 0) (r.y1, pos 0)
 
 abbrev pub FeetAreMet : Sector → Rect → Bound → Type 0
 FeetAreMet s r bound = LevelFeetAreMet s r bound × SideFeetAreMet s r bound
 
 -- The origin is, where the rectangle holds it.
 abbrev pub OriginIsMet : Sector → Rect → Bound → Type 0
-OriginIsMet s r bound = r.y0 ≤ℤ pos 0 → pos 0 ≤ℤ r.y1 → r.z0 ≤ℤ pos 0 → pos 0 ≤ℤ r.z1 → PointMeetsBound s bound (pos 0, pos 0)
+OriginIsMet s r bound =
+    r.y0 ≤ℤ pos 0 → pos 0 ≤ℤ r.y1 → r.z0 ≤ℤ pos 0 → pos 0 ≤ℤ r.z1
+    → PointMeetsBound s bound (pos 0, pos 0)
 
 abbrev pub AxisPointsAreMet : Sector → Rect → Bound → Type 0
 AxisPointsAreMet s r bound = FeetAreMet s r bound × OriginIsMet s r bound
@@ -69,18 +75,23 @@ AxisPointsAreMet s r bound = FeetAreMet s r bound × OriginIsMet s r bound
 abbrev pub PointsAreMet : Sector → Rect → Bound → Type 0
 PointsAreMet s r bound = CornersAreMet s r bound × AxisPointsAreMet s r bound
 
--- The point is where the ray meets the edge on the line y = at, over the range of z, which it doesn't run along.
+-- The point is where the ray meets the edge on the line y = at, over the range of z, which it
+-- doesn't run along.
 abbrev pub EdgeIsMet : Point → ℤ → Point → Bound → Type 0
 EdgeIsMet ray at range bound =
-    (p : Point) (d : ℤ) → pos 0 <ℤ d → p.0 ≡ at *ℤ d → (range.0 *ℤ d) ≤ℤ p.1 → p.1 ≤ℤ (range.1 *ℤ d) → IsOnRay ray p → (ray.0 ≢ pos 0) → IsBoundMet bound p d
+    (p : Point) (d : ℤ) → pos 0 <ℤ d → p.0 ≡ at *ℤ d → (range.0 *ℤ d) ≤ℤ p.1 → p.1 ≤ℤ (range.1 *ℤ d)
+    → IsOnRay ray p → (ray.0 ≢ pos 0) → IsBoundMet bound p d
 
 -- On two lines.
 abbrev pub LinesAreMet : Point → Point → Point → Bound → Type 0
-LinesAreMet ray lines range bound = EdgeIsMet ray lines.0 range bound × EdgeIsMet ray lines.1 range bound
+LinesAreMet ray lines range bound =
+    EdgeIsMet ray lines.0 range bound × EdgeIsMet ray lines.1 range bound
 
 -- On the sides, and, with y and z in each other's place, on the lower and the upper edge.
 abbrev pub RayIsMet : Point → Rect → Bound → Type 0
-RayIsMet ray r bound = LinesAreMet ray (r.y0, r.y1) (r.z0, r.z1) bound × LinesAreMet (ray.1, ray.0) (r.z0, r.z1) (r.y0, r.y1) bound
+RayIsMet ray r bound =
+    LinesAreMet ray (r.y0, r.y1) (r.z0, r.z1) bound
+    × LinesAreMet (ray.1, ray.0) (r.z0, r.z1) (r.y0, r.y1) bound
 
 -- For both rays.
 abbrev pub CrossingsAreMet : Sector → Rect → Bound → Type 0
@@ -112,7 +123,9 @@ IsNoFarther r n = (p : Rat2) → Holds r p → norm_of (numerators p) ≤ℤ (n 
 
 -- The first two of the four cases: the rectangle lies on one side of the wedge.
 abbrev pub IsBeside : Sector → Rect → Type 0
-IsBeside s r = EachCorner r (λ corner. cross_of s.lower corner ≤ℤ pos 0) ⊎ EachCorner r (λ corner. pos 0 ≤ℤ cross_of s.upper corner)
+IsBeside s r =
+    EachCorner r (λ corner. cross_of s.lower corner ≤ℤ pos 0)
+    ⊎ EachCorner r (λ corner. pos 0 ≤ℤ cross_of s.upper corner)
 
 -- The other two: within the wedge it lies beyond the outer circle, or within the inner one.
 abbrev pub IsPast : Sector → Rect → Type 0

@@ -1,5 +1,7 @@
--- The text of the order sheet, and the steps that it can tell. Lengths are in micrometres, costs in tenths of a second.
-use Rattle.std.specs.Prelude.{ℕ, ◌+◌, ◌<◌, ◌==◌, ℤ, pos, not, List, [], ◌∷◌, ◌++◌, codes, filter, length}
+-- The text of the order sheet, and the steps that it can tell. Lengths are in micrometres, costs in
+-- tenths of a second.
+use Rattle.std.specs.Prelude.{ℕ, ◌+◌, ◌<◌, ◌==◌, ℤ, pos, not, List, [], ◌∷◌, ◌++◌, codes, filter}
+use Rattle.std.specs.Prelude.{length}
 use Rattle.std.specs.List.{flat_map, slice_index_or}
 use Rattle.brake_base.specs.declared.space.Box3.{Box3}
 use Rattle.brake_base.specs.declared.mask.Mask.{Mask}
@@ -20,12 +22,15 @@ use Rattle.job_setup.specs.Setup.{JobData}
 use Rattle.job_setup.specs.StrokeGroup.{group_of}
 use Rattle.job_setup.specs.LegalGauge.{far_edge, left_finger, right_finger}
 use Rattle.handling_cost.specs.declared.attitudes.Change.{Change}
-use Rattle.handling_cost.specs.declared.attitudes.Change.TheVariants.{Same, Quarter, Half, Flip, Roll}
-use Rattle.handling_cost.specs.StepCost.{IsActionAt, attitude_at, change, kind_of_change, key_after, cost_of}
+use Rattle.handling_cost.specs.declared.attitudes.Change.TheVariants.{Same, Quarter, Half, Flip}
+use Rattle.handling_cost.specs.declared.attitudes.Change.TheVariants.{Roll}
+use Rattle.handling_cost.specs.StepCost.{IsActionAt, attitude_at, change, kind_of_change, key_after}
+use Rattle.handling_cost.specs.StepCost.{cost_of}
 use Rattle.handling_cost.specs.Plan.{pose_before, start, total}
 use Rattle.setup_sheet.specs.Sheets.{field}
 
--- the action can be tried at the key, and the gauge's faces are the part's; whether the stroke is free plays no part
+-- the action can be tried at the key, and the gauge's faces are the part's; whether the stroke is
+-- free plays no part
 pub record IsStepAt (job : JobData) (key : Key) (step : Step) : Type 0 where
   pub action : IsActionAt job key step.action
   pub left : step.gauge.left_face < length job.part.faces
@@ -65,7 +70,8 @@ bend_words job mask lead =
     codes " bend" ++ field (pos lead) ++ codes " " ++ (face_at job.part.faces lead).name
     ++ with_words (bent_with job mask lead)
 
--- `back SIDE stage S turn KIND`: the side at the back, the stage, and what becomes of the part before the stroke
+-- `back SIDE stage S turn KIND`: the side at the back, the stage, and what becomes of the part
+-- before the stroke
 unfoldable pub hold_words : JobData → Key → Action → List ℕ
 hold_words job key action =
     codes " back " ++ back_word action.back ++ codes " stage" ++ field (pos action.stage)
@@ -76,7 +82,8 @@ hold_words job key action =
 abbrev pub no_box : PoseBox
 no_box = record { id = 0; half = BackHalf; body = record { lo = origin; hi = origin } }
 
--- the box of a face in a pose, whose boxes are those of the faces in order of number, and then those of corners
+-- the box of a face in a pose, whose boxes are those of the faces in order of number, and then
+-- those of corners
 abbrev pub posed_face : PoseData → ℕ → PoseBox
 posed_face pose face = slice_index_or pose.boxes face no_box
 
@@ -84,7 +91,8 @@ posed_face pose face = slice_index_or pose.boxes face no_box
 unfoldable pub finger_words : ℕ → ℤ × ℤ → List ℕ
 finger_words face range = field (pos face) ++ field range.0
 
--- `gauge G fingers L LX R RX`: how far behind the bend line the fingers stand, and the left and the right finger
+-- `gauge G fingers L LX R RX`: how far behind the bend line the fingers stand, and the left and the
+-- right finger
 unfoldable pub gauge_words : GaugeRule → Gauge → PoseBox → PoseBox → List ℕ
 gauge_words rule gauge left right =
     codes " gauge" ++ field (far_edge left) ++ codes " fingers"

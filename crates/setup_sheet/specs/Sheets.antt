@@ -60,15 +60,17 @@ face_lines extent faces flat_faces =
     flat_map (λ f. face_line extent f (face_at faces f).name (rect_at flat_faces f))
     (range_with_len 0 (length flat_faces))
 
--- The blank sheet: the blank's size, then its faces, then its bend lines. All coordinates are shifted so that the
--- least corner of the extent, the least rectangle that holds all faces, is (0, 0).
+-- The blank sheet: the blank's size, then its faces, then its bend lines. All coordinates are
+-- shifted so that the least corner of the extent, the least rectangle that holds all faces, is (0,
+-- 0).
 unfoldable pub blank_text : PartData → BlankData → List ℕ
 blank_text part blank =
     let extent = extent_of blank.faces in
     codes "blank\n" ++ size_line extent ++ face_lines extent part.faces blank.faces
     ++ flat_map (bend_line extent) blank.bends
 
--- `stage S PUNCH DIE X0 X1`: the number of a stage, the names of its tools, and its range on the bed
+-- `stage S PUNCH DIE X0 X1`: the number of a stage, the names of its tools, and its range on the
+-- bed
 unfoldable pub stage_place : ℕ → StageData → List ℕ
 stage_place number stage =
     codes "stage" ++ field (pos number) ++ codes " " ++ stage.punch.name ++ codes " "

@@ -1,6 +1,7 @@
--- The first reasons that the boxes of a pose give by themselves at each stage, and how they are kept for later strokes. Boxes lie as
--- in the pose of a group at stage 0.
-use Rattle.std.specs.Prelude.{◌≡◌, ◌⊎◌, ℕ, ◌<◌, ◌≤◌, ℤ, ◌-ℤ◌, List, [], ◌∷◌, map, length, slice_index_or, get_or, Option, Some, None}
+-- The first reasons that the boxes of a pose give by themselves at each stage, and how they are
+-- kept for later strokes. Boxes lie as in the pose of a group at stage 0.
+use Rattle.std.specs.Prelude.{◌≡◌, ◌⊎◌, ℕ, ◌<◌, ◌≤◌, ℤ, ◌-ℤ◌, List, [], ◌∷◌, map, length}
+use Rattle.std.specs.Prelude.{slice_index_or, get_or, Option, Some, None}
 use Rattle.brake_base.specs.declared.space.V3.{V3}
 use Rattle.brake_base.specs.declared.mask.Mask.{Mask}
 use Rattle.brake_base.specs.declared.stroke.Back.{Back}
@@ -39,7 +40,8 @@ pub record IsBoxOf (job : JobData) (group : Mask) (box : PoseBox) : Type 0 where
   pub solid :
       (stage : ℕ) → stage < length job.setup.stages → IsSolidBox (box_at job group stage box)
 
--- at each stage below a number, they are the first reasons of the kinds Frame, Upper, Nose and Lower that the boxes give
+-- at each stage below a number, they are the first reasons of the kinds Frame, Upper, Nose and
+-- Lower that the boxes give
 abbrev pub AreFirstOf : JobData → Mask → List PoseBox → ℕ → List (Option Reason) → Type 0
 AreFirstOf job group boxes stages reasons = (back : Back) (stage : ℕ) → stage < stages
     → IsFirstAmong job (pose_of_boxes (map (box_at job group stage) boxes)) back stage 3 6

@@ -1,5 +1,6 @@
--- What is known of a stroke's motion where nothing in the pose is hit. Ideal air bending: each half of the part turns upwards about
--- the punch's tip, seen so that it lies behind the tip, while the lower tools rise.
+-- What is known of a stroke's motion where nothing in the pose is hit. Ideal air bending: each half
+-- of the part turns upwards about the punch's tip, seen so that it lies behind the tip, while the
+-- lower tools rise.
 use Rattle.std.specs.Prelude.{◌≡◌, ℕ, ℤ, All, ⊤}
 use Rattle.brake_base.specs.declared.plane.Rat2.{Rat2}
 use Rattle.brake_base.specs.declared.stroke.Half.TheVariants.{Back, Front}
@@ -26,29 +27,36 @@ bed_range box = (box.x0, box.x1)
 abbrev pub MissesFrames : JobData → PoseBox → Type 0
 MissesFrames job box = All (λ frame. MeetsAlong box frame → ⊥) job.setup.frames
 
--- no rational point of the box's widened rectangle is, at any turn, strictly inside a box of the beam or of a punch over its range
+-- no rational point of the box's widened rectangle is, at any turn, strictly inside a box of the
+-- beam or of a punch over its range
 abbrev pub MissesUpper : JobData → PoseBox → Fixed → Type 0
 MissesUpper job box upper =
     MeetsAlong box (bed_range upper)
-    → (p : Rat2) (t : Triple) → Holds (moving_rect job box) p → IsTriple t → IsInside (seen_from box.half upper.rect) (turned t p) → ⊥
+    → (p : Rat2) (t : Triple) → Holds (moving_rect job box) p → IsTriple t
+    → IsInside (seen_from box.half upper.rect) (turned t p) → ⊥
 
 -- nor inside the nose of a punch
 abbrev pub MissesNose : JobData → PoseBox → StageData → Type 0
 MissesNose job box stage =
     MeetsAlong box (range stage)
-    → (p : Rat2) (t : Triple) → Holds (moving_rect job box) p → IsTriple t → IsInNose stage.punch.nose (turned t p) → ⊥
+    → (p : Rat2) (t : Triple) → Holds (moving_rect job box) p → IsTriple t
+    → IsInNose stage.punch.nose (turned t p) → ⊥
 
 -- nor, at any rise, inside a box of the bed or of a die
 abbrev pub MissesRising : JobData → ℕ → PoseBox → Fixed → Type 0
-MissesRising job stage box lower = MeetsAlong box (bed_range lower) → MissesLower job stage box.half (moving_rect job box) lower
+MissesRising job stage box lower =
+    MeetsAlong box (bed_range lower) → MissesLower job stage box.half (moving_rect job box) lower
 
--- no rational point of the back box is, at any turn of the one half against the other, strictly inside the front box, both widened
+-- no rational point of the back box is, at any turn of the one half against the other, strictly
+-- inside the front box, both widened
 abbrev pub MissesOther : JobData → PoseBox → PoseBox → Type 0
 MissesOther job box other =
     box.half ≡ Back → other.half ≡ Front → MeetsAlong box (x_range other.body)
-    → (p : Rat2) (t : Triple) → Holds (moving_rect job box) p → IsWideTriple t → IsInside (widened_by (widening job) (across other.body)) (turned t p) → ⊥
+    → (p : Rat2) (t : Triple) → Holds (moving_rect job box) p → IsWideTriple t
+    → IsInside (widened_by (widening job) (across other.body)) (turned t p) → ⊥
 
--- the reason says that something is hit: a frame, an upper box, a nose, a lower box, or the other half
+-- the reason says that something is hit: a frame, an upper box, a nose, a lower box, or the other
+-- half
 abbrev pub IsHitReason : Reason → Type 0
 IsHitReason (Frame box) = ⊤
 IsHitReason (Upper box quarter index) = ⊤

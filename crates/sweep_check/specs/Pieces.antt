@@ -1,5 +1,7 @@
--- The pieces of the part's boxes with the sectors that they sweep, box by box and quarter by quarter.
-use Rattle.std.specs.Prelude.{◌<◌, ◌≤◌, Option, List, [], ◌∷◌, length, All, AllPairs, option_map, option_to_list, flat_map}
+-- The pieces of the part's boxes with the sectors that they sweep, box by box and quarter by
+-- quarter.
+use Rattle.std.specs.Prelude.{◌<◌, ◌≤◌, Option, List, [], ◌∷◌, length, All, AllPairs, option_map}
+use Rattle.std.specs.Prelude.{option_to_list, flat_map}
 use Rattle.brake_base.specs.declared.plane.Rect.{Rect}
 use Rattle.brake_base.specs.declared.plane.Quarter.{Quarter}
 use Rattle.brake_base.specs.declared.plane.Quarter.TheVariants.{Q1, Q2, Q3, Q4}
@@ -22,13 +24,15 @@ pub record IsSolidBox (box : PoseBox) : Type 0 where
   pub near : IsNearPoseBox box
   pub solid : IsSolidPoseBox box
 
--- What is known of the boxes of a pose: they are solid, few, and in ascending order of their numbers.
+-- What is known of the boxes of a pose: they are solid, few, and in ascending order of their
+-- numbers.
 pub record AreSolidBoxes (boxes : List PoseBox) : Type 0 where
   pub solid : All IsSolidBox boxes
   pub few : length boxes ≤ 25
   pub ascend : AllPairs (λ a b. a.id < b.id) boxes
 
--- a part of a box in a quarter, with the sector that it sweeps, to be halved as often as the job says
+-- a part of a box in a quarter, with the sector that it sweeps, to be halved as often as the job
+-- says
 abbrev pub piece_from : JobData → Sweep → PoseBox → Quarter → Rect → Piece
 piece_from job sweep box quarter rect = record {
   body = box.id;
@@ -45,11 +49,13 @@ piece_from job sweep box quarter rect = record {
 
 -- the piece of a box in a quarter, where the box has an interior there
 abbrev pub piece_in : JobData → Sweep → PoseBox → Quarter → Option Piece
-piece_in job sweep box quarter = option_map (piece_from job sweep box quarter) (piece_at job box quarter)
+piece_in job sweep box quarter =
+    option_map (piece_from job sweep box quarter) (piece_at job box quarter)
 
 -- the pieces of a box, by quarters
 abbrev pub box_pieces : JobData → Sweep → PoseBox → List Piece
-box_pieces job sweep box = flat_map (λ quarter. option_to_list (piece_in job sweep box quarter)) (Q1 ∷ Q2 ∷ Q3 ∷ Q4 ∷ [])
+box_pieces job sweep box =
+    flat_map (λ quarter. option_to_list (piece_in job sweep box quarter)) (Q1 ∷ Q2 ∷ Q3 ∷ Q4 ∷ [])
 
 -- the pieces of the boxes, by boxes and then by quarters
 abbrev pub pieces_of : JobData → Sweep → List PoseBox → List Piece

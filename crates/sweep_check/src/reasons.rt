@@ -27,7 +27,7 @@ pub fn first_reason(job: &Job, pose: &Pose, stage: u8) -> Option<Reason>
     // With no such reason the stroke is free: no point of the sheet is inside anything at any turn.
     ensures motion { IfNone result (IsMotionFree job.now stage (pose_data pose.now)) }
 {
-    let _ = job.setup();
+    job.recall_valid();
     let back = back_of(pose.boxes.as_slice(), pose.bend);
     first_of(job, pose, back, stage)
 }
@@ -40,7 +40,7 @@ pub fn holds(job: &Job, pose: &Pose, stage: u8, reason: Reason) -> bool
     ensures exact { (stroke : IsPoseAt job.now stage (pose_data pose.now))
         → (IsTrue result ↔ IsReason job.now stroke.mask stroke.group stroke.back stage reason) }
 {
-    let _ = job.setup();
+    job.recall_valid();
     let back = back_of(pose.boxes.as_slice(), pose.bend);
     holds_with(job, pose, back, stage, reason)
 }

@@ -1,5 +1,6 @@
 -- The fields of a table, by key, type and range.
-use Rattle.std.specs.Prelude.{ℕ, suc, ℤ, List, length, Option, Some, None, Bool, nat_le, nat_lt, ◌&&◌, if◌then◌else◌, is_some, option_and_then, count_by}
+use Rattle.std.specs.Prelude.{ℕ, suc, ℤ, List, length, Option, Some, None, Bool, nat_le, nat_lt}
+use Rattle.std.specs.Prelude.{◌&&◌, if◌then◌else◌, is_some, option_and_then, count_by}
 use Rattle.std.specs.List.{list_all}
 use Rattle.toml.specs.Data.{Members, no_members, member, get_member, as_str, as_integer, as_table}
 use Rattle.toml_fields.specs.Ranges.{is_within}
@@ -15,7 +16,8 @@ has_key key members = is_some (get_member key members)
 
 -- the table has more keys than it has of the listed ones
 abbrev pub has_unknown_key : List (List ℕ) → Members → Bool
-has_unknown_key keys members = nat_lt (count_by (λ key. has_key key members) keys) (members_len members)
+has_unknown_key keys members =
+    nat_lt (count_by (λ key. has_key key members) keys) (members_len members)
 
 -- the text at a key
 abbrev pub text_at : List ℕ → Members → Option (List ℕ)
@@ -23,7 +25,9 @@ text_at key members = option_and_then as_str (get_member key members)
 
 -- 1 to 24 bytes from 0x21 to 0x7E
 abbrev pub is_name : List ℕ → Bool
-is_name text = (nat_le 1 (length text) && nat_le (length text) 24) && list_all (λ b. nat_le 0x21 b && nat_le b 0x7E) text
+is_name text =
+    (nat_le 1 (length text) && nat_le (length text) 24)
+    && list_all (λ b. nat_le 0x21 b && nat_le b 0x7E) text
 
 -- the text, where it is a name
 abbrev pub checked_name : List ℕ → Option (List ℕ)
@@ -47,7 +51,8 @@ integer_at low high key members = option_and_then (checked_integer low high) (wh
 
 -- the integer at a key, within the two ends, and the given one where the key is missing
 abbrev pub integer_or : ℤ → ℤ → ℤ → List ℕ → Members → Option ℤ
-integer_or missing low high key members = if has_key key members then integer_at low high key members else Some missing
+integer_or missing low high key members =
+    if has_key key members then integer_at low high key members else Some missing
 
 -- the table at a key
 abbrev pub table_at : List ℕ → Members → Option Members

@@ -1,7 +1,9 @@
 -- The arrays of a table.
-use Rattle.std.specs.Prelude.{ℕ, ℤ, List, [], ◌∷◌, length, Option, Some, None, Bool, ◌&&◌, if◌then◌else◌, is_some, option_and_then, option_map, ◌==◌}
+use Rattle.std.specs.Prelude.{ℕ, ℤ, List, [], ◌∷◌, length, Option, Some, None, Bool, ◌&&◌}
+use Rattle.std.specs.Prelude.{if◌then◌else◌, is_some, option_and_then, option_map, ◌==◌}
 use Rattle.std.specs.List.{list_all}
-use Rattle.toml.specs.Data.{Data, Items, no_items, item, Members, get_member, as_integer, as_array, as_table}
+use Rattle.toml.specs.Data.{Data, Items, no_items, item, Members, get_member, as_integer, as_array}
+use Rattle.toml.specs.Data.{as_table}
 use Rattle.toml_fields.specs.Fields.{has_key}
 
 -- the items of an array as a list
@@ -49,7 +51,8 @@ integers (d ∷ ds) = prepend (as_integer d) (integers ds)
 
 -- the integers of an array of exactly so many
 abbrev pub integers_of : ℕ → Data → Option (List ℤ)
-integers_of count d = option_and_then (λ items. if length items == count then integers items else None) (items_of d)
+integers_of count d =
+    option_and_then (λ items. if length items == count then integers items else None) (items_of d)
 
 -- the items are exactly so many, and each is an integer
 abbrev pub are_integers : ℕ → List Data → Bool
@@ -57,7 +60,9 @@ are_integers count items = length items == count && list_all (λ d. is_some (as_
 
 -- the value is an array of exactly so many integers
 abbrev pub is_row : ℕ → Data → Bool
-is_row count d = is_some (option_and_then (λ items. if are_integers count items then Some items else None) (items_of d))
+is_row count d =
+    is_some (option_and_then (λ items. if are_integers count items then Some items
+    else None) (items_of d))
 
 -- the items of the array at a key, each an array of exactly so many integers
 abbrev pub rows_at : ℕ → List ℕ → Members → Option (List Data)
@@ -65,4 +70,5 @@ rows_at count key members = option_and_then (each_passes (is_row count)) (array_
 
 -- the same, and none where the key is missing
 abbrev pub rows_or_none : ℕ → List ℕ → Members → Option (List Data)
-rows_or_none count key members = option_and_then (each_passes (is_row count)) (array_or_none key members)
+rows_or_none count key members =
+    option_and_then (each_passes (is_row count)) (array_or_none key members)

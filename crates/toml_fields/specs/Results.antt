@@ -1,5 +1,6 @@
 -- What a result is against its definition, and how definitions go on after a step that may refuse.
-use Rattle.std.specs.Prelude.{◌≡◌, ◌⊎◌, ℕ, ◌+◌, List, [], ◌∷◌, Bool, if◌then◌else◌, Option, Some, None, find, Result, Ok, Err}
+use Rattle.std.specs.Prelude.{◌≡◌, ◌⊎◌, ℕ, ◌+◌, List, [], ◌∷◌, Bool, if◌then◌else◌, Option, Some}
+use Rattle.std.specs.Prelude.{None, find, Result, Ok, Err}
 use Rattle.std.specs.List.{range_with_len}
 
 -- go on with the value, or keep the refusal

@@ -1,6 +1,6 @@
--- The ends of the ranges of a tools file, as docs/formats.md states them; those of an allow row are allowance's.
--- Lengths are in micrometres, loads and limits in newtons per millimetre. The code has constants of its own, and its
--- contracts tie each of them to its number here.
+-- The ends of the ranges of a tools file, as docs/formats.md states them; those of an allow row are
+-- allowance's. Lengths are in micrometres, loads and limits in newtons per millimetre. The code has
+-- constants of its own, and its contracts tie each of them to its number here.
 use Rattle.std.specs.Prelude.{ℕ, ℤ, pos}
 
 -- the greatest number of punches

@@ -1,7 +1,9 @@
 -- The numbers of a refusal of the tools file.
 use Rattle.std.specs.Prelude.{ℕ, List, [], ◌∷◌}
 use Rattle.tool_library.specs.declared.fault.ToolFault.{ToolFault}
-use Rattle.tool_library.specs.declared.fault.ToolFault.TheVariants.{NotToml, BadField, UnknownKey, TooMany, SameName, BadBox, NoMemory}
+use Rattle.tool_library.specs.declared.fault.ToolFault.TheVariants.{NotToml, BadField, UnknownKey}
+use Rattle.tool_library.specs.declared.fault.ToolFault.TheVariants.{TooMany, SameName, BadBox}
+use Rattle.tool_library.specs.declared.fault.ToolFault.TheVariants.{NoMemory}
 
 -- the number of the refusal, and then its own numbers
 abbrev pub tool_numbers : ToolFault → List ℕ

@@ -4,7 +4,8 @@ use Rattle.std.specs.List.{list_any}
 
 -- an earlier name of the list is the same as the one at the index
 abbrev pub is_repeat : List (List ℕ) → ℕ → Bool
-is_repeat names i = list_any (λ earlier. bytes_eq earlier (slice_index_or names i [])) (take i names)
+is_repeat names i =
+    list_any (λ earlier. bytes_eq earlier (slice_index_or names i [])) (take i names)
 
 -- no two names are the same
 abbrev pub AreDistinct : List (List ℕ) → Type 0

@@ -1,20 +1,26 @@
 -- The tools of a shop as texts, numbers and lists, and what tools that were read keep to.
 -- Lengths are in micrometres, loads and limits in newtons per millimetre.
-use Rattle.std.specs.Prelude.{◌≡◌, ℕ, ◌≤◌, ◌%◌, ℤ, pos, neg_ℤ, unsigned_abs, List, length, map, All, IsTrue}
+use Rattle.std.specs.Prelude.{◌≡◌, ℕ, ◌≤◌, ◌%◌, ℤ, pos, neg_ℤ, unsigned_abs, List, length, map, All}
+use Rattle.std.specs.Prelude.{IsTrue}
 use Rattle.brake_base.specs.declared.plane.Rect.{Rect}
 use Rattle.toml_fields.specs.Fields.{is_name}
 use Rattle.toml_fields.specs.Ranges.{IsWithin, IsRange}
 use Rattle.part_file.specs.Bounds.{least_thickness, greatest_thickness}
 use Rattle.allowance.specs.AllowTable.{RowData, table_data, IsAllowTable}
 use Rattle.tool_library.specs.Names.{AreDistinct}
-use Rattle.tool_library.specs.Bounds.{most_punches, most_dies, most_load_rows, most_body_boxes, most_sections, least_height, greatest_height, farthest_across, least_section_length, greatest_section_length, least_section_count, greatest_section_count, least_opening, greatest_opening, greatest_flange, greatest_limit, least_load, greatest_load}
+use Rattle.tool_library.specs.Bounds.{most_punches, most_dies, most_load_rows, most_body_boxes}
+use Rattle.tool_library.specs.Bounds.{most_sections, least_height, greatest_height, farthest_across}
+use Rattle.tool_library.specs.Bounds.{least_section_length, greatest_section_length}
+use Rattle.tool_library.specs.Bounds.{least_section_count, greatest_section_count, least_opening}
+use Rattle.tool_library.specs.Bounds.{greatest_opening, greatest_flange, greatest_limit, least_load}
+use Rattle.tool_library.specs.Bounds.{greatest_load}
 use Rattle.tool_library.specs.declared.tools.Punch.{Punch}
 use Rattle.tool_library.specs.declared.tools.Die.{Die}
 use Rattle.tool_library.specs.declared.tools.LoadRow.{LoadRow}
 use Rattle.tool_library.specs.declared.tools.Tools.{Tools}
 
--- an upper tool: the size of the wedge at its tip, the boxes of its profile with z up from the tip, and the lengths of
--- its sections with their counts
+-- an upper tool: the size of the wedge at its tip, the boxes of its profile with z up from the tip,
+-- and the lengths of its sections with their counts
 pub record PunchData : Type 0 where
   pub name : List ℕ
   pub height : ℤ
@@ -23,8 +29,8 @@ pub record PunchData : Type 0 where
   pub sections : List (ℤ × ℕ)
   pub limit : ℤ
 
--- a lower tool: the width of its opening, the shortest flange that it can bend, and the boxes of its profile with z
--- upwards, negative below its top
+-- a lower tool: the width of its opening, the shortest flange that it can bend, and the boxes of
+-- its profile with z upwards, negative below its top
 pub record DieData : Type 0 where
   pub name : List ℕ
   pub height : ℤ
@@ -50,16 +56,40 @@ pub record ToolsData : Type 0 where
 
 -- what contracts see of the code's types
 abbrev pub punch_data : Punch → PunchData
-punch_data p = record { name = p.name.bytes; height = p.height; nose = p.nose; body = p.body.items; sections = p.sections.items; limit = p.limit }
+punch_data p =
+    record {
+      name = p.name.bytes;
+      height = p.height;
+      nose = p.nose;
+      body = p.body.items;
+      sections = p.sections.items;
+      limit = p.limit;
+    }
 
 abbrev pub die_data : Die → DieData
-die_data d = record { name = d.name.bytes; height = d.height; v = d.v; least_flange = d.least_flange; body = d.body.items; sections = d.sections.items; limit = d.limit }
+die_data d =
+    record {
+      name = d.name.bytes;
+      height = d.height;
+      v = d.v;
+      least_flange = d.least_flange;
+      body = d.body.items;
+      sections = d.sections.items;
+      limit = d.limit;
+    }
 
 abbrev pub load_data : LoadRow → LoadData
-load_data r = record { material = r.material.bytes; thickness = r.thickness; v = r.v; load = r.load }
+load_data r =
+    record { material = r.material.bytes; thickness = r.thickness; v = r.v; load = r.load }
 
 abbrev pub tools_data : Tools → ToolsData
-tools_data t = record { punches = map punch_data t.punches.items; dies = map die_data t.dies.items; allow = table_data t.allow; loads = map load_data t.loads.items }
+tools_data t =
+    record {
+      punches = map punch_data t.punches.items;
+      dies = map die_data t.dies.items;
+      allow = table_data t.allow;
+      loads = map load_data t.loads.items;
+    }
 
 -- the names of tools
 abbrev pub names_of_punches : List PunchData → List (List ℕ)

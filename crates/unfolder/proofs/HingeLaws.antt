@@ -137,12 +137,6 @@ quarter_on d o north = refl
 quarter_on d o west = refl
 quarter_on d o south = refl
 
-pub heading_flat : (d o : V3) → IsHeading d o → (d.z ≡ pos 0) × (o.z ≡ pos 0)
-heading_flat d o east = (refl, refl)
-heading_flat d o north = (refl, refl)
-heading_flat d o west = (refl, refl)
-heading_flat d o south = (refl, refl)
-
 -- ---- a map of the sheet and a frame
 pub mapped-in_frame : (f : Map) (p : V3) (m : ℤ) (d : V3) (n : ℤ) (o : V3) (w : ℤ) → apply f.turn z_axis ≡ z_axis → mapped f (in_frame p m d n o w) ≡ in_frame (mapped f p) m (apply f.turn d) n (apply f.turn o) w
 unfolding mapped

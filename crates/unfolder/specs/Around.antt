@@ -6,7 +6,13 @@ use Rattle.unfolder.specs.declared.blank.FlatFace.{FlatFace}
 
 -- the least rectangle that holds both
 abbrev pub rect_of_both : FlatRect → FlatRect → FlatRect
-rect_of_both a b = record { x0 = int_min a.x0 b.x0; x1 = int_max a.x1 b.x1; y0 = int_min a.y0 b.y0; y1 = int_max a.y1 b.y1 }
+rect_of_both a b =
+    record {
+      x0 = int_min a.x0 b.x0;
+      x1 = int_max a.x1 b.x1;
+      y0 = int_min a.y0 b.y0;
+      y1 = int_max a.y1 b.y1;
+    }
 
 -- the least rectangle that holds the first one and the faces, side by side
 abbrev pub rect_around : FlatRect → List FlatFace → FlatRect

@@ -1,5 +1,6 @@
 -- What each bend takes from a face: its core, and where the bend lines lie on it.
-use Rattle.std.specs.Prelude.{ℕ, ℤ, pos, ◌+ℤ◌, ◌-ℤ◌, neg_ℤ, int_lt, int_le, Bool, true, false, ◌&&◌, ◌||◌, not, List, unwrap_or}
+use Rattle.std.specs.Prelude.{ℕ, ℤ, pos, ◌+ℤ◌, ◌-ℤ◌, neg_ℤ, int_lt, int_le, Bool, true, false, ◌&&◌}
+use Rattle.std.specs.Prelude.{◌||◌, not, List, unwrap_or}
 use Rattle.brake_base.specs.declared.space.V3.{V3}
 use Rattle.brake_base.specs.Vectors.{vector, plus, times}
 use Rattle.part_file.specs.declared.part.Joint.{Joint}
@@ -45,7 +46,8 @@ face_less faces amount f = record {
   y1 = (face_at faces f).length -ℤ if_bent (is_bent faces f N) amount;
 }
 
--- the core of face f: what is left of it when it has lost q, half of a bend's deduction, at each bent side
+-- the core of face f: what is left of it when it has lost q, half of a bend's deduction, at each
+-- bent side
 abbrev pub core : List FaceData → ℤ → ℕ → FlatRect
 core faces q f = face_less faces q f
 
@@ -53,7 +55,8 @@ core faces q f = face_less faces q f
 abbrev pub is_too_small : FlatRect → Bool
 is_too_small r = int_lt (r.x1 -ℤ r.x0) (pos 1) || int_lt (r.y1 -ℤ r.y0) (pos 1)
 
--- the ends of the line of bend b, in the frame of its parent: q inside the side, over the child's core width
+-- the ends of the line of bend b, in the frame of its parent: q inside the side, over the child's
+-- core width
 abbrev pub line_start : List FaceData → ℤ → ℕ → V3
 line_start faces q b =
     let joint = joint_of faces b in
@@ -62,7 +65,8 @@ line_start faces q b =
 abbrev pub line_end : List FaceData → ℤ → ℕ → V3
 line_end faces q b =
     let joint = joint_of faces b in
-    side_point joint.side (face_at faces joint.on) ((joint.at +ℤ (face_at faces b).width) -ℤ if_bent (is_bent faces b E) q) q
+    side_point joint.side (face_at faces joint.on) ((joint.at
+    +ℤ (face_at faces b).width) -ℤ if_bent (is_bent faces b E) q) q
 
 -- that line in the plane of the parent
 abbrev pub parent_line : List FaceData → ℤ → ℕ → BendLine

@@ -1,4 +1,5 @@
--- The designed part: its plates in space, straight from the outside sizes. No deduction occurs in it.
+-- The designed part: its plates in space, straight from the outside sizes. No deduction occurs in
+-- it.
 use Rattle.std.specs.Prelude.{ℕ, ℤ, pos, negsuc, neg_ℤ, List}
 use Rattle.brake_base.specs.declared.space.Box3.{Box3}
 use Rattle.brake_base.specs.Vectors.{vector, plus, times}
@@ -16,12 +17,16 @@ abbrev pub fold_sign : Dir → ℤ
 fold_sign Up = pos 1
 fold_sign Down = negsuc 0
 
--- From a child's frame to its parent's, where the bend is folded: the child stands on the parent's outer mould line.
--- Its mid-plane lies half the thickness, tau, inside the parent's side, and its y starts tau outside the parent's mid-plane.
+-- From a child's frame to its parent's, where the bend is folded: the child stands on the parent's
+-- outer mould line. Its mid-plane lies half the thickness, tau, inside the parent's side, and its y
+-- starts tau outside the parent's mid-plane.
 abbrev pub design_step : List FaceData → ℤ → ℕ → Map
 design_step faces tau b = let joint = joint_of faces b in let s = fold_sign joint.dir in record {
-  turn = record { x = along joint.side; y = times s z_axis; z = times (neg_ℤ s) (outward joint.side) };
-  shift = plus (side_point joint.side (face_at faces joint.on) joint.at tau) (times (neg_ℤ s) (times tau z_axis));
+  turn =
+      record { x = along joint.side; y = times s z_axis; z = times (neg_ℤ s) (outward joint.side) };
+  shift =
+      plus (side_point joint.side (face_at faces joint.on) joint.at tau)
+      (times (neg_ℤ s) (times tau z_axis));
 }
 
 -- where face f stands in the designed part, in the coordinates of face 0
@@ -32,6 +37,7 @@ design faces tau f = to_root faces (design_step faces tau) f
 abbrev pub thick : ℤ → FlatRect → Box3
 thick tau r = record { lo = vector r.x0 r.y0 (neg_ℤ tau); hi = vector r.x1 r.y1 tau }
 
--- the plate of face f: between its mould lines, which lie tau inside its outside edges at the bent sides
+-- the plate of face f: between its mould lines, which lie tau inside its outside edges at the bent
+-- sides
 abbrev pub plate : List FaceData → ℤ → ℕ → Box3
 plate faces tau f = image (design faces tau f) (thick tau (face_less faces tau f))

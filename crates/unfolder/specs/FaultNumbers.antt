@@ -1,7 +1,8 @@
 -- The numbers of a refusal of the blank.
 use Rattle.std.specs.Prelude.{ℕ, List, [], ◌∷◌}
 use Rattle.unfolder.specs.declared.blank.UnfoldFault.{UnfoldFault}
-use Rattle.unfolder.specs.declared.blank.UnfoldFault.TheVariants.{CoreTooSmall, BendOffFace, FlatOverlap}
+use Rattle.unfolder.specs.declared.blank.UnfoldFault.TheVariants.{CoreTooSmall, BendOffFace}
+use Rattle.unfolder.specs.declared.blank.UnfoldFault.TheVariants.{FlatOverlap}
 
 -- the number of the refusal, and then its own numbers
 abbrev pub unfold_numbers : UnfoldFault → List ℕ

@@ -1,5 +1,6 @@
 -- The printed blank, folded: each bend of a set is hinged by a right angle at its line.
-use Rattle.std.specs.Prelude.{◌≡◌, ℕ, ◌-◌, ◌<◌, ℤ, pos, ◌+ℤ◌, ◌-ℤ◌, ◌*ℤ◌, neg_ℤ, Bool, true, List, length, slice_index_or, if◌then◌else◌}
+use Rattle.std.specs.Prelude.{◌≡◌, ℕ, ◌-◌, ◌<◌, ℤ, pos, ◌+ℤ◌, ◌-ℤ◌, ◌*ℤ◌, neg_ℤ, Bool, true, List}
+use Rattle.std.specs.Prelude.{length, slice_index_or, if◌then◌else◌}
 use Rattle.std.specs.Int.{int_signum}
 use Rattle.brake_base.specs.declared.space.V3.{V3}
 use Rattle.brake_base.specs.Vectors.{vector, plus, times, origin}
@@ -28,14 +29,16 @@ line_origin line = vector line.from.0 line.from.1 (pos 0)
 
 -- the direction in which a printed line runs, along x or y
 abbrev pub line_along : BendLine → V3
-line_along line = vector (int_signum (line.to.0 -ℤ line.from.0)) (int_signum (line.to.1 -ℤ line.from.1)) (pos 0)
+line_along line =
+    vector (int_signum (line.to.0 -ℤ line.from.0)) (int_signum (line.to.1 -ℤ line.from.1)) (pos 0)
 
 -- that direction turned a quarter turn counterclockwise
 abbrev pub line_outward : BendLine → V3
 line_outward line = let d = line_along line in vector (neg_ℤ d.y) d.x (pos 0)
 
--- Where a hinge takes a point: A + u*d + v*o + w*z goes to A + u*d + (h - s*w)*o + s*(h + v)*z, for a line that runs
--- from A along d, with o across it, z up from the sheet, and s 1 for up and -1 for down.
+-- Where a hinge takes a point: A + u*d + v*o + w*z goes to A + u*d + (h - s*w)*o + s*(h + v)*z, for
+-- a line that runs from A along d, with o across it, z up from the sheet, and s 1 for up and -1 for
+-- down.
 abbrev pub hinged_about : V3 → V3 → V3 → ℤ → ℤ → V3 → V3
 hinged_about start d o s h p =
     let from_start = minus p start in
@@ -44,9 +47,11 @@ hinged_about start d o s h p =
     let w = from_start.z in
     plus (plus (plus start (times u d)) (times (h -ℤ s *ℤ w) o)) (times (s *ℤ (h +ℤ v)) z_axis)
 
--- the hinge of a printed line; h is the distance from the line to the mould line in the sheet's mid-plane
+-- the hinge of a printed line; h is the distance from the line to the mould line in the sheet's
+-- mid-plane
 abbrev pub hinged : ℤ → BendLine → V3 → V3
-hinged h line = hinged_about (line_origin line) (line_along line) (line_outward line) (fold_sign line.dir) h
+hinged h line =
+    hinged_about (line_origin line) (line_along line) (line_outward line) (fold_sign line.dir) h
 
 -- the map with these images of the origin and of the three unit vectors
 abbrev pub map_through : (V3 → V3) → Map
@@ -63,7 +68,8 @@ map_through image_of = record {
 unfoldable pub hinge : ℤ → BendLine → Map
 hinge h line = map_through (hinged h line)
 
--- what the bends of the set on the way to the root do to face f: the blank is hinged at each of them, once
+-- what the bends of the set on the way to the root do to face f: the blank is hinged at each of
+-- them, once
 abbrev pub fold : List FaceData → ℤ → (ℕ → BendLine) → (ℕ → Bool) → ℕ → Map
 fold faces h line_of set f = to_root faces (λ b. if set b then hinge h (line_of b) else stay) f
 
@@ -88,8 +94,14 @@ grown_core faces q h f = let r = core faces q f in record {
 abbrev pub folded : List FaceData → ℤ → ℤ → BlankData → ℕ → Map
 folded faces q h blank f = after (fold faces h (printed_line blank) (λ b. true) f) (flat faces q f)
 
--- Folded at every bend, the printed blank is the designed part: each face lies where it stands in the design, and its
--- core, grown to the mould lines and as thick as the sheet, is the designed plate.
+-- Folded at every bend, the printed blank is the designed part: each face lies where it stands in
+-- the design, and its core, grown to the mould lines and as thick as the sheet, is the designed
+-- plate.
 pub record FoldsBack (part : PartData) (q : ℤ) (blank : BlankData) : Type 0 where
-  pub places : (f : ℕ) → f < length part.faces → folded part.faces q (q -ℤ half_thickness part) blank f ≡ design part.faces (half_thickness part) f
-  pub plates : (f : ℕ) → f < length part.faces → image (folded part.faces q (q -ℤ half_thickness part) blank f) (thick (half_thickness part) (grown_core part.faces q (q -ℤ half_thickness part) f)) ≡ plate part.faces (half_thickness part) f
+  pub places : (f : ℕ) → f < length part.faces
+      → folded part.faces q (q -ℤ half_thickness part) blank f
+      ≡ design part.faces (half_thickness part) f
+  pub plates : (f : ℕ) → f < length part.faces
+      → image (folded part.faces q (q -ℤ half_thickness part) blank f)
+      (thick (half_thickness part) (grown_core part.faces q (q -ℤ half_thickness part) f))
+      ≡ plate part.faces (half_thickness part) f

@@ -24,4 +24,6 @@ pub record IsFrameOf (faces : List FaceData) (q : ℤ) (f : ℕ) (frame : Frame)
 
 -- the frames of the first faces, in order
 abbrev pub AreFrames : List FaceData → ℤ → List Frame → Type 0
-AreFrames faces q frames = (f : ℕ) (other : Frame) → f < length frames → IsFrameOf faces q f (slice_index_or frames f other)
+AreFrames faces q frames =
+    (f : ℕ) (other : Frame) → f < length frames
+    → IsFrameOf faces q f (slice_index_or frames f other)

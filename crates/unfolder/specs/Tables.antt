@@ -19,7 +19,9 @@ no_line = record { bend = 0; from = (pos 0, pos 0); to = (pos 0, pos 0); dir = U
 
 -- bend b is off the edge of its parent's core, by the lists of cores and of lines
 abbrev pub is_off_edge_in : List FaceData → List FlatRect → List BendLine → ℕ → Bool
-is_off_edge_in faces cores lines b = is_off_edge (slice_index_or cores (joint_of faces b).on no_rect) (slice_index_or lines (b - 1) no_line)
+is_off_edge_in faces cores lines b =
+    is_off_edge (slice_index_or cores (joint_of faces b).on no_rect)
+    (slice_index_or lines (b - 1) no_line)
 
 abbrev pub no_frame : Frame
 no_frame = record { turn = 0; x = pos 0; y = pos 0 }
@@ -33,4 +35,6 @@ laid_face cores frames f = let frame = slice_index_or frames f no_frame in recor
 
 -- bend b laid in the frame of its parent
 abbrev pub laid_line : List FaceData → List Frame → List BendLine → ℕ → BendLine
-laid_line faces frames lines b = line_image (frame_map (slice_index_or frames (joint_of faces b).on no_frame)) (slice_index_or lines (b - 1) no_line)
+laid_line faces frames lines b =
+    line_image (frame_map (slice_index_or frames (joint_of faces b).on no_frame))
+    (slice_index_or lines (b - 1) no_line)

@@ -44,7 +44,7 @@ returns-in_err-read_notes-clause-answer c = λ cert written.
     absurd (c.in_err-read_notes.ensures.notes no_cert cert (job_completes c.args.text.now c.args.job.now c.in_ok-first_job.field-0 c.new-reader.result c.first_job.new.reader cert c.new-reader.ensures.reader c.in_ok-first_job.ensures.job written) holds_none)
 
 pub of-actions-requires-clause-mask : goal.of-actions-requires-clause-mask
-of-actions-requires-clause-mask c = rw c.empty.ensures.number (start_in_range c.args.job.now c.setup.ensures.valid).mask
+of-actions-requires-clause-mask c = rw c.empty.ensures.number (start_in_range c.args.job.now c.recall_valid.ensures).mask
 
 pub loop-row-init : goal.loop-row-init
 loop-row-init c = record {

@@ -10,7 +10,7 @@ pub facts-facts-requires : goal.facts-facts-requires
 facts-facts-requires c = subst (λ (job : JobData). c.args.key.now.mask.0 < 2 ^ bend_count job) (sym c.requires.sets) c.requires.key.mask
 
 pub bound-requires : goal.bound-requires
-bound-requires c = let few = few_stages c.args.job.now c.setup.ensures.valid in let stage = c.requires.key.stage in omega (arith, few, stage)
+bound-requires c = let few = few_stages c.args.job.now c.recall_valid.ensures in let stage = c.requires.key.stage in omega (arith, few, stage)
 
 pub returns-clause-value : goal.returns-clause-value
 unfolding bound_of
@@ -20,6 +20,6 @@ returns-clause-value c =
 
 pub returns-clause-small : goal.returns-clause-small
 returns-clause-small c =
-    let small = bound_small c.args.job.now c.setup.ensures.valid c.args.key.now c.requires.key in
+    let small = bound_small c.args.job.now c.recall_valid.ensures c.args.key.now c.requires.key in
     let value = returns-clause-value c in
     omega (arith, small, value)

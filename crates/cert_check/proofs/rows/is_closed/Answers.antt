@@ -25,7 +25,7 @@ is_proved_with-requires-clause-key c =
     let action = action_at (stage_count job) c.args.number in
     let key = next_key_is job head.key action c.args.next.now next in
     subst (λ (j : JobData). IsKeyOf j c.args.next.now.key) (sym c.requires.rows)
-    (subst (IsKeyOf job) (sym key) (next_in_range job c.setup.ensures.valid head.key action (row_key job head c.requires.head) (tried_at job head.key c.args.number c.requires.number next.lead)))
+    (subst (IsKeyOf job) (sym key) (next_in_range job c.recall_valid.ensures head.key action (row_key job head c.requires.head) (tried_at job head.key c.args.number c.requires.number next.lead)))
 
 pub is_proved_with-requires-clause-bound : goal.is_proved_with-requires-clause-bound
 is_proved_with-requires-clause-bound c = c.requires.next.bound ∙ ap (λ (j : JobData). bound_of j c.args.next.now.key) (sym c.requires.rows)
@@ -38,8 +38,8 @@ is_proved_with-requires-clause-small c =
     let action = action_at (stage_count job) c.args.number in
     let key = next_key_is job head.key action c.args.next.now next in
     let ranged : IsKeyOf job c.args.next.now.key =
-    subst (IsKeyOf job) (sym key) (next_in_range job c.setup.ensures.valid head.key action (row_key job head c.requires.head) (tried_at job head.key c.args.number c.requires.number next.lead)) in
-    let small = bound_small job c.setup.ensures.valid c.args.next.now.key ranged in
+    subst (IsKeyOf job) (sym key) (next_in_range job c.recall_valid.ensures head.key action (row_key job head c.requires.head) (tried_at job head.key c.args.number c.requires.number next.lead)) in
+    let small = bound_small job c.recall_valid.ensures c.args.next.now.key ranged in
     let bound = next.bound in
     omega (arith, small, bound)
 

@@ -9,7 +9,7 @@ use Rattle.cert_check.proofs.RowLemmas.{next_is}
 use Rattle.cert_check.proofs.set_actions.next_after.Goals as goal
 
 pub attitude-attitude-requires-clause-last : goal.attitude-attitude-requires-clause-last
-attitude-attitude-requires-clause-last c = let few = few_bends c.args.job.now c.setup.ensures.valid in let last = c.requires.last in omega (arith, few, last)
+attitude-attitude-requires-clause-last c = let few = few_bends c.args.job.now c.recall_valid.ensures in let last = c.requires.last in omega (arith, few, last)
 
 pub bound_at-bound-requires-clause-key : goal.bound_at-bound-requires-clause-key
 bound_at-bound-requires-clause-key c =
@@ -17,12 +17,12 @@ bound_at-bound-requires-clause-key c =
     let mask = c.args.mask in
     let action = c.args.action in
     let from : Key = record { mask = mask; attitude = 0; stage = 0 } in
-    let some = some_stage job c.setup.ensures.valid in
+    let some = some_stage job c.recall_valid.ensures in
     let ranged : IsKeyOf job from = record { mask = c.requires.mask; attitude = omega arith; stage = some } in
     let attitude : c.attitude-attitude.result ≡ attitude_at job mask action = c.attitude-attitude.ensures ∙ c.requires.facts.held action 0 c.requires.first c.requires.last in
     let masks : c.union.result ≡ union mask (group_of job mask action.bend) = c.union.ensures.value ∙ ap (union mask) c.group.ensures.value in
     subst (IsKeyOf job) (sym (next_is job from action c.union.result c.attitude-attitude.result masks attitude))
-    (next_in_range job c.setup.ensures.valid from action ranged (record { first = c.requires.first; last = c.requires.last; stage = c.requires.stage; lead = c.requires.lead }))
+    (next_in_range job c.recall_valid.ensures from action ranged (record { first = c.requires.first; last = c.requires.last; stage = c.requires.stage; lead = c.requires.lead }))
 
 pub returns-clause-next : goal.returns-clause-next
 returns-clause-next c =

@@ -6,7 +6,7 @@ use Rattle.cert_check.specs.SetActions.{IsNext}
 use Rattle.cert_check.proofs.set_actions.next_of.Goals as goal
 
 pub contains-requires-clause-last : goal.contains-requires-clause-last
-contains-requires-clause-last c = let few = few_bends c.args.job.now c.setup.ensures.valid in let last = c.action_at-action.ensures.last in omega (arith, few, last)
+contains-requires-clause-last c = let few = few_bends c.args.job.now c.recall_valid.ensures in let last = c.action_at-action.ensures.last in omega (arith, few, last)
 
 pub next_after-requires-clause-lead : goal.next_after-requires-clause-lead
 next_after-requires-clause-lead c =

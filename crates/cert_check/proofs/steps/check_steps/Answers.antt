@@ -5,7 +5,7 @@ use Rattle.cert_check.proofs.StepLemmas.{steps_answer, few_steps}
 use Rattle.cert_check.proofs.steps.check_steps.Goals as goal
 
 pub follow-requires-clause-few : goal.follow-requires-clause-few
-follow-requires-clause-few c = few_steps c.args.job.now c.args.claim c.args.steps.now c.setup.ensures.valid c.requires.count
+follow-requires-clause-few c = few_steps c.args.job.now c.args.claim c.args.steps.now c.recall_valid.ensures c.requires.count
 
 pub returns-in-Cost : goal.returns-in-Cost
 returns-in-Cost c =

@@ -14,7 +14,7 @@ loop-index-init c =
     let same = ap (λ (k : Key). total job k steps) c.start_key-key.ensures in
     record {
       leads = subst (Leads job start steps 0) (sym c.start_key-key.ensures) (leads_start job start steps);
-      range = subst (IsKeyOf job) (sym c.start_key-key.ensures) (start_in_range job c.setup.ensures.valid);
+      range = subst (IsKeyOf job) (sym c.start_key-key.ensures) (start_in_range job c.recall_valid.ensures);
       cost = omega (arith, same);
       small = omega arith;
     }

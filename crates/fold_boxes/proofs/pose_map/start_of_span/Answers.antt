@@ -1,7 +1,7 @@
 use Rattle.std.proofs.Common.{◌≡◌, ◌∙◌, ap, pos, ◌-ℤ◌, arith}
 use Rattle.std.specs.Int.{int_div_euclid}
 use Rattle.std.proofs.lemmas.Int.{ints}
-use Rattle.fold_boxes.proofs.Halving.{floor_half}
+use Rattle.algebra.proofs.Halves.{floor_half}
 use Rattle.fold_boxes.proofs.pose_map.start_of_span.Goals as goal
 
 pub overflow_add-result : goal.overflow_add-result

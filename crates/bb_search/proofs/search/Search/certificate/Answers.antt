@@ -23,6 +23,6 @@ returns c =
     let heads = subst (λ (os : List ℕ). AreHeads inside.pool.rows os (length os) c.in_ok-rows.rows.items) c.deref.ensures.value c.in_ok-rows.ensures in
     let notes = subst (λ (os : List ℕ). AreNotes inside.pool os (note_order (length os) 0) c.in_ok-notes.notes.items) c.deref-2.ensures.value c.in_ok-notes.ensures in
     subst (λ (s : SearchData). IsCertificateOf s cert) c.self.view_is
-    (certificate_is search c.args.job.now (c.requires.job ∙ sym (ap (λ (s : SearchData). s.job) c.self.view_is)) c.setup.ensures.valid c.in_ok-orders.ensures.pool c.self.invariant.limit
+    (certificate_is search c.args.job.now (c.requires.job ∙ sym (ap (λ (s : SearchData). s.job) c.self.view_is)) c.recall_valid.ensures c.in_ok-orders.ensures.pool c.self.invariant.limit
     (subst HasAnswer (sym c.self.view_is) c.requires.answered) c.claim_of.result c.claim_of.ensures c.copy_of.result.items c.copy_of.ensures
     c.in_ok-orders.orders.items c.in_ok-orders.ensures.orders c.in_ok-rows.rows.items heads c.in_ok-notes.notes.items notes)

@@ -11,10 +11,10 @@ use Rattle.cert_check.proofs.ActionLemmas.{kept_more}
 use Rattle.cert_check.proofs.set_actions.SetActions.holds.Goals as goal
 
 pub is_held-requires : goal.is_held-requires
-is_held-requires c = let most = most_actions c.args.job.now c.setup.ensures.valid in let number = c.requires.number in omega (arith, most, number)
+is_held-requires c = let most = most_actions c.args.job.now c.recall_valid.ensures in let number = c.requires.number in omega (arith, most, number)
 
 pub keep-requires : goal.keep-requires
-keep-requires c = let most = most_actions c.args.job.now c.setup.ensures.valid in let number = c.requires.number in omega (arith, most, number)
+keep-requires c = let most = most_actions c.args.job.now c.recall_valid.ensures in let number = c.requires.number in omega (arith, most, number)
 
 pub holds-requires-clause-flat : goal.holds-requires-clause-flat
 holds-requires-clause-flat c =
