@@ -3,8 +3,9 @@ ghost use Rattle.std.specs.Prelude.{◌≡◌, ◌≤◌, None, IsErrOf, OnErr};
 ghost use Rattle.brake_io.specs.Rose.{raised, Rose};
 ghost use Rattle.brake_io.specs.Meanings.{NoCountFalls};
 
+use crate::beside::store_whole;
 use crate::shelf::{FetchFault, Shelf, StoreFault};
-use crate::whole::{read_whole, write_whole};
+use crate::whole::read_whole;
 use std::alloc::Global;
 use std::fs;
 use std::rt::Files;
@@ -66,11 +67,7 @@ impl<R: Files + Drop> Shelf for DirShelf<R> {
         ensures counted { OnErr result (self.new.faults ≡ raised self.old.faults) }
     {
         self.calls = self.calls.saturating_add(1);
-        let is_whole = match fs::create(&self.rt, name) {
-            Ok(mut file) => write_whole(&mut file, bytes),
-            Err(_) => false,
-        };
-        if is_whole {
+        if store_whole(&self.rt, name, bytes) {
             return Ok(());
         }
         self.faults = self.faults.saturating_add(1);

@@ -2,6 +2,7 @@
 //! memory and over the system.
 #![tactic(auto)]
 
+mod beside;
 mod dir_shelf;
 mod mem_shelf;
 mod mem_sink;

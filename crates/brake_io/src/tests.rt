@@ -2,8 +2,9 @@
 
 use crate::whole::write_whole;
 use crate::*;
-use std::fs;
-use std::io::Write;
+use std::fs::{self, Permissions};
+use std::io::{self, Write};
+use std::os::unix::fs::{PermissionsExt, symlink};
 use std::test::Fail;
 
 /// A writer that takes at most two bytes at a time, and no more than so many.
@@ -52,6 +53,54 @@ fn files_of_the_folder(rt: HostRuntime) -> Result<(), Fail> {
         Some(FetchFault::Failed)
     );
     assert_eq!(rt; shelf.store("none/note", b"hello"), Err(StoreFault::Failed));
+    Ok(())
+}
+
+/// The old file stays as it was for who has it open, its permissions stay with the name, and another
+/// run's new file isn't touched.
+#[test]
+fn a_stored_file_is_a_new_one(rt: HostRuntime) -> Result<(), Fail> {
+    let mut shelf = DirShelf::new(&rt);
+    assert_eq!(rt; shelf.store("cert", b"old"), Ok(()));
+    fs::set_permissions(&rt, "cert", Permissions::from_mode(0o600))?;
+    fs::write(&rt, "cert.new0", "of another run")?;
+    let mut before = fs::open(&rt, "cert")?;
+    assert_eq!(rt; shelf.store("cert", b"the new one"), Ok(()));
+    assert_eq!(rt;
+        io::read_to_string(rt.alloc(), &mut before)?.as_str(),
+        "old"
+    );
+    assert_eq!(rt;
+        fs::read(&rt, "cert")?.as_slice(),
+        b"the new one".as_slice()
+    );
+    assert_eq!(rt;
+        fs::metadata(&rt, "cert")?.permissions().mode() & 0o777,
+        0o600
+    );
+    assert_eq!(rt;
+        fs::read(&rt, "cert.new0")?.as_slice(),
+        b"of another run".as_slice()
+    );
+    assert_eq!(rt; fs::exists(&rt, "cert.new1")?, false);
+    Ok(())
+}
+
+#[test]
+fn links_and_devices_are_written_in_place(rt: HostRuntime) -> Result<(), Fail> {
+    let mut shelf = DirShelf::new(&rt);
+    symlink(&rt, "cert", "link")?;
+    assert_eq!(rt; shelf.store("link", b"by the link"), Ok(()));
+    assert_eq!(rt; fs::symlink_metadata(&rt, "link")?.is_symlink(), true);
+    assert_eq!(rt;
+        fs::read(&rt, "cert")?.as_slice(),
+        b"by the link".as_slice()
+    );
+    fs::hard_link(&rt, "cert", "other")?;
+    assert_eq!(rt; shelf.store("other", b"by both"), Ok(()));
+    assert_eq!(rt; fs::read(&rt, "cert")?.as_slice(), b"by both".as_slice());
+    assert_eq!(rt; shelf.store("/dev/full", b"none"), Err(StoreFault::Failed));
+    assert_eq!(rt; shelf.store("/dev/null", b"gone"), Ok(()));
     Ok(())
 }
 
