@@ -1,0 +1,5 @@
+pub mod Drawn
+pub mod Begun
+pub mod Firsts
+pub mod Steps
+pub mod Supplies

@@ -1,0 +1,15 @@
+//! The choice of tool pieces for the stages of a setup, from the shop's stock. Lengths are in
+//! micrometres. It takes no memory.
+#![tactic(auto)]
+
+mod choice;
+#[cfg(test)]
+mod choice_tests;
+mod dead_states;
+mod piece_search;
+mod stock;
+mod supply;
+mod want;
+
+pub use choice::pick;
+pub use want::{MOST_PIECES, MOST_WANTS, Picked, Pieces, Want};
