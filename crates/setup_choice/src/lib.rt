@@ -1,0 +1,29 @@
+//! The setups that a shop may build for a job: their file, what becomes of each on the machine, and
+//! which is the cheapest. Lengths are in micrometres.
+#![tactic(auto)]
+
+pub mod bounds;
+mod cheapest;
+#[cfg(test)]
+mod cheapest_tests;
+mod checks;
+mod fault;
+mod fault_numbers;
+mod fitting;
+#[cfg(test)]
+mod fitting_tests;
+mod made;
+mod outcome;
+mod reader;
+mod setups;
+#[cfg(test)]
+mod setups_file_tests;
+mod stages;
+mod wants;
+
+pub use cheapest::{Tried, best};
+pub use fault::SetupFault;
+pub use fitting::fit;
+pub use outcome::Fit;
+pub use reader::read_setups;
+pub use setups::{OneSetup, Setups, StageWant};
