@@ -21,6 +21,16 @@ any_after P [] ys (k, x, low, same, holds) = absurd (omega (arith, low))
 any_after P (z ∷ xs) ys (zero, x, low, same, holds) = any_here P z (xs ++ ys) (subst P (sym same) holds)
 any_after P (z ∷ xs) ys (suc k, x, low, same, holds) = any_later P z (xs ++ ys) (any_after P xs ys (k, x, omega (arith, low), same, holds))
 
+-- one more
+pub any_split : {X : Type 0} (P : X → Type 0) (xs : List X) (y : X) → Any P (xs ++ y ∷ []) → Any P xs ⊎ P y
+any_split P [] y (zero, x, low, same, holds) = inr (subst P (sym same) holds)
+any_split P [] y (suc k, x, low, same, holds) = absurd (omega (arith, low))
+any_split P (z ∷ xs) y (zero, x, low, same, holds) = inl (any_here P z xs (subst P (sym same) holds))
+any_split P (z ∷ xs) y (suc k, x, low, same, holds) = elim (any_split P xs y (k, x, omega (arith, low), same, holds)) [
+  | inl some ↦ inl (any_later P z xs some)
+  | inr last ↦ inr last
+]
+
 pub any_mapped : {X Y : Type 0} (P : Y → Type 0) (f : X → Y) (xs : List X) → Any (λ x. P (f x)) xs → Any P (map f xs)
 any_mapped P f xs some = (some.0, f some.1, omega (arith, some.2, length-map xs f), get_or-map f xs some.0 some.1 (f some.1) some.2 ∙ ap f some.3, some.4)
 

@@ -1,14 +1,15 @@
 -- The path between two faces, as a walk.
-use Rattle.std.proofs.Common.{◌≡◌, ◌⊎◌, inl, inr, ℕ, zero, suc, ◌+◌, ◌<◌, ◌≤◌, ◌==◌, Bool, true, false, not, ◌&&◌, ◌||◌, List, [], ◌∷◌, ◌++◌, length, IsTrue, refl, ◌∙◌, ap, arith}
+use Rattle.std.proofs.Common.{◌≡◌, ◌↔◌, ◌⊎◌, inl, inr, ℕ, zero, suc, ◌+◌, ◌<◌, ◌≤◌, ◌==◌, Bool, true, false, not, ◌&&◌, ◌||◌, List, [], ◌∷◌, ◌++◌, length, IsTrue, refl, sym, ◌∙◌, ap, subst, arith}
+use Rattle.std.proofs.Math.Bool.{beq}
 use Rattle.std.specs.Prelude.{All}
 use Rattle.std.proofs.lemmas.Bool.{cases_lt, eqb-true, eq-eqb, ne_eqb}
 use Rattle.std.proofs.lemmas.List.Elements.{All-nil, All-cons, All-push, All-weaker}
-use Rattle.part_file.specs.Part.{FaceData, PartData, IsPart, IsWalk, stay, inward, onward}
+use Rattle.part_file.specs.Part.{FaceData, PartData, IsPart, IsBeyond, IsWalk, stay, inward, onward}
 use Rattle.part_file.proofs.Walks.{walk_on}
 use Rattle.unfolder.specs.Cores.{joint_of}
 use Rattle.unfolder.proofs.ChainLemmas.{joint_of_part}
 use Rattle.fold_boxes.specs.Pose.{is_beyond_some}
-use Rattle.fold_boxes.proofs.Beyond.{beyond-root, beyond-bend}
+use Rattle.fold_boxes.proofs.Beyond.{beyond-root, beyond-bend, beyond_is}
 use Rattle.fold_boxes.proofs.PartBounds.{rules_of_joint}
 use Rattle.nogood_book.specs.Support.{is_on_path}
 
@@ -40,6 +41,31 @@ pub beyond_parent : (p : PartData) → IsPart p → (bend f : ℕ) → 0 < f →
 beyond_parent p part bend f some inside other =
     beyond-bend p.faces (λ c. c == bend) (joint_of_part p part) f some inside
     ∙ ap (λ t. t || beyond p.faces bend (joint_of p.faces f).on) other
+
+-- what tells whether a face lies beyond a bend
+same_truth : (x y : Bool) → (x ≡ true → y ≡ true) → (y ≡ true → x ≡ true) → x ≡ y
+same_truth true y there back = sym (there refl)
+same_truth false true there back = back refl
+same_truth false false there back = refl
+
+pub beyond_told : (p : PartData) → IsPart p → (bend f : ℕ) → 0 < bend → f < length p.faces → (told : Bool) → IsTrue told ↔ IsBeyond p.faces bend f → told ≡ beyond p.faces bend f
+beyond_told p part bend f some inside told is = same_truth told (beyond p.faces bend f) there back
+  where
+    test : IsTrue (beyond p.faces bend f) ↔ ((b : ℕ) × IsTrue (b == bend) × IsBeyond p.faces b f)
+    test = beyond_is p part (λ c. c == bend) (ne_eqb 0 bend (λ e. omega (arith, some, e))) f inside
+
+    there : told ≡ true → beyond p.faces bend f ≡ true
+    there h = test.1 (bend, eq-eqb bend bend refl, is.0 h)
+
+    back : beyond p.faces bend f ≡ true → told ≡ true
+    back h = let found = test.0 h in is.1 (subst (λ (b : ℕ). IsBeyond p.faces b f) (eqb-true found.0 bend found.1) found.2)
+
+-- two tests differ where the one holds and the other doesn't
+pub differ_is : (a b : Bool) → not (beq a b) ≡ ((a && not b) || (b && not a))
+differ_is true true = refl
+differ_is true false = refl
+differ_is false true = refl
+differ_is false false = refl
 
 pub one_beyond : (a b : Bool) → a ≡ true → b ≡ false → ((a && not b) || (b && not a)) ≡ true
 one_beyond a b p q = rw (p, q) refl

@@ -1,7 +1,7 @@
 -- A reason against a stroke depends on the folded bends only through its support.
 use Rattle.std.proofs.Common.{◌≡◌, ◌≢◌, ◌⊎◌, ◌↔◌, inl, inr, ℕ, ◌+◌, ◌-◌, ◌<◌, ◌≤◌, ◌==◌, nat_lt, ℤ, Bool, true, false, not, ◌&&◌, ◌||◌, List, map, filter, length, IsTrue, refl, sym, ◌∙◌, ap, subst, arith}
 use Rattle.std.specs.Prelude.{All, Any, if◌then◌else◌}
-use Rattle.std.specs.List.{list_any}
+use Rattle.std.specs.List.{list_all, list_any}
 use Rattle.std.proofs.lemmas.Bool.{and_from, or_left, or_right, eq-eqb, lt-ltb}
 use Rattle.std.proofs.lemmas.List.Elements.{All-append, All-map, All-weaker}
 use Rattle.brake_base.specs.declared.mask.Mask.{Mask}
@@ -22,7 +22,7 @@ use Rattle.fold_boxes.proofs.PoseLists.{is_face, is_corner}
 use Rattle.fold_boxes.proofs.Locality.{face_alike, corner_alike}
 use Rattle.job_setup.specs.Setup.{JobData, shape_of}
 use Rattle.job_setup.specs.StageOf.{stage_of}
-use Rattle.job_setup.specs.StrokeGroup.{in_group, group_of}
+use Rattle.job_setup.specs.StrokeGroup.{in_group, group_of, is_lead}
 use Rattle.job_setup.specs.ValidJob.{IsJob}
 use Rattle.job_setup.specs.Reasons.{IsReason, pose_at}
 use Rattle.job_setup.proofs.ReasonLocality.{HasBox, SpeaksOf, reason_alike}
@@ -42,12 +42,18 @@ pub group_alike : (job : JobData) (s t : Mask) (b : ℕ) → ((c : ℕ) → IsTr
 unfolding group_of
 group_alike job s t b agree = ap mask_of (λ i c. alike_in job.setup.gang _ (c == b) (has s c) (has t c) (agree c) i)
 
+-- and b is the lead of a stroke at both or at none
+pub lead_alike : (job : JobData) (s t : Mask) (b : ℕ) → has s b ≡ has t b → ((c : ℕ) → IsTrue (in_group job (λ d. false) b c) → has s c ≡ has t c) → is_lead job s b ≡ is_lead job t b
+unfolding is_lead
+lead_alike job s t b own agree =
+    λ i. not (own i) && list_all (λ c. not (nat_lt c b && alike_in job.setup.gang _ (c == b) (has s c) (has t c) (agree c) i)) (bend_numbers job.part.faces)
+
 -- ---- the boxes
 -- the number of a box of the part, where the bends of the mask are folded
-abbrev IsBoxOf : ShapeData → Mask → ℕ → Type 0
+abbrev pub IsBoxOf : ShapeData → Mask → ℕ → Type 0
 IsBoxOf shape mask id = (id < length shape.part.faces) ⊎ ((c : ℕ) × (0 < c) × (c < length shape.part.faces) × IsTrue (has mask c) × (id ≡ 12 + c))
 
-ids_are : (shape : ShapeData) (mask : Mask) → All (IsBoxOf shape mask) (box_ids shape mask)
+pub ids_are : (shape : ShapeData) (mask : Mask) → All (IsBoxOf shape mask) (box_ids shape mask)
 ids_are shape mask =
     All-append (IsBoxOf shape mask) (face_numbers shape.part.faces) (map (λ b. 12 + b) (filter (has mask) (bend_numbers shape.part.faces)))
     (all_numbers (IsBoxOf shape mask) 0 (length shape.part.faces) (λ k low high. inl (omega (arith, high))))
@@ -62,10 +68,10 @@ id_found shape mask id P (inr (c, some, inside, folded, same)) holds =
     (any_mapped P (λ b. 12 + b) (filter (has mask) (bend_numbers shape.part.faces))
     (any_picked (λ b. P (12 + b)) (has mask) 1 (length shape.part.faces - 1) c (omega (arith, some)) (omega (arith, some, inside)) folded (subst P same holds)))
 
-face_number : (f : ℕ) → f ≤ 12 → face_of_box f ≡ f
+pub face_number : (f : ℕ) → f ≤ 12 → face_of_box f ≡ f
 face_number f few = ap (λ (t : Bool). if t then f else f - 12) (is_face f few)
 
-corner_number : (c : ℕ) → 0 < c → face_of_box (12 + c) ≡ c
+pub corner_number : (c : ℕ) → 0 < c → face_of_box (12 + c) ≡ c
 corner_number c some = ap (λ (t : Bool). if t then 12 + c else (12 + c) - 12) (is_corner c some) ∙ omega arith
 
 -- two sets of folded bends agree on the bends that decide where a box lies as seen from a face

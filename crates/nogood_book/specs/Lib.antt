@@ -1,1 +1,4 @@
 pub mod Support
+pub mod Nogood
+pub mod Book
+pub mod Refuted

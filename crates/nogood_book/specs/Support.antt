@@ -1,14 +1,15 @@
 -- The support of a reason: the bends on which it depends.
-use Rattle.std.specs.Prelude.{◌≡◌, ℕ, ◌==◌, nat_lt, Bool, false, not, ◌&&◌, ◌||◌, IsTrue, List, [], ◌∷◌}
+use Rattle.std.specs.Prelude.{◌≡◌, ℕ, ◌≤◌, ◌==◌, nat_le, nat_lt, Bool, false, not, ◌&&◌, ◌||◌}
+use Rattle.std.specs.Prelude.{IsTrue, List, [], ◌∷◌, All}
 use Rattle.std.specs.List.{list_any}
 use Rattle.brake_base.specs.declared.mask.Mask.{Mask}
 use Rattle.brake_base.specs.declared.reason.Reason.{Reason}
 use Rattle.brake_base.specs.declared.reason.Reason.TheVariants.{Frame, Upper, Nose, Lower, SelfHit}
-use Rattle.brake_base.specs.Masks.{has}
+use Rattle.brake_base.specs.Masks.{has, mask_of}
 use Rattle.part_file.specs.Part.{FaceData}
 use Rattle.unfolder.specs.Cores.{joint_of}
 use Rattle.fold_boxes.specs.Pose.{is_beyond_some, face_of_box}
-use Rattle.job_setup.specs.Setup.{JobData}
+use Rattle.job_setup.specs.Setup.{JobData, bend_count}
 use Rattle.job_setup.specs.StrokeGroup.{in_group}
 
 -- the bend is on the path between two faces: the one lies beyond it and the other doesn't
@@ -17,9 +18,11 @@ is_on_path faces f g bend =
     let is_beyond = is_beyond_some faces (λ c. c == bend) in
     (is_beyond f && not (is_beyond g)) || (is_beyond g && not (is_beyond f))
 
--- The bend decides where the box of a number lies as seen from a face: it is on the path to the box's face, or the box is its corner.
+-- The bend decides where the box of a number lies as seen from a face: it is on the path to the
+-- box's face, or the box is its corner.
 abbrev pub is_deciding : List FaceData → ℕ → ℕ → ℕ → Bool
-is_deciding faces from box bend = is_on_path faces from (face_of_box box) bend || (nat_lt 12 box && (face_of_box box == bend))
+is_deciding faces from box bend =
+    is_on_path faces from (face_of_box box) bend || (nat_lt 12 box && (face_of_box box == bend))
 
 -- the boxes that a reason names
 abbrev pub named_boxes : Reason → List ℕ
@@ -30,13 +33,28 @@ named_boxes (Lower box quarter index) = box ∷ []
 named_boxes (SelfHit box quarter other) = box ∷ other ∷ []
 named_boxes _ = []
 
--- The support of a reason against the strokes of bend b: the bends that may be bent in one stroke with b, and those that decide
--- where the reason's boxes lie as seen from b's parent.
+-- they are the numbers of the job's faces, and of the corners of its bends
+abbrev pub NamesBoxes : JobData → Reason → Type 0
+NamesBoxes job reason = All (λ box. face_of_box box ≤ bend_count job) (named_boxes reason)
+
+-- The bend is in the support of a reason against the strokes of bend b: it may be bent in one
+-- stroke with b, or it decides where one of the reason's boxes lies as seen from the face on which
+-- b stands.
 abbrev pub is_in_support : JobData → ℕ → Reason → ℕ → Bool
 is_in_support job b reason bend =
     let faces = job.part.faces in
-    in_group job (λ c. false) b bend || list_any (λ box. is_deciding faces (joint_of faces b).on box bend) (named_boxes reason)
+    in_group job (λ c. false) b bend
+    || list_any (λ box. is_deciding faces (joint_of faces b).on box bend) (named_boxes reason)
+
+-- the number of a bend of the job
+abbrev pub is_bend : JobData → ℕ → Bool
+is_bend job bend = nat_le 1 bend && nat_le bend (bend_count job)
+
+-- the support as a set of the job's bends
+unfoldable pub support_of : JobData → ℕ → Reason → Mask
+support_of job b reason = mask_of (λ bend. is_bend job bend && is_in_support job b reason bend)
 
 -- two sets of folded bends agree on the support
 abbrev pub AgreeOnSupport : JobData → ℕ → Reason → Mask → Mask → Type 0
-AgreeOnSupport job b reason s t = (bend : ℕ) → IsTrue (is_in_support job b reason bend) → has s bend ≡ has t bend
+AgreeOnSupport job b reason s t =
+    (bend : ℕ) → IsTrue (is_in_support job b reason bend) → has s bend ≡ has t bend

@@ -1,6 +1,6 @@
 //! Tests of the crates that tell whether a stroke is possible and what it costs: swept sectors, the
-//! folding of bends and its undoing, gauges, costs, the reasons against a stroke and the table of
-//! strokes. They stand above what they test, on public calls.
+//! folding of bends and its undoing, gauges, costs, the reasons against a stroke, the table of strokes
+//! and the nogoods of a job. They stand above what they test, on public calls.
 #![tactic(auto)]
 
 #[cfg(test)]
@@ -9,6 +9,8 @@ mod bend_state_tests;
 mod gauge_rules_tests;
 #[cfg(test)]
 mod handling_cost_tests;
+#[cfg(test)]
+mod nogood_book_tests;
 #[cfg(test)]
 mod sector_geom_tests;
 #[cfg(test)]
