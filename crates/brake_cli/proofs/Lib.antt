@@ -7,3 +7,9 @@ pub mod Searching
 pub mod PlanAnswers
 pub mod Complete
 pub mod CommandAnswers
+pub mod NumberedLists
+pub mod NumberedNames
+pub mod FirstChoice
+pub mod Trying
+pub mod CheapestPairs
+pub mod SetupsAnswers

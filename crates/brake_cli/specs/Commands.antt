@@ -7,11 +7,13 @@ use Rattle.command_runner.specs.Fetching.{word_at}
 use Rattle.command_runner.specs.Ends.{Meaning}
 use Rattle.brake_cli.specs.declared.command.Command.{Command}
 use Rattle.brake_cli.specs.declared.command.Command.TheVariants.{Blank, Plan, Check, CheckFiles}
-use Rattle.brake_cli.specs.declared.command.Command.TheVariants.{Trial}
+use Rattle.brake_cli.specs.declared.command.Command.TheVariants.{Trial, Why, Setups}
 use Rattle.brake_cli.specs.BlankAnswer.{blank_answer}
 use Rattle.brake_cli.specs.PlanAnswer.{IsPlanAnswer}
 use Rattle.brake_cli.specs.CheckAnswer.{IsCheckAnswer, IsCheckFilesAnswer}
 use Rattle.brake_cli.specs.TrialAnswer.{IsTrialAnswer}
+use Rattle.brake_cli.specs.WhyAnswer.{IsWhyAnswer}
+use Rattle.brake_cli.specs.SetupsAnswer.{IsSetupsAnswer}
 
 -- the lines of the usage text: the forms of the words
 abbrev pub usage_lines : List (List ℕ)
@@ -47,4 +49,7 @@ meaning_of (Check cert) words contents answer = IsCheckAnswer contents answer
 meaning_of (CheckFiles cert part tools machine) words contents answer =
     IsCheckFilesAnswer contents answer
 meaning_of (Trial n) words contents answer = IsTrialAnswer n answer
+meaning_of (Why part tools machine) words contents answer = IsWhyAnswer contents answer
+meaning_of (Setups part tools machine setups cert) words contents answer =
+    IsSetupsAnswer (word_at words cert) contents answer
 meaning_of _ words contents answer = answer ≡ usage

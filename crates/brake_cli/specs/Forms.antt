@@ -94,6 +94,8 @@ is_built (Plan part tools machine cert budget) = true
 is_built (Check cert) = true
 is_built (CheckFiles cert part tools machine) = true
 is_built (Trial n) = true
+is_built (Why part tools machine) = true
+is_built (Setups part tools machine setups cert) = true
 is_built _ = false
 
 -- the command, if it is built

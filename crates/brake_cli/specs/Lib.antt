@@ -5,6 +5,12 @@ pub mod JobAnswer
 pub mod PlanAnswer
 pub mod CheckAnswer
 pub mod TrialAnswer
+pub mod WhyAnswer
+pub mod SetupList
+pub mod SetupStops
+pub mod Attempts
+pub mod Pairs
+pub mod SetupsAnswer
 pub mod Forms
 pub mod Commands
 pub mod Run

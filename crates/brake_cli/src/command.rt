@@ -7,7 +7,7 @@ ghost use Rattle.brake_cli.specs.Commands.{meaning_of};
 
 use crate::form::{FORMS, Form};
 use crate::usage::usage;
-use crate::{blank, check, plan, trial};
+use crate::{blank, check, plan, setups, trial, why};
 use command_runner::{Answer, WordKind, is_form, word_at};
 use std::alloc::{AllocError, Global};
 
@@ -104,6 +104,8 @@ impl Command {
                 | Command::Check { .. }
                 | Command::CheckFiles { .. }
                 | Command::Trial { .. }
+                | Command::Why { .. }
+                | Command::Setups { .. }
         )
     }
 }
@@ -134,6 +136,8 @@ impl command_runner::Command for Command {
             Command::Check { .. } => check::answer(alloc, contents),
             Command::CheckFiles { .. } => check::answer_with_files(alloc, contents),
             Command::Trial { n } => trial::answer(alloc, n),
+            Command::Why { .. } => why::answer(alloc, contents),
+            Command::Setups { cert, .. } => setups::answer(alloc, word_at(words, cert), contents),
             _ => usage(alloc),
         }
     }

@@ -1,6 +1,7 @@
 //! A press brake bend planner: the program `brake`.
 #![tactic(auto)]
 
+mod attempts;
 mod blank;
 #[cfg(test)]
 mod blank_tests;
@@ -15,10 +16,17 @@ mod plan;
 #[cfg(test)]
 mod plan_tests;
 mod refusal;
+mod setup_list;
+mod setups;
+#[cfg(test)]
+mod setups_tests;
 #[cfg(test)]
 mod test_runs;
 mod trial;
 mod usage;
+mod why;
+#[cfg(test)]
+mod why_tests;
 mod words;
 #[cfg(test)]
 mod words_tests;

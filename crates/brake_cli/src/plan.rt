@@ -57,7 +57,7 @@ fn blank_sheet_of(alloc: Global, job: &Job) -> Result<Vec<u8>, AllocError>
 
 /// The order sheet of a certificate's steps, or that there is no plan.
 #[tactic(auto, unfolding(crate::specs::PlanAnswer::no_plan_line))]
-fn last_text(alloc: Global, job: &Job, cert: &Cert) -> Result<Vec<u8>, AllocError>
+pub fn last_text(alloc: Global, job: &Job, cert: &Cert) -> Result<Vec<u8>, AllocError>
     requires { IsPlanCert job.now (cert_data cert.now) }
     ensures { IfOk result (λ text.
         text.items ≡ last_text job.now cert.now.claim cert.now.steps.items) }
