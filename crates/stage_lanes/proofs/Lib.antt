@@ -1,0 +1,6 @@
+mod LaneLemmas
+mod StageLemmas
+mod PlaceLemmas
+mod SetLemmas
+mod CodeLemmas
+mod BendLemmas

@@ -1,0 +1,4 @@
+pub mod Lanes
+pub mod Stages
+pub mod ActionSets
+pub mod Codes
