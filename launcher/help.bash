@@ -21,6 +21,11 @@ built_commands() {
   for name in $(commands_of_usage); do is_built "$name" && printf '%s\n' "$name"; done
 }
 
+what_the_words_are() {
+  printf '\nPART, TOOLS and MACHINE are TOML files; CERT is stored by plan and read by check. All lengths are whole micrometres.\n'
+  printf 'SETUPS is a TOML file too: a list of setups, whose certificates are stored as CERT.0 to CERT.15.\n'
+}
+
 # A line for each command that is built.
 print_help() {
   local name line
@@ -29,7 +34,7 @@ print_help() {
     line=$(usage_line "$name")
     printf '  %s\n      %s\n' "${line#usage: }" "$(what_it_does "$name")"
   done < <(built_commands)
-  printf '\nPART, TOOLS and MACHINE are TOML files; CERT is stored by plan and read by check. All lengths are whole micrometres.\n'
+  what_the_words_are
   printf 'The exit status: 0 done, 1 no plan, 2 faulty words, 3 a file is refused, 4 the budget is used up, 5 a certificate\n'
   printf 'is refused, 6 a file could not be read or stored, 7 no memory, 70 the launcher could not start the program.\n'
 }

@@ -120,11 +120,12 @@ store_beside() {
   words[stored]=$beside
 }
 
+# Also the new file of a program that was ended before it had stored it.
 drop_stored() {
   local end
   [ -n "$scratch" ] && rm -f -- "$scratch"
   [ -n "$beside" ] || return
-  for end in "${ends[@]}"; do rm -f -- "$beside$end"; done
+  for end in "${ends[@]}"; do rm -f -- "$beside$end" "$beside$end".new[0-9]; done
 }
 
 # What was stored beside the wanted name is flushed and takes that name, with the old file's permissions.

@@ -93,7 +93,21 @@ machine_key() {
   esac
 }
 
-is_header() { [[ $1 =~ ^[[:blank:]]*\[\[?[[:blank:]]*([A-Za-z_]+)[[:blank:]]*\]\]?[[:blank:]]*(#.*)?$'\r'?$ ]]; }
+setups_key() {
+  header=setup.stage
+  case "$1" in
+    1) header='' key=setup; list_of '1 to 16 tables [[setup]]' ;;
+    2) header=setup key=name; a_name ;;
+    3) header=setup key=stage; list_of '1 to 6 tables [[setup.stage]]' ;;
+    4) key=punch; a_name ;;
+    5) key=die; a_name ;;
+    6) key='at'; micrometres -20,000,000 20,000,000 ;;
+    7) key=length; micrometres 1 20,000,000 ;;
+    *) return 1 ;;
+  esac
+}
+
+is_header() { [[ $1 =~ ^[[:blank:]]*\[\[?[[:blank:]]*([A-Za-z_.]+)[[:blank:]]*\]\]?[[:blank:]]*(#.*)?$'\r'?$ ]]; }
 is_pair() { [[ $1 =~ ^[[:blank:]]*\"?([A-Za-z0-9_-]+)\"?[[:blank:]]*=[[:blank:]]*([^#]*[^#[:blank:]]) ]]; }
 
 # Reads the Nth table (from 0) with a header, or the top table: sets `head` to its line, `line_of` and `text_of` to the
@@ -125,12 +139,32 @@ count_tables() {
   printf '%s' "$count"
 }
 
+# Sets `header` and `index` of the setups file's table of a number: each setup's, and its stages' behind it; `setup` to
+# the setup's number, and `place` to the stage's within it.
+setups_table_of() {
+  local line left=$1 stages=-1
+  setup=-1 place=-1
+  [ -f "$file" ] || return
+  while IFS= read -r line || [ -n "$line" ]; do
+    is_header "$line" || continue
+    case "${BASH_REMATCH[1]}" in
+      setup) setup=$((setup + 1)) place=-1 header=setup index=$setup ;;
+      setup.stage) stages=$((stages + 1)) place=$((place + 1)) header=setup.stage index=$stages ;;
+      *) continue ;;
+    esac
+    ((--left > 0)) || return 0
+  done <"$file"
+  header='' index=0
+  return 1
+}
+
 # Sets `header` and `index` of a table's number, by docs/formats.md.
 table_of() {
   local kind=$1 number=$2 count
   header='' index=0
   ((number == 0)) && return
   case "$kind" in
+    setups) setups_table_of "$number" ;;
     part) header=face index=$((number - 1)) ;;
     machine)
       case "$number" in
@@ -154,12 +188,14 @@ table_of() {
 
 # Sets `table` to a table's words, as 'face 1 "leg"'; its keys are read.
 name_table() {
+  local setup place
   table="table $2"
   if ! table_of "$1" "$2"; then head=0; return; fi
   read_table "$file" "$header" "$index"
   case "$header" in
     '') table='the top table' ;;
     gauge | cost) table="[$header]" ;;
+    setup.stage) table="stage $place of setup $setup" ;;
     *) table="$header $index$label" ;;
   esac
 }
@@ -206,7 +242,7 @@ unknown_headers() {
   local line number=0
   while IFS= read -r line || [ -n "$line" ]; do
     number=$((number + 1))
-    is_header "$line" && [[ $1 != *" ${BASH_REMATCH[1]} "* ]] && printf ", line %s '%s'" "$number" "${BASH_REMATCH[1]}"
+    is_header "$line" && [[ $1 != *" ${BASH_REMATCH[1]%%.*} "* ]] && printf ", line %s '%s'" "$number" "${BASH_REMATCH[1]}"
   done <"$file"
 }
 
@@ -225,8 +261,24 @@ tell_unknown_key() {
 
 face() { read_table "$part" face "$1"; printf 'face %s%s' "$1" "$label"; }
 stage() {
+  if [ -n "$setup" ]; then
+    read_setup_stage "$setup" "$1"
+    printf 'stage %s of setup %s (%s over %s)' "$1" "$setup" "${text_of[punch]-?}" "${text_of[die]-?}"
+    return
+  fi
   read_table "$machine" stage "$1"
   printf 'stage %s (%s over %s)' "$1" "${text_of[punch]-?}" "${text_of[die]-?}"
+}
+
+# The table of a setup's stage.
+read_setup_stage() {
+  local file=$setups number=0 header index setup place
+  declare -gA text_of=()
+  while setups_table_of $((++number)) && [ "$header" ]; do
+    [ "$header" = setup ] && [ "$setup" = "$1" ] || continue
+    setups_table_of $((number + 1 + $2)) && [ "$setup" = "$1" ] && read_table "$setups" "$header" "$index"
+    return
+  done
 }
 bend() { printf 'bend %s, of %s' "$1" "$(face "$1")"; }
 
@@ -279,7 +331,8 @@ list_refusal() {
 }
 
 job_refusal() {
-  local sheet
+  local sheet bed=$machine
+  [ -n "$setup" ] && bed=$setups
   read_table "$part" '' 0
   sheet="material ${text_of[material]-?}, thickness ${text_of[thickness]-?}"
   case "$1 ${2-}" in
@@ -289,10 +342,10 @@ job_refusal() {
     '2 1') why="$part: $(face "$3") is too small: nothing of it remains once its bends have taken their share" ;;
     '2 2') why="$part: the line of $(bend "$3") leaves what remains of the side on which it stands" ;;
     '2 3') why="$part: $(face "$3") and $(face "$4") would lie on one another in the blank" ;;
-    '3 '*) why="$machine: $(stage "$2"): its punch or its die isn't in $tools" ;;
-    '4 '*) why="$machine: $(stage "$2"): its punch or its die isn't as high as that of stage 0" ;;
-    '5 '*) why="$machine: $(stage "$2") and $(stage "$3") overlap on the bed" ;;
-    '6 '*) why="$machine: $(stage "$2") isn't within the bed, from at to the end of its pieces" ;;
+    '3 '*) why="$bed: $(stage "$2"): its punch or its die isn't in $tools" ;;
+    '4 '*) why="$bed: $(stage "$2"): its punch or its die isn't as high as that of stage 0" ;;
+    '5 '*) why="$bed: $(stage "$2") and $(stage "$3") overlap on the bed" ;;
+    '6 '*) why="$bed: $(stage "$2") isn't within the bed, from at to its end" ;;
     '7 '*) why="$machine: there is no [[stage]]" ;;
     '8 '*) why="$machine: $(stage "$2"): it and the stages before it use more pieces of one length than the sections of its punch or its die hold" ;;
     '9 '*) why="$tools: no [[load]] has the part's $sheet and the opening v of the die of $(stage "$2")" ;;
@@ -366,19 +419,20 @@ broken_line() {
 
 # A line of standard output that begins with `refused`.
 tell_file_refusal() {
-  local kind=$1 why='' file
+  local kind=$1 why='' file setup=''
   shift
   case "$kind" in
     part) file=$part ;;
     tools) file=$tools ;;
     machine) file=$machine ;;
+    setups) file=$setups ;;
     *) file= ;;
   esac
   case "$kind $1" in
     'long '*) long_refusal "$1" ;;
     range\ *) why="LOW is above HIGH, or HIGH isn't below the set of all bends" ;;
-    setups\ *) why="${words[4]}: setups file" ;;
     job\ *) job_refusal "$@" ;;
+    setups\ 6) setup=$2 && job_refusal "${@:3}" ;;
     *\ 1)
       why="$file isn't TOML"
       [ -f "$file" ] && why=$(broken_line "$file") && [ -n "$why" ] && why="$file, line $why" || why="$file isn't TOML (the line can't be told)"
@@ -386,6 +440,7 @@ tell_file_refusal() {
     *\ 2) tell_key "$kind" "$2" "$3"; return ;;
     *\ 3) tell_unknown_key "$kind" "$2"; return ;;
     part\ *) part_refusal "$@" && why="$file: $why" ;;
+    setups\ 5) read_table "$file" setup "$2"; why="$file: setup $2$label: an earlier setup has the same name" ;;
     *) list_refusal "$kind" "$@" && why="$file: $why" ;;
   esac
   [ -n "$why" ] && say "$why ($docs/formats.md, Every refusal)"
@@ -455,7 +510,7 @@ tell_cert_refusal() {
 
 # A line of standard output with the status 3 or 5, in words.
 tell_refusal() {
-  local line part tools machine cert=${words[1]-}
+  local line part tools machine setups=${words[4]-} cert=${words[1]-}
   read -ra line <<<"$1"
   case "${words[0]}" in
     check) part=${words[2]-} tools=${words[3]-} machine=${words[4]-} ;;
@@ -546,6 +601,7 @@ tell_no_plan() {
   case "${words[0]}" in
     plan) cert=${words[4]} ;;
     check) cert=${words[1]} ;;
+    setups) say "no setup of the list has a plan: 'brake check ${words[5]}.I' confirms it of setup I, and tells what refuses its strokes"; return ;;
     *) return ;;
   esac
   more="$docs/certificate.md says how to read them in $cert"
