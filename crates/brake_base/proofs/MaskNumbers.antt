@@ -1,5 +1,5 @@
 -- The mask of a set has the set's bends, and masks with the same bends are equal.
-use Rattle.std.proofs.Common.{◌≡◌, ℕ, zero, suc, ◌+◌, ◌-◌, ◌*◌, ◌^◌, ◌<◌, ◌≤◌, Bool, true, false, ◌||◌, ◌==◌, ap, refl, sym, ◌∙◌, arith, inl, inr, cond, [], ◌∷◌, filter}
+use Rattle.std.proofs.Common.{◌≡◌, ℕ, zero, suc, ◌+◌, ◌-◌, ◌*◌, ◌^◌, ◌<◌, ◌≤◌, Bool, true, false, ◌==◌, ap, refl, sym, ◌∙◌, arith, inl, inr, cond, [], ◌∷◌, filter}
 use Rattle.std.specs.Int.{bit_at}
 use Rattle.std.specs.List.{sum_by}
 use Rattle.std.proofs.Math.Nat.{pow-suc}
@@ -8,7 +8,7 @@ use Rattle.std.proofs.lemmas.List.Elements.{filter-append}
 use Rattle.std.proofs.lemmas.List.Sums.{sum_by-append}
 use Rattle.std.proofs.lemmas.Nat.Bits.{bit_at_above, bit_at_cat_low, bit_at_cat_high, bit_at_lowest}
 use Rattle.brake_base.specs.declared.mask.Mask.{Mask}
-use Rattle.brake_base.specs.Masks.{has, numbers_to, mask_of, union}
+use Rattle.brake_base.specs.Masks.{has, numbers_to, mask_of}
 use Rattle.brake_base.proofs.Masks.{same_mask}
 
 abbrev weight : ℕ → ℕ
@@ -85,20 +85,3 @@ mask_by_bends a b p q h = ap (λ n. record { 0 = n }) (same_mask a.0 b.0 p q all
 -- a mask that has the bends of a set is the set's
 pub is_mask_of : (mask : Mask) (set : ℕ → Bool) → mask.0 < 2 ^ 16 → ((bend : ℕ) → 1 ≤ bend → bend ≤ 16 → has mask bend ≡ set bend) → mask ≡ mask_of set
 is_mask_of mask set p h = mask_by_bends mask (mask_of set) p (mask_of_fits set) (λ bend first last. h bend first last ∙ sym (has_mask_of set bend first last))
-
--- sets with the same bends of 1 to 16 have one mask
-pub mask_of_same : (s t : ℕ → Bool) → ((bend : ℕ) → 1 ≤ bend → bend ≤ 16 → s bend ≡ t bend) → mask_of s ≡ mask_of t
-mask_of_same s t h = is_mask_of (mask_of s) t (mask_of_fits s) (λ bend first last. has_mask_of s bend first last ∙ h bend first last)
-
-pub mask_of_has : (mask : Mask) → mask.0 < 2 ^ 16 → mask_of (has mask) ≡ mask
-mask_of_has mask p = sym (is_mask_of mask (has mask) p (λ bend first last. refl))
-
-pub has_union : (a b : Mask) (bend : ℕ) → a.0 < 2 ^ 16 → b.0 < 2 ^ 16 → has (union a b) bend ≡ (has a bend || has b bend)
-unfolding has
-has_union a b zero p q = refl
-has_union a b (suc k) p q = elim (cases_lt k 16) [
-  | inl low ↦ has_mask_of (λ bend. has a bend || has b bend) (suc k) (omega arith) (omega arith)
-  | inr high ↦
-      has_none_above (union a b) (suc k) (mask_of_fits (λ bend. has a bend || has b bend)) (omega arith)
-      ∙ rw (has_none_above a (suc k) p (omega arith), has_none_above b (suc k) q (omega arith)) refl
-]

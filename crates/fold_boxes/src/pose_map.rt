@@ -8,6 +8,7 @@ ghost use Rattle.part_file.specs.declared.part.Side.{Side};
 ghost use Rattle.unfolder.specs.Near.{IsWithin as IsNear};
 ghost use Rattle.unfolder.specs.Blank.{flat_step};
 ghost use Rattle.unfolder.specs.Design.{fold_sign};
+ghost use Rattle.fold_boxes.specs.Places.{ArePlaces};
 ghost use Rattle.fold_boxes.specs.Spans.{IsNearRange};
 ghost use Rattle.fold_boxes.specs.Pose.{lead_of, IsGroup, posed_place, back_sign, start_of_span, frame_turn, posed, posed_frame, inverse_of, attitude_turn, attitude_of};
 ghost use Rattle.fold_boxes.specs.Posing.{IsNearShift};
@@ -31,8 +32,22 @@ pub fn attitude(shape: &Shape, mask: Mask, bend: u8, back: Back) -> Turn
         → IsTrue (has group bend)
         → (posed_place shape.now mask group back x0 x1 0).turn ≡ turn_of result }
 {
-    let places = place_faces(shape, mask);
-    let parent = &places.as_slice()[usize::from(shape.hinge(bend).parent)];
+    attitude_from(shape, place_faces(shape, mask).as_slice(), mask, bend, back)
+}
+
+/// The same, from the places of the faces where the bends of the mask are folded.
+pub fn attitude_from(shape: &Shape, places: &[Place], mask: Mask, bend: u8, back: Back) -> Turn
+    requires count { length places.now ≡ length shape.now.part.faces }
+    requires places { ArePlaces shape.now mask places.now }
+    requires some { 0 < bend }
+    requires bend { bend < length shape.now.part.faces }
+    ensures turn { turn_of result ≡ attitude_turn shape.now mask bend back }
+    ensures value { result ≡ attitude_of shape.now mask bend back }
+    ensures held { (group : Mask) (x0 x1 : ℤ) → IsGroup shape.now mask group
+        → IsTrue (has group bend)
+        → (posed_place shape.now mask group back x0 x1 0).turn ≡ turn_of result }
+{
+    let parent = &places[usize::from(shape.hinge(bend).parent)];
     pose_turn(&joint_of(shape.part(), bend), back, parent.turn)
 }
 

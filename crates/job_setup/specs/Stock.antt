@@ -1,33 +1,16 @@
 -- What the stages use of the shop's stock of tool pieces.
-use Rattle.std.specs.Prelude.{ℕ, ◌+◌, ℤ, List, [], length, take, sum_by, count_by, Bool, ◌||◌}
-use Rattle.std.specs.Prelude.{nat_lt, bytes_eq, Option, Some, None, Result, if◌then◌else◌}
+use Rattle.std.specs.Prelude.{ℕ, ◌+◌, ℤ, List, length, take, sum_by, Bool, ◌||◌}
+use Rattle.std.specs.Prelude.{nat_lt, bytes_eq, Result, if◌then◌else◌}
 use Rattle.std.specs.List.{list_any}
-use Rattle.std.specs.Ordering.{int_eq}
 use Rattle.toml_fields.specs.Results.{refuse_first}
-use Rattle.tool_library.specs.Tools.{PunchData, DieData, ToolsData}
+use Rattle.tool_library.specs.Tools.{ToolsData}
+use Rattle.tool_library.specs.Stock.{held, punch_sections, die_sections, count_of}
 use Rattle.machine_file.specs.Machine.{StageTextData}
 use Rattle.job_setup.specs.declared.fault.JobFault.{JobFault}
 use Rattle.job_setup.specs.declared.fault.JobFault.TheVariants.{StockShort}
 use Rattle.job_setup.specs.declared.stock.ToolKind.{ToolKind}
 use Rattle.job_setup.specs.declared.stock.ToolKind.TheVariants.{Punch, Die}
 use Rattle.job_setup.specs.Stages.{punch_named, die_named}
-
--- how many pieces of a length a section stands for
-abbrev pub section_count : ℤ → ℤ × ℕ → ℕ
-section_count length section = if int_eq section.0 length then section.1 else 0
-
--- how many pieces of a length the sections hold: the counts of a length that stands twice add up
-abbrev pub held : List (ℤ × ℕ) → ℤ → ℕ
-held sections length = sum_by (section_count length) sections
-
--- the sections of a tool, and none where there is no tool
-abbrev pub punch_sections : Option PunchData → List (ℤ × ℕ)
-punch_sections None = []
-punch_sections (Some punch) = punch.sections
-
-abbrev pub die_sections : Option DieData → List (ℤ × ℕ)
-die_sections None = []
-die_sections (Some die) = die.sections
 
 -- the sections of the punch, or of the die, of a name
 abbrev pub sections_of : ToolsData → ToolKind → List ℕ → List (ℤ × ℕ)
@@ -42,8 +25,7 @@ tool_name Die stage = stage.die
 -- how many pieces of a length a stage uses with the tool of a name
 abbrev pub stage_use : ToolKind → List ℕ → ℤ → StageTextData → ℕ
 stage_use kind name length stage =
-    if bytes_eq (tool_name kind stage) name
-    then count_by (λ piece. int_eq piece length) stage.pieces else 0
+    if bytes_eq (tool_name kind stage) name then count_of length stage.pieces else 0
 
 -- how many pieces of a length the stages use with the tool of a name
 abbrev pub used : ToolKind → List StageTextData → List ℕ → ℤ → ℕ

@@ -1,18 +1,19 @@
 //! What the stages use of the shop's stock.
-ghost use Rattle.std.specs.Prelude.{◌≡◌, ℕ, ◌≤◌, ◌<◌, ℤ, length, map, take, count_by, option_map, IfSome};
-ghost use Rattle.std.specs.Ordering.{int_eq};
+ghost use Rattle.std.specs.Prelude.{◌≡◌, ℕ, ◌≤◌, ◌<◌, ℤ, length, map, take, option_map, IfSome};
 ghost use Rattle.std.specs.List.{list_any};
 ghost use Rattle.toml_fields.specs.Results.{first_below};
 ghost use Rattle.tool_library.specs.Tools.{tools_data, punch_data, die_data};
+ghost use Rattle.tool_library.specs.Stock.{held, punch_sections, die_sections};
 ghost use Rattle.machine_file.specs.Machine.{stage_text_data};
 ghost use Rattle.job_setup.specs.Stages.{punch_named, die_named};
-ghost use Rattle.job_setup.specs.Stock.{section_count, held, punch_sections, die_sections, sections_of, tool_name, stage_use, used, is_used_up, stock_suffices};
+ghost use Rattle.job_setup.specs.Stock.{sections_of, tool_name, stage_use, used, is_used_up, stock_suffices};
 ghost use Rattle.job_setup.specs.StageStock.{overuses, runs_short, is_stage_short};
 
 use crate::fault::JobFault;
 use crate::stages::{die_named, punch_named};
 use brake_base::Name;
 use machine_file::StageText;
+use tool_library::stock::{count_of, held};
 use tool_library::{Die, Punch, Tools};
 
 /// The two tools of a stage.
@@ -30,38 +31,6 @@ fn tool_name(kind: ToolKind, stage: &StageText) -> &Name
         ToolKind::Punch => &stage.punch,
         ToolKind::Die => &stage.die,
     }
-}
-
-/// How many of the pieces have this length.
-fn count_of(pieces: &[i64], piece: &i64) -> usize
-    ensures value { result ≡ count_by (λ other. int_eq other piece.now) pieces.now }
-    ensures few { result ≤ length pieces.now }
-{
-    pieces.iter().filter(|other| **other == *piece).count()
-}
-
-/// How many pieces of this length the section stands for.
-fn section_count(section: &(i64, u16), piece: &i64) -> usize
-    ensures value { result ≡ section_count piece.now section.now }
-    ensures few { result ≤ 65535 }
-{
-    if section.0 == *piece {
-        usize::from(section.1)
-    } else {
-        0
-    }
-}
-
-/// How many pieces of this length the sections hold.
-fn held(sections: &[(i64, u16)], piece: &i64) -> usize
-    requires { length sections.now ≤ 16 }
-    ensures { result ≡ held sections.now piece.now }
-{
-    let mut held = 0;
-    for section in sections {
-        held += section_count(section, piece);
-    }
-    held
 }
 
 /// How many pieces of this length the stage uses with the tool of this name.

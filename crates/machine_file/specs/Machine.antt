@@ -68,6 +68,22 @@ machine_data m = record {
   fine = m.fine;
 }
 
+-- the machine with these stages in place of its own
+abbrev pub with_stages : MachineData → List StageTextData → MachineData
+with_stages m stages = record {
+  bed = m.bed;
+  frames = m.frames;
+  upper = m.upper;
+  lower = m.lower;
+  uncovered = m.uncovered;
+  gauge = m.gauge;
+  cost = m.cost;
+  stages = stages;
+  gang = m.gang;
+  force = m.force;
+  fine = m.fine;
+}
+
 -- a range along the bed
 abbrev pub IsBedRange : ℤ × ℤ → Type 0
 IsBedRange range = IsRange (neg_ℤ coordinate_limit) coordinate_limit range.0 range.1

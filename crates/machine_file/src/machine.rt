@@ -1,7 +1,8 @@
 //! A press brake. Lengths are in micrometres: x runs along the bed, y to the backgauge, z up.
-ghost use Rattle.std.specs.Prelude.{◌≡◌, ◌↔◌, pos, nat_le, IsTrue};
+ghost use Rattle.std.specs.Prelude.{◌≡◌, ◌↔◌, pos, nat_le, IsTrue, map};
 ghost use Rattle.std.specs.List.{list_all};
 ghost use Rattle.machine_file.specs.Machine.{IsFixed, IsLength, IsFinger, IsGaugeRule, IsCosts};
+ghost use Rattle.machine_file.specs.Machine.{stage_text_data, machine_data, with_stages};
 ghost use Rattle.machine_file.specs.MachineFile.{has_footprint, is_fixed};
 
 use crate::bounds::{
@@ -73,6 +74,34 @@ pub struct Machine {
     pub gang: bool,
     pub force: i64,
     pub fine: u8,
+}
+
+impl Machine {
+    /// The machine with these stages in place of its own.
+    pub fn with_stages(&self, stages: ArrayVec<StageText, MOST_STAGES>) -> Machine
+        ensures { machine_data result
+            ≡ with_stages (machine_data self.now) (map stage_text_data stages.items) }
+    {
+        let mut frames = ArrayVec::new();
+        let _ = frames.try_extend_from_slice(self.frames.as_slice());
+        let mut upper = ArrayVec::new();
+        let _ = upper.try_extend_from_slice(self.upper.as_slice());
+        let mut lower = ArrayVec::new();
+        let _ = lower.try_extend_from_slice(self.lower.as_slice());
+        Machine {
+            bed: self.bed,
+            frames,
+            upper,
+            lower,
+            uncovered: self.uncovered,
+            gauge: self.gauge,
+            cost: self.cost,
+            stages,
+            gang: self.gang,
+            force: self.force,
+            fine: self.fine,
+        }
+    }
 }
 
 /// The heights between which a box must lie.

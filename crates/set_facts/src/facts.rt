@@ -3,7 +3,7 @@ ghost use Rattle.std.specs.Prelude.{◌≡◌, ◌<◌, ◌≤◌, slice_index_o
 ghost use Rattle.set_facts.specs.Facts.{AreLeads, HasNoneBeyond, AreBounds, AreAttitudes, IsFacts, side_place};
 
 use brake_base::{Back, Mask, Turn};
-use fold_boxes::attitude;
+use fold_boxes::{attitude_from, place};
 use handling_cost::{bound_with, farthest, is_lead, leads_left};
 use job_setup::Job;
 
@@ -86,11 +86,12 @@ fn attitudes_of(job: &Job, mask: Mask) -> [Turn; 24]
     ensures { AreAttitudes job.now mask result }
 {
     let shape = job.shape();
+    let places = place(shape, mask);
     let mut attitudes = [Turn::from_number(0); 24];
     for bend in 1..shape.faces() {
-        let place = usize::from(bend - 1) * 2;
-        attitudes[place] = attitude(shape, mask, bend, Back::Parent);
-        attitudes[place + 1] = attitude(shape, mask, bend, Back::Child);
+        let at = usize::from(bend - 1) * 2;
+        attitudes[at] = attitude_from(shape, places.as_slice(), mask, bend, Back::Parent);
+        attitudes[at + 1] = attitude_from(shape, places.as_slice(), mask, bend, Back::Child);
     }
     attitudes
 }

@@ -1,6 +1,6 @@
 -- A setup's refusals don't depend on the pieces of which its stages are made, but for that of the
 -- stock: stages that are wanted alike stand alike.
-use Rattle.std.proofs.Common.{◌≡◌, ℕ, ◌+◌, ℤ, pos, ◌+ℤ◌, Bool, List, [], ◌∷◌, map, length, position}
+use Rattle.std.proofs.Common.{◌≡◌, ℕ, ◌+◌, ℤ, pos, ◌+ℤ◌, List, [], ◌∷◌, map, length, position}
 use Rattle.std.proofs.Common.{Option, Some, None, ◌==◌, Result, Ok, Err, find, ok_or, refl, sym, ap, ◌∙◌}
 use Rattle.std.specs.List.{slice_index_or}
 use Rattle.std.proofs.Math.IntN.{+ℤ_idl}

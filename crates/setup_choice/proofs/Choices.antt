@@ -1,10 +1,10 @@
 -- Stages that are made of the pieces of a choice: they are those that are wanted, keep to the rules
 -- of a machine's stages, and the stock suffices for them.
-use Rattle.std.proofs.Common.{◌≡◌, ℕ, zero, suc, ◌+◌, ◌<◌, ◌≤◌, ◌==◌, ℤ, pos, ◌+ℤ◌, ◌≤ℤ◌, Bool, true}
-use Rattle.std.proofs.Common.{false, ◌||◌, cond, nat_lt, List, [], ◌∷◌, map, length, zip, fold, find}
-use Rattle.std.proofs.Common.{take, Option, Some, None, Result, Ok, All, get_or, refl, sym, ap, subst}
-use Rattle.std.proofs.Common.{◌∙◌, ◌⊎◌, inl, inr, arith}
-use Rattle.std.specs.Prelude.{sum_by, count_by, bytes_eq}
+use Rattle.std.proofs.Common.{◌≡◌, ℕ, zero, suc, ◌+◌, ◌<◌, ◌≤◌, ◌==◌, ℤ, pos, ◌+ℤ◌, Bool, true}
+use Rattle.std.proofs.Common.{false, ◌||◌, cond, nat_lt, List, [], ◌∷◌, map, length, fold, find}
+use Rattle.std.proofs.Common.{take, Option, Some, None, Ok, All, get_or, refl, sym, ap, subst}
+use Rattle.std.proofs.Common.{◌∙◌, arith}
+use Rattle.std.specs.Prelude.{sum_by, bytes_eq}
 use Rattle.std.specs.List.{slice_get, list_any, range_with_len}
 use Rattle.std.specs.Ordering.{int_eq}
 use Rattle.std.proofs.Math.IntN.{+ℤ_idl, +ℤ_assoc}
@@ -15,24 +15,20 @@ use Rattle.std.proofs.lemmas.Slice.Eq.{bytes_eq-Decides}
 use Rattle.std.proofs.lemmas.Option.{slice_get_within, get_or_from_slice_get}
 use Rattle.std.proofs.lemmas.List.Elements.{All-nil, All-cons}
 use Rattle.std.proofs.lemmas.List.Sums.{sum_by-cons, sum_by-take-le}
-use Rattle.toml_fields.specs.Ranges.{IsWithin}
-use Rattle.toml_fields.specs.Results.{first_below, refuse_found}
+use Rattle.toml_fields.specs.Results.{refuse_found}
 use Rattle.tool_library.specs.Tools.{PunchData, DieData, ToolsData, IsPunch, IsDie, IsSection, IsTools}
 use Rattle.machine_file.specs.Machine.{StageTextData, IsPiece, IsStageText}
-use Rattle.job_setup.specs.declared.fault.JobFault.{JobFault}
 use Rattle.job_setup.specs.declared.fault.JobFault.TheVariants.{StockShort}
 use Rattle.job_setup.specs.Stages.{punch_named, die_named}
 use Rattle.job_setup.specs.Stages.{total as fold_total}
 use Rattle.job_setup.specs.Stock.{is_used_up, is_short}
 use Rattle.job_setup.specs.Stock.{stock_suffices}
-use Rattle.job_setup.specs.Stock.{punch_sections as named_punch_sections}
-use Rattle.job_setup.specs.Stock.{die_sections as named_die_sections}
-use Rattle.piece_pick.specs.declared.want.Want.{Want}
 use Rattle.piece_pick.specs.declared.stock.Tool.{Tool}
 use Rattle.piece_pick.specs.declared.stock.Tool.TheVariants.{Punch as PunchAt, Die as DieAt}
-use Rattle.piece_pick.specs.Stock.{punch_sections, die_sections}
-use Rattle.piece_pick.specs.Stock.{sections_of, section_count, held, count_of, is_of, taken_by, taken}
-use Rattle.piece_pick.specs.Choice.{total, MakesUp, AreMadeUp, IsChoice}
+use Rattle.tool_library.specs.Stock.{punch_sections, die_sections}
+use Rattle.tool_library.specs.Stock.{section_count, held, count_of}
+use Rattle.piece_pick.specs.Stock.{sections_of, is_of, taken_by, taken}
+use Rattle.piece_pick.specs.Choice.{total, AreMadeUp}
 use Rattle.setup_choice.specs.Setups.{StageWantData, IsStageWant}
 use Rattle.setup_choice.specs.Wanted.{wanted_by}
 use Rattle.setup_choice.specs.Fitting.{made_of, made_of_choice, punch_place, die_place, want_of}
@@ -280,7 +276,7 @@ or_false false b one two = two
 or_false true b one two = one
 
 punches_serve : (tools : ToolsData) → Serves tools (λ text. text.punch)
-    (λ name. named_punch_sections (punch_named tools.punches name))
+    (λ name. punch_sections (punch_named tools.punches name))
     (λ name. PunchAt (punch_place tools name))
 punches_serve tools name s pieces has is =
     let same : s.punch ≡ name = (bytes_eq-Decides s.punch name).0 is in
@@ -289,11 +285,11 @@ punches_serve tools name s pieces has is =
     let here = (at_place (λ punch. bytes_eq punch.name name) tools.punches has.punch found).1 in (
       ap (λ (n : List ℕ). punch_place tools n == punch_place tools name) same
           ∙ eqb_same (punch_place tools name),
-      ap named_punch_sections found ∙ sym (ap punch_sections here),
+      ap punch_sections found ∙ sym (ap punch_sections here),
     )
 
 dies_serve : (tools : ToolsData) → Serves tools (λ text. text.die)
-    (λ name. named_die_sections (die_named tools.dies name))
+    (λ name. die_sections (die_named tools.dies name))
     (λ name. DieAt (die_place tools name))
 dies_serve tools name s pieces has is =
     let same : s.die ≡ name = (bytes_eq-Decides s.die name).0 is in
@@ -302,7 +298,7 @@ dies_serve tools name s pieces has is =
     let here = (at_place (λ die. bytes_eq die.name name) tools.dies has.die found).1 in (
       ap (λ (n : List ℕ). die_place tools n == die_place tools name) same
           ∙ eqb_same (die_place tools name),
-      ap named_die_sections found ∙ sym (ap die_sections here),
+      ap die_sections found ∙ sym (ap die_sections here),
     )
 
 not_short : (tools : ToolsData) (stages : List StageWantData) (choice : List (List ℤ)) (i : ℕ)
@@ -314,12 +310,12 @@ not_short tools stages choice i has are_held =
     or_false _ _
     (none_any _ first (λ other. none_any _ first (λ stage. none_any _ stage.pieces (λ piece.
     not_used_up tools (λ text. text.punch)
-    (λ name. named_punch_sections (punch_named tools.punches name))
+    (λ name. punch_sections (punch_named tools.punches name))
     (λ name. PunchAt (punch_place tools name)) other.punch piece stages choice i
     (punches_serve tools) has are_held))))
     (none_any _ first (λ other. none_any _ first (λ stage. none_any _ stage.pieces (λ piece.
     not_used_up tools (λ text. text.die)
-    (λ name. named_die_sections (die_named tools.dies name))
+    (λ name. die_sections (die_named tools.dies name))
     (λ name. DieAt (die_place tools name)) other.die piece stages choice i
     (dies_serve tools) has are_held))))
 

@@ -1,6 +1,6 @@
 -- The setups that a file gives meet the rules of the setups file.
 use Rattle.std.proofs.Common.{◌≡◌, ℕ, suc, ◌+◌, ◌<◌, ◌≤◌, neg_ℤ, Bool, true, false, List, [], ◌∷◌}
-use Rattle.std.proofs.Common.{codes, length, map, nat_le, nat_lt, Option, Some, None, Result, Ok, ok_or}
+use Rattle.std.proofs.Common.{codes, length, nat_le, nat_lt, Option, Some, None, Ok, ok_or}
 use Rattle.std.proofs.Common.{option_and_then, if◌then◌else◌, All, refl, sym, ap, subst, ◌∙◌}
 use Rattle.std.proofs.Common.{ltb-false, leb-true, arith}
 use Rattle.std.proofs.lemmas.List.{length-map}
@@ -11,11 +11,10 @@ use Rattle.toml_fields.specs.Lists.{tables_at}
 use Rattle.toml_fields.specs.Results.{each_from, first_below, refuse_if, refuse_first}
 use Rattle.toml_fields.proofs.Bind.{bind_ok, ok_same, ok_or_ok, refused_not, found_not}
 use Rattle.toml_fields.proofs.Bind.{checked_is_name, checked_is_within}
-use Rattle.tool_library.specs.Names.{is_repeat, AreDistinct}
+use Rattle.tool_library.specs.Names.{is_repeat}
 use Rattle.tool_library.proofs.Repeats.{AreDistinct_from_none}
 use Rattle.machine_file.specs.Bounds.{coordinate_limit, most_stages}
 use Rattle.machine_file.proofs.Fit.{each_all, each_length, then_some}
-use Rattle.setup_choice.specs.declared.fault.SetupFault.{SetupFault}
 use Rattle.setup_choice.specs.declared.fault.SetupFault.TheVariants.{BadField, UnknownKey}
 use Rattle.setup_choice.specs.declared.fault.SetupFault.TheVariants.{TooMany, SameName}
 use Rattle.setup_choice.specs.Bounds.{most_setups, least_stage_length, greatest_stage_length}

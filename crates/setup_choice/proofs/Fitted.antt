@@ -1,13 +1,13 @@
 -- A setup that isn't refused gives a job with each choice of its pieces.
-use Rattle.std.proofs.Common.{◌≡◌, ℕ, suc, ◌≤◌, ℤ, List, [], ◌∷◌, map, length, Result, Ok, Err, All}
-use Rattle.std.proofs.Common.{refl, sym, ap, subst, ◌∙◌, arith}
+use Rattle.std.proofs.Common.{◌≡◌, suc, ◌≤◌, ℤ, List, [], ◌∷◌, map, length, Result, Ok, All}
+use Rattle.std.proofs.Common.{refl, sym, ap, subst, ◌∙◌}
 use Rattle.toml_fields.specs.Results.{◌>>=◌, each_from}
 use Rattle.toml_fields.proofs.Bind.{bind_ok}
 use Rattle.part_file.specs.Part.{PartData}
 use Rattle.allowance.specs.AllowTable.{half_deduction_in}
-use Rattle.tool_library.specs.Tools.{ToolsData, IsTools}
+use Rattle.tool_library.specs.Tools.{ToolsData}
 use Rattle.machine_file.specs.Bounds.{most_stages}
-use Rattle.machine_file.specs.Machine.{StageTextData, MachineData, IsStageText, IsMachine}
+use Rattle.machine_file.specs.Machine.{StageTextData, MachineData, IsStageText, IsMachine, with_stages}
 use Rattle.job_setup.specs.declared.fault.JobFault.{JobFault}
 use Rattle.job_setup.specs.declared.fault.JobFault.TheVariants.{Allow}
 use Rattle.job_setup.specs.Setup.{JobData}
@@ -17,16 +17,15 @@ use Rattle.job_setup.specs.JobOf.{refusing, unfolds, setup_of, stages_fit, job_w
 use Rattle.job_setup.proofs.Steps.{ends_at_loads, gives_job}
 use Rattle.piece_pick.specs.Choice.{AreMadeUp, IsChoice, IsWant}
 use Rattle.setup_choice.specs.Setups.{StageWantData, OneSetupData, IsOneSetup}
-use Rattle.setup_choice.specs.Wanted.{wanted_by}
-use Rattle.setup_choice.specs.Fitting.{in_one_piece, made_of_choice, machine_with, part_fits}
+use Rattle.setup_choice.specs.Fitting.{in_one_piece, made_of_choice, part_fits}
 use Rattle.setup_choice.specs.Fitting.{stages_stand, setup_fits, want_of, wants_of, job_of_choice}
 use Rattle.setup_choice.proofs.Bare.{judged, in_one_is, stand_alike}
 use Rattle.setup_choice.proofs.ToolPlaces.{HasTools, tools_of_texts, wants_are}
-use Rattle.setup_choice.proofs.Choices.{made_wanted, made_fit, stock_fits}
+use Rattle.setup_choice.proofs.Choices.{made_wanted, stock_fits}
 
 -- the machine with stages that keep to its rules
 pub machine_is : (machine : MachineData) (texts : List StageTextData) → IsMachine machine
-    → All IsStageText texts → length texts ≤ most_stages → IsMachine (machine_with machine texts)
+    → All IsStageText texts → length texts ≤ most_stages → IsMachine (with_stages machine texts)
 machine_is machine texts fit each few = record {
   bed = fit.bed;
   frames = fit.frames;
@@ -100,7 +99,7 @@ pub choice_gives : (part : PartData) (tools : ToolsData) (machine : MachineData)
 unfolding setup_fits
 choice_gives part tools machine one choice given is =
     let made = made_of_choice one.stages choice in
-    let with_made = machine_with machine made in
+    let with_made = with_stages machine made in
     let fitted = bind_ok (part_fits part tools) _ tt given in
     let known = part_gives part tools fitted.1 in
     let has = stages_have_tools part tools machine one fitted.2 in

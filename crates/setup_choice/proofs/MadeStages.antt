@@ -1,6 +1,6 @@
 -- The stages that a choice of pieces makes, one by one.
 use Rattle.std.proofs.Common.{◌≡◌, ℕ, zero, suc, ◌<◌, ◌++◌, ℤ, List, [], ◌∷◌, map, take, length, get_or}
-use Rattle.std.proofs.Common.{refl, sym, ap, ◌∙◌, arith}
+use Rattle.std.proofs.Common.{refl, ap, arith}
 use Rattle.machine_file.specs.Machine.{StageTextData}
 use Rattle.setup_choice.specs.Setups.{StageWantData}
 use Rattle.setup_choice.specs.Fitting.{made_of, made_of_choice}

@@ -1,8 +1,8 @@
 -- The tools of a setup's stages, by their names and by their places.
-use Rattle.std.proofs.Common.{◌≡◌, ℕ, suc, ◌+◌, ◌<◌, ◌==◌, Bool, true, false, cond, nat_lt, List, []}
-use Rattle.std.proofs.Common.{◌∷◌, map, length, find, position, Option, Some, None, unwrap_or, Result}
-use Rattle.std.proofs.Common.{Ok, ok_or, All, refl, sym, ap, subst, ◌∙◌, arith}
-use Rattle.std.specs.Prelude.{bytes_eq, ◌≤◌, ◌≤ℤ◌, pos}
+use Rattle.std.proofs.Common.{◌≡◌, ℕ, suc, ◌+◌, ◌<◌, Bool, true, cond, nat_lt, List, []}
+use Rattle.std.proofs.Common.{◌∷◌, map, length, find, position, Some, None, unwrap_or}
+use Rattle.std.proofs.Common.{Ok, ok_or, All, sym, ap, subst, ◌∙◌, arith}
+use Rattle.std.specs.Prelude.{bytes_eq}
 use Rattle.std.specs.List.{slice_get, position_or_len}
 use Rattle.std.proofs.lemmas.Bool.{lt-ltb}
 use Rattle.std.proofs.lemmas.Option.{slice_get_within}
@@ -15,11 +15,11 @@ use Rattle.tool_library.specs.Tools.{PunchData, DieData, ToolsData}
 use Rattle.machine_file.specs.Machine.{StageTextData}
 use Rattle.job_setup.specs.declared.fault.JobFault.TheVariants.{UnknownTool}
 use Rattle.job_setup.specs.Setup.{StageData}
-use Rattle.job_setup.specs.Stages.{punch_named, die_named, stage_with, stage_of_text}
+use Rattle.job_setup.specs.Stages.{punch_named, die_named, stage_of_text}
 use Rattle.piece_pick.specs.Choice.{IsWant}
 use Rattle.setup_choice.specs.Setups.{StageWantData, IsStageWant}
 use Rattle.setup_choice.specs.Wanted.{wanted_by}
-use Rattle.setup_choice.specs.Fitting.{punch_place, die_place, want_of}
+use Rattle.setup_choice.specs.Fitting.{want_of}
 
 -- what is found in a list stands at its place
 pub at_place : {X : Type 0} (p : X → Bool) (xs : List X) (x : X) → find p xs ≡ Some x

@@ -1,12 +1,12 @@
 -- What becomes of a setup on a machine: a job with the first choice of its pieces, no choice, or a
 -- refusal.
 use Rattle.std.specs.Prelude.{◌≡◌, ℕ, ℤ, List, [], ◌∷◌, map, zip, position, bytes_eq, unwrap_or}
-use Rattle.std.specs.Prelude.{Option, Some, None, Result, Ok, Err}
+use Rattle.std.specs.Prelude.{Some, None, Result, Ok, Err}
 use Rattle.toml_fields.specs.Results.{◌>>=◌, each_from}
 use Rattle.part_file.specs.Part.{PartData}
 use Rattle.allowance.specs.AllowTable.{half_deduction_in}
 use Rattle.tool_library.specs.Tools.{ToolsData}
-use Rattle.machine_file.specs.Machine.{StageTextData, MachineData}
+use Rattle.machine_file.specs.Machine.{StageTextData, MachineData, with_stages}
 use Rattle.job_setup.specs.declared.fault.JobFault.{JobFault}
 use Rattle.job_setup.specs.declared.fault.JobFault.TheVariants.{Allow}
 use Rattle.job_setup.specs.Setup.{JobData}
@@ -36,22 +36,6 @@ made_of_choice stages choice = map made_of (zip stages choice)
 -- a wanted stage made of one piece, whatever the stock holds: it runs from `at` to `at + length`
 abbrev pub in_one_piece : StageWantData → StageTextData
 in_one_piece stage = made_of (stage, stage.length ∷ [])
-
--- the machine with these stages in place of its own
-abbrev pub machine_with : MachineData → List StageTextData → MachineData
-machine_with m stages = record {
-  bed = m.bed;
-  frames = m.frames;
-  upper = m.upper;
-  lower = m.lower;
-  uncovered = m.uncovered;
-  gauge = m.gauge;
-  cost = m.cost;
-  stages = stages;
-  gang = m.gang;
-  force = m.force;
-  fine = m.fine;
-}
 
 -- the part has a half deduction and unfolds, or the refusal
 unfoldable pub part_fits : PartData → ToolsData → Result (Unit {0}) JobFault
@@ -97,7 +81,7 @@ wants_of tools stages = map (want_of tools) stages
 abbrev pub job_of_choice :
     PartData → ToolsData → MachineData → OneSetupData → List (List ℤ) → Result JobData JobFault
 job_of_choice part tools machine one choice =
-    job_in part tools (machine_with machine (made_of_choice one.stages choice))
+    job_in part tools (with_stages machine (made_of_choice one.stages choice))
 
 -- the job of the first choice of pieces, that there is no choice, or the first refusal
 abbrev pub IsFit :

@@ -8,7 +8,7 @@ ghost use Rattle.setup_choice.specs.Setups.{one_setup_data, IsOneSetup};
 ghost use Rattle.setup_choice.specs.Fitting.{IsFit, setup_fits, wants_of, job_of_choice};
 
 use crate::checks::check;
-use crate::made::{machine_with, made_of_choice};
+use crate::made::made_of_choice;
 use crate::outcome::Fit;
 use crate::setups::OneSetup;
 use crate::wants::wants_of;
@@ -38,7 +38,7 @@ fn job_of_choice(
         (map (λ pieces. pieces.items) choice.now.items) }
 {
     let stages = made_of_choice(one.stages.as_slice(), choice.as_slice());
-    make_job(part.copy(), tools, &machine_with(machine, stages))
+    make_job(part.copy(), tools, &machine.with_stages(stages))
 }
 
 /// The first choice of pieces for the stages of a setup whose tools are there, if there is one.

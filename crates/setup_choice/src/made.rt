@@ -1,15 +1,15 @@
 //! A machine whose stages are made of given pieces.
 ghost use Rattle.std.specs.Prelude.{◌≡◌, ◌≤◌, length, map, All};
 ghost use Rattle.machine_file.specs.declared.bounds.TheConstants.{MOST_PIECES, MOST_STAGES};
-ghost use Rattle.machine_file.specs.Machine.{stage_text_data, machine_data, IsStageText};
+ghost use Rattle.machine_file.specs.Machine.{stage_text_data, IsStageText};
 ghost use Rattle.setup_choice.specs.Setups.{stage_want_data, IsStageWant};
-ghost use Rattle.setup_choice.specs.Fitting.{made_of, made_of_choice, machine_with};
+ghost use Rattle.setup_choice.specs.Fitting.{made_of, made_of_choice};
 ghost use Rattle.setup_choice.specs.Wanted.{wanted_by};
 
 use crate::setups::StageWant;
 use arrayvec::ArrayVec;
+use machine_file::StageText;
 use machine_file::bounds::{GREATEST_PIECE, MOST_PIECES, MOST_STAGES};
-use machine_file::{Machine, StageText};
 use piece_pick::Pieces;
 
 /// The stage of a machine that a wanted stage becomes when it is made of these pieces.
@@ -68,30 +68,4 @@ pub fn in_long_pieces(stages: &[StageWant]) -> ArrayVec<StageText, MOST_STAGES>
         made.push(made_of_long_pieces(stage));
     }
     made
-}
-
-/// The machine with these stages in place of its own.
-pub fn machine_with(machine: &Machine, stages: ArrayVec<StageText, MOST_STAGES>) -> Machine
-    ensures { machine_data result
-        ≡ machine_with (machine_data machine.now) (map stage_text_data stages.items) }
-{
-    let mut frames = ArrayVec::new();
-    let _ = frames.try_extend_from_slice(machine.frames.as_slice());
-    let mut upper = ArrayVec::new();
-    let _ = upper.try_extend_from_slice(machine.upper.as_slice());
-    let mut lower = ArrayVec::new();
-    let _ = lower.try_extend_from_slice(machine.lower.as_slice());
-    Machine {
-        bed: machine.bed,
-        frames,
-        upper,
-        lower,
-        uncovered: machine.uncovered,
-        gauge: machine.gauge,
-        cost: machine.cost,
-        stages,
-        gang: machine.gang,
-        force: machine.force,
-        fine: machine.fine,
-    }
 }

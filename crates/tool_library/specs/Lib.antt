@@ -2,4 +2,5 @@ pub mod Bounds
 pub mod Tools
 pub mod Names
 pub mod ToolsFile
+pub mod Stock
 pub mod FaultNumbers

@@ -10,6 +10,7 @@ mod opening;
 mod reader;
 mod row;
 mod rows;
+pub mod stock;
 mod tools;
 
 pub use fault::ToolFault;

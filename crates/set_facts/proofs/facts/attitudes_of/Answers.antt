@@ -10,7 +10,7 @@ loop-bend-preserved c =
     let bend = c.loop-bend.bend in
     let first : 1 ≤ bend = omega (arith, c.loop-bend.auto.bend) in
     let last : bend ≤ 12 = omega (arith, c.loop-bend-test.true, c.faces-bend-end.ensures.few) in
-    rw c.from-place.ensures (held_more c.args.job.now c.args.mask bend c.loop-bend.attitudes c.attitude.result c.attitude-in-loop-bend.result first last
-    (c.attitude.ensures.value ∙ ap (λ (s : ShapeData). attitude_of s c.args.mask bend Parent) c.shape-shape.ensures.value)
-    (c.attitude-in-loop-bend.ensures.value ∙ ap (λ (s : ShapeData). attitude_of s c.args.mask bend Child) c.shape-shape.ensures.value)
+    rw c.from-at.ensures (held_more c.args.job.now c.args.mask bend c.loop-bend.attitudes c.attitude_from.result c.attitude_from-in-loop-bend.result first last
+    (c.attitude_from.ensures.value ∙ ap (λ (s : ShapeData). attitude_of s c.args.mask bend Parent) c.shape-shape.ensures.value)
+    (c.attitude_from-in-loop-bend.ensures.value ∙ ap (λ (s : ShapeData). attitude_of s c.args.mask bend Child) c.shape-shape.ensures.value)
     c.loop-bend.invariant)

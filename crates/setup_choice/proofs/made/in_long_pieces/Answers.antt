@@ -5,7 +5,7 @@ use Rattle.std.proofs.lemmas.List.Elements.{All-push}
 use Rattle.machine_file.specs.Machine.{StageTextData, IsStageText, stage_text_data}
 use Rattle.job_setup.proofs.Lists.{all_at}
 use Rattle.setup_choice.specs.declared.setups.StageWant.{StageWant}
-use Rattle.setup_choice.specs.Setups.{StageWantData, IsStageWant, stage_want_data}
+use Rattle.setup_choice.specs.Setups.{IsStageWant, stage_want_data}
 use Rattle.setup_choice.specs.Wanted.{wanted_by}
 use Rattle.setup_choice.proofs.made.in_long_pieces.Goals as goal
 

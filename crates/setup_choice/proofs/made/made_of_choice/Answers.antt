@@ -1,4 +1,4 @@
-use Rattle.std.proofs.Common.{◌≡◌, ◌∙◌, ◌+◌, ◌++◌, ◌∷◌, [], List, ℤ, ap, sym, map, take, length, add-one, arith}
+use Rattle.std.proofs.Common.{◌≡◌, ◌∙◌, ◌++◌, ◌∷◌, [], List, ℤ, ap, sym, map, length, add-one, arith}
 use Rattle.std.proofs.lemmas.List.{map_push, take_all, length-map}
 use Rattle.machine_file.specs.Machine.{stage_text_data}
 use Rattle.setup_choice.specs.Setups.{stage_want_data}

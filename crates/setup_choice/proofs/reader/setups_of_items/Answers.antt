@@ -1,9 +1,7 @@
-use Rattle.std.proofs.Common.{List, ◌≡◌, ◌+◌, ◌++◌, ◌∷◌, [], Ok, Err, map, length, refl, arith}
+use Rattle.std.proofs.Common.{List, ◌≡◌, ◌+◌, ◌++◌, ◌∷◌, [], map, length, refl, arith}
 use Rattle.std.proofs.lemmas.Result.{err_from_is_err_and}
 use Rattle.std.proofs.lemmas.List.{map_push, length-map}
-use Rattle.toml.specs.View.{view}
 use Rattle.setup_choice.specs.Setups.{OneSetupData, stage_want_data, one_setup_data}
-use Rattle.setup_choice.specs.SetupsFile.{one_setup_in}
 use Rattle.setup_choice.proofs.Tables.{goes_on, stops, is_done}
 use Rattle.setup_choice.proofs.reader.setups_of_items.Goals as goal
 

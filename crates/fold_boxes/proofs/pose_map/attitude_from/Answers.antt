@@ -3,11 +3,12 @@ use Rattle.brake_base.specs.Turns.{Map, turn_of, multiply, transpose}
 use Rattle.part_file.specs.Part.{PartData, FaceData}
 use Rattle.unfolder.specs.Cores.{joint_of}
 use Rattle.fold_boxes.specs.Folded.{place_of}
+use Rattle.fold_boxes.specs.Places.{IsPlaceOf}
 use Rattle.fold_boxes.specs.Pose.{parent_place, frame_turn, attitude_turn}
-use Rattle.fold_boxes.proofs.Folding.{read_place}
+use Rattle.fold_boxes.proofs.Folding.{place_at}
 use Rattle.fold_boxes.proofs.Numbered.{turn_number_is}
 use Rattle.fold_boxes.proofs.SolePose.{held_as}
-use Rattle.fold_boxes.proofs.pose_map.attitude.Goals as goal
+use Rattle.fold_boxes.proofs.pose_map.attitude_from.Goals as goal
 
 pub returns-clause-turn : goal.returns-clause-turn
 unfolding attitude_turn
@@ -17,12 +18,11 @@ returns-clause-turn c =
     let bend = c.args.bend in
     let back = c.args.back in
     let kept = c.hinge.result.now in
-    let place = c.index-as_slice-from.result in
-    let inside : kept.parent < length c.place_faces-places.result.items = omega (arith, c.requires.bend, c.hinge.ensures.earlier, c.place_faces-places.ensures.count) in
-    let read = read_place shape mask c.place_faces-places.result.items c.as_slice.result.now c.from.result kept.parent place c.place_faces-places.ensures.each c.as_slice.ensures.value c.from.ensures inside in
-    let is = c.index-as_slice-from.is in
+    let place = c.index-places-from.result in
+    let inside : kept.parent < length c.args.places.now = omega (arith, c.requires.bend, c.hinge.ensures.earlier, c.requires.count) in
+    let is : IsPlaceOf shape mask kept.parent place = place_at shape mask c.args.places.now c.from.result kept.parent place c.requires.places c.index-places-from.is c.from.ensures inside in
     let parent : turn_of place.turn ≡ (parent_place shape mask bend).turn =
-    ap (λ p. turn_of p.turn) is ∙ ap (λ (m : Map). m.turn) read.map ∙ ap (λ on. (place_of shape mask on).turn) c.hinge.ensures.value.parent in
+    ap (λ (m : Map). m.turn) is.map ∙ ap (λ on. (place_of shape mask on).turn) c.hinge.ensures.value.parent in
     let faces_are = ap (λ (p : PartData). p.faces) c.part.ensures.value in
     let joint : c.joint_of.result ≡ joint_of shape.part.faces bend = c.joint_of.ensures.value ∙ ap (λ (fs : List FaceData). joint_of fs bend) faces_are in
     c.pose_turn.ensures.value ∙ (λ i. multiply (frame_turn (joint i).side (joint i).dir back) (transpose (parent i)))

@@ -2,8 +2,8 @@ use Rattle.std.proofs.Common.{◌∙◌, ap, arith, pos}
 use Rattle.std.specs.Prelude.{sum_by}
 use Rattle.std.proofs.lemmas.List.{take_all}
 use Rattle.std.proofs.lemmas.List.Sums.{sum_by_more}
-use Rattle.job_setup.specs.Stock.{section_count}
-use Rattle.job_setup.proofs.stock.held.Goals as goal
+use Rattle.tool_library.specs.Stock.{section_count}
+use Rattle.tool_library.proofs.stock.held.Goals as goal
 
 pub loop-section-preserved : goal.loop-section-preserved
 loop-section-preserved c =
