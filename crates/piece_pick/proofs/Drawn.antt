@@ -1,5 +1,5 @@
 -- Pieces that are drawn from a supply, and how many of a length there are.
-use Rattle.std.proofs.Common.{◌≡◌, ◌≢◌, ◌⊎◌, inl, inr, ℕ, zero, suc, ◌+◌, ◌-◌, ◌<◌, ◌≤◌, ℤ, pos, ◌+ℤ◌, ◌-ℤ◌, ◌≤ℤ◌, ◌<ℤ◌, Bool, true, false, cond, List, [], ◌∷◌, ◌++◌, length, get_or, take, drop, drop-cons, length-drop, add-one, take-suc, refl, sym, ◌∙◌, ap, subst, arith}
+use Rattle.std.proofs.Common.{◌≡◌, ◌⊎◌, inl, inr, ℕ, zero, suc, ◌+◌, ◌-◌, ◌<◌, ◌≤◌, ℤ, pos, ◌+ℤ◌, ◌-ℤ◌, ◌≤ℤ◌, ◌<ℤ◌, Bool, true, false, cond, List, [], ◌∷◌, ◌++◌, length, get_or, take, drop, drop-cons, length-drop, add-one, take-suc, refl, sym, ◌∙◌, ap, subst, arith}
 use Rattle.std.specs.Prelude.{All, AllPairs}
 use Rattle.std.specs.Ordering.{int_eq}
 use Rattle.std.proofs.lemmas.Int.{ints}
@@ -8,9 +8,9 @@ use Rattle.std.proofs.lemmas.List.{take_all}
 use Rattle.std.proofs.lemmas.List.Elements.{All-nil, All-cons}
 use Rattle.std.proofs.lemmas.List.Kept.{AllPairs-cons}
 use Rattle.std.proofs.lemmas.List.Sums.{sum_by-append}
-use Rattle.piece_pick.specs.Stock.{count_of}
+use Rattle.tool_library.specs.Stock.{count_of}
 use Rattle.piece_pick.specs.Choice.{total}
-use Rattle.piece_pick.specs.Search.{IsSupply, IsDrawn, IsFill, HasNoFill, shorter}
+use Rattle.piece_pick.specs.Search.{IsSupply, IsDrawn, HasNoFill, shorter}
 
 -- a property of each piece, and that none is longer than one before it, piece by piece
 abbrev pub Each : (ℤ → Type 0) → List ℤ → Type 0

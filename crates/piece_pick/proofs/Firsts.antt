@@ -1,6 +1,6 @@
 -- The first of the choices of a kind, by the kinds of which it is made.
-use Rattle.std.proofs.Common.{◌≡◌, ◌⊎◌, inl, inr, ℕ, zero, suc, ◌+◌, ◌-◌, ◌<◌, ◌≤◌, ◌==◌, ℤ, pos, ◌+ℤ◌, ◌≤ℤ◌, ◌<ℤ◌, Bool, true, false, cond, List, [], ◌∷◌, ◌++◌, length, get_or, drop, refl, sym, ◌∙◌, ap, subst, append_assoc, length-append, arith}
-use Rattle.std.specs.Prelude.{min, All, AllPairs}
+use Rattle.std.proofs.Common.{◌≡◌, ◌⊎◌, inl, inr, ℕ, ◌+◌, ◌-◌, ◌<◌, ◌≤◌, ◌==◌, ℤ, pos, ◌+ℤ◌, ◌≤ℤ◌, ◌<ℤ◌, Bool, true, false, cond, List, [], ◌∷◌, ◌++◌, length, get_or, refl, sym, ◌∙◌, ap, subst, append_assoc, length-append, arith}
+use Rattle.std.specs.Prelude.{min}
 use Rattle.std.proofs.lemmas.Int.{ints}
 use Rattle.std.proofs.lemmas.List.Sums.{count_by-le-length}
 use Rattle.std.specs.Ordering.{int_eq}
@@ -8,10 +8,11 @@ use Rattle.tool_library.specs.Tools.{ToolsData}
 use Rattle.piece_pick.specs.declared.want.Want.{Want}
 use Rattle.piece_pick.specs.declared.stock.Tool.{Tool}
 use Rattle.piece_pick.specs.declared.stock.Tool.TheVariants.{Punch, Die}
-use Rattle.piece_pick.specs.Stock.{sections_of, held, count_of, is_of, taken, taken_by}
+use Rattle.tool_library.specs.Stock.{held, count_of}
+use Rattle.piece_pick.specs.Stock.{sections_of, is_of, taken, taken_by}
 use Rattle.piece_pick.specs.Choice.{most_pieces, total, MakesUp, AreMadeUp, IsChoice, IsAhead, ComesFirst}
-use Rattle.piece_pick.specs.Search.{IsSupply, IsLeftFor, IsDrawn, IsFill, HasNoFill, shorter, IsPart, IsNext, Begins, GoesOn, IsFirst, HasNone, Finds, IsAt}
-use Rattle.piece_pick.proofs.Drawn.{Each, Falls, each_from, falls_from, falls_to, counts_drawn, drawn_counts, drawn_each, drawn_falls, total_append, total_none, none_drawn, drawn_behind, take_or_leave, shorter_drawn, shorter_below}
+use Rattle.piece_pick.specs.Search.{IsSupply, IsLeftFor, IsDrawn, HasNoFill, shorter, IsPart, IsNext, Begins, GoesOn, IsFirst, HasNone}
+use Rattle.piece_pick.proofs.Drawn.{Each, Falls, falls_from, falls_to, counts_drawn, drawn_counts, drawn_each, drawn_falls, total_append, total_none, none_drawn, drawn_behind, take_or_leave, shorter_drawn, shorter_below}
 use Rattle.piece_pick.proofs.Begun.{made_next, taken_next, later_has, taken_push, begun_push, one_more, none_more, all_made}
 
 -- a kind that another holds, where the choices are the same
@@ -53,13 +54,13 @@ first_full tools wants before part full = record {
     append_nil (x ∷ xs) = ap (λ l. x ∷ l) (append_nil xs)
 
 -- ---- the next want begins
-own_tool : (n : ℕ) → (n == n) ≡ true
+pub own_tool : (n : ℕ) → (n == n) ≡ true
 own_tool n = grind arith
 
 taken_by_own : (tool : Tool) (p : ℤ) (want : Want) (pieces : List ℤ) → is_of tool want ≡ true → taken_by tool p want pieces ≡ count_of p pieces
 taken_by_own tool p want pieces own = ap (λ (t : Bool). cond t (count_of p pieces) 0) own
 
-least_of : (a b c d e n m : ℕ) → n ≡ min (min (a - b) (c - d)) e → b + m ≤ a → d + m ≤ c → m ≤ e → m ≤ n
+pub least_of : (a b c d e n m : ℕ) → n ≡ min (min (a - b) (c - d)) e → b + m ≤ a → d + m ≤ c → m ≤ e → m ≤ n
 least_of a b c d e n m is ab cd small = omega arith
 
 -- pieces that the stock holds beside those of the first wants are drawn from what is left

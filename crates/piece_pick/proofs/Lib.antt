@@ -3,3 +3,7 @@ pub mod Begun
 pub mod Firsts
 pub mod Steps
 pub mod Supplies
+pub mod Lengths
+pub mod Divided
+pub mod Ends
+pub mod OffGrid

@@ -1,16 +1,17 @@
 -- What each step of the search keeps, and what it finds.
-use Rattle.std.proofs.Common.{◌≡◌, ◌⊎◌, inl, inr, ℕ, zero, suc, ◌+◌, ◌-◌, ◌<◌, ◌≤◌, ℤ, pos, ◌+ℤ◌, ◌-ℤ◌, ◌≤ℤ◌, ◌<ℤ◌, Bool, true, false, List, [], ◌∷◌, ◌++◌, length, get_or, drop, refl, sym, ◌∙◌, ap, subst, append_assoc, length-append, arith}
+use Rattle.std.proofs.Common.{◌≡◌, ◌⊎◌, inl, inr, ℕ, suc, ◌+◌, ◌<◌, ◌≤◌, ℤ, pos, ◌+ℤ◌, ◌-ℤ◌, ◌≤ℤ◌, ◌<ℤ◌, Bool, true, false, List, [], ◌∷◌, ◌++◌, length, get_or, drop, refl, sym, ◌∙◌, ap, subst, append_assoc, arith}
 use Rattle.std.proofs.lemmas.List.{append-nil}
-use Rattle.std.specs.Prelude.{All, AllPairs}
+use Rattle.std.specs.Prelude.{All}
 use Rattle.std.proofs.lemmas.Int.{ints}
 use Rattle.arrayvec.specs.ArrayVec.{ArrayVec}
 use Rattle.tool_library.specs.Tools.{ToolsData}
 use Rattle.piece_pick.specs.declared.want.Want.{Want}
 use Rattle.piece_pick.specs.declared.stock.Tool.{Tool}
-use Rattle.piece_pick.specs.Stock.{sections_of, held, taken}
+use Rattle.tool_library.specs.Stock.{held}
+use Rattle.piece_pick.specs.Stock.{sections_of, taken}
 use Rattle.piece_pick.specs.Choice.{most_pieces, total, IsWant, IsChoice, ComesFirst, IsFirstChoice, lists_of}
 use Rattle.piece_pick.specs.Search.{IsSupply, IsLeftFor, IsDrawn, HasNoFill, shorter, AreBegun, IsPart, IsNext, Begins, GoesOn, IsFirst, HasNone, Finds, IsAt, IsAsked, IsState}
-use Rattle.piece_pick.proofs.Drawn.{Each, Falls, each_from, falls_from, falls_drop, each_drop, from_on, total_append, total_least, drawn_each, none_drawn, shorter_drawn, drawn_behind}
+use Rattle.piece_pick.proofs.Drawn.{Falls, each_from, falls_from, falls_drop, each_drop, from_on, total_append, total_least, drawn_each, none_drawn, shorter_drawn, drawn_behind}
 use Rattle.piece_pick.proofs.Begun.{taken_nothing}
 use Rattle.piece_pick.proofs.Firsts.{first_as, none_as, begins_with, goes_on_begins, goes_on_made, none_left, part_push, goes_on_done, done_goes_on, takes_goes_on, leaves_goes_on, takes_or_leaves, taking_first}
 
@@ -243,7 +244,7 @@ start_state tools wants before want first supply whole pieces rest asked part ne
     (subst (λ (s : List ℤ). IsState tools wants before first s pieces 0 rest) (sym same_supply)
     (subst (λ (p : List ℤ). IsState tools wants before first whole p 0 rest) (sym none)
     (subst (λ (r : ℤ). IsState tools wants before first whole [] 0 r) (sym whole_rest)
-    (record { part = part; next = next; left = left; at = at_start first.length whole (want_is tools wants before first asked.wants_are next).long }))))
+    (record { asked = asked; part = part; next = next; left = left; at = at_start first.length whole (want_is tools wants before first asked.wants_are next).long }))))
 
 pub next_state : (tools : ToolsData) (wants : List Want) (before : List (List ℤ)) (want : Want) (supply pieces longer : List ℤ) (from : ℕ) (rest x left_over : ℤ)
     → IsState tools wants before want supply pieces from rest → from < length supply → get_or supply from x ≡ x → x ≤ℤ rest
@@ -251,12 +252,13 @@ pub next_state : (tools : ToolsData) (wants : List Want) (before : List (List �
 next_state tools wants before want supply pieces longer from rest x left_over state within here small pushed less =
     subst (λ (p : List ℤ). IsState tools wants before want supply p (from + 1) left_over) (sym pushed)
     (subst (λ (r : ℤ). IsState tools wants before want supply (pieces ++ x ∷ []) (from + 1) r) (sym less)
-    (record { part = state.part; next = state.next; left = state.left; at = at_next want.length supply pieces from rest x state.at within here small }))
+    (record { asked = state.asked; part = state.part; next = state.next; left = state.left; at = at_next want.length supply pieces from rest x state.at within here small }))
 
 pub shorter_state : (tools : ToolsData) (wants : List Want) (before : List (List ℤ)) (want : Want) (supply pieces : List ℤ) (from after : ℕ) (rest x : ℤ)
     → IsState tools wants before want supply pieces from rest → from < length supply → get_or supply from x ≡ x → after ≤ length supply
     → drop after supply ≡ shorter x (drop (from + 1) supply) → IsState tools wants before want supply pieces after rest
 shorter_state tools wants before want supply pieces from after rest x state within here inside skips = record {
+  asked = state.asked;
   part = state.part;
   next = state.next;
   left = state.left;

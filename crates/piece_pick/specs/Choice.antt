@@ -7,7 +7,8 @@ use Rattle.arrayvec.specs.ArrayVec.{ArrayVec}
 use Rattle.tool_library.specs.Tools.{ToolsData}
 use Rattle.piece_pick.specs.declared.want.Want.{Want}
 use Rattle.piece_pick.specs.declared.stock.Tool.{Tool}
-use Rattle.piece_pick.specs.Stock.{sections_of, held, taken}
+use Rattle.tool_library.specs.Stock.{held}
+use Rattle.piece_pick.specs.Stock.{sections_of, taken}
 
 -- the greatest number of a want's pieces
 abbrev pub most_pieces : ℕ

@@ -1,3 +1,4 @@
 pub mod Stock
 pub mod Choice
 pub mod Search
+pub mod Grid

@@ -7,7 +7,8 @@ use Rattle.piece_pick.specs.declared.want.Want.{Want}
 use Rattle.piece_pick.specs.declared.stock.Tool.{Tool}
 use Rattle.piece_pick.specs.declared.stock.Tool.TheVariants.{Punch, Die}
 use Rattle.piece_pick.specs.declared.dead_states.DeadState.{DeadState}
-use Rattle.piece_pick.specs.Stock.{sections_of, held, taken, count_of}
+use Rattle.tool_library.specs.Stock.{held, count_of}
+use Rattle.piece_pick.specs.Stock.{sections_of, taken}
 use Rattle.piece_pick.specs.Choice.{most_pieces, total, IsWant, MakesUp, IsChoice, ComesFirst}
 
 -- how many pieces of a length the lists of the first wants leave of a tool
@@ -123,6 +124,7 @@ pub record IsAsked (tools : ToolsData) (wants : List Want) : Type 0 where
 -- where it stands: the first wants have their pieces, the next one some of its own
 pub record IsState (tools : ToolsData) (wants : List Want) (before : List (List ℤ)) (want : Want)
     (supply pieces : List ℤ) (from : ℕ) (rest : ℤ) : Type 0 where
+  pub asked : IsAsked tools wants
   pub part : IsPart tools wants before
   pub next : IsNext wants before want
   pub left : IsLeftFor tools wants before want supply

@@ -1,11 +1,14 @@
 //! The first choice of pieces.
-ghost use Rattle.std.specs.Prelude.{◌≡◌, ◌≤◌, ◌<◌, ◌+◌, ℤ, pos, ◌<ℤ◌, ◌++◌, ◌∷◌, [], length, drop, slice_index_or, option_map, All, IsFalse};
+ghost use Rattle.std.specs.Prelude.{◌≡◌, ◌≤◌, ◌<◌, ◌+◌, ℤ, pos, ◌<ℤ◌, ◌≤ℤ◌, ◌++◌, ◌∷◌, [], length, drop, slice_index_or, option_map, None, All, IsFalse};
 ghost use Rattle.tool_library.specs.Tools.{tools_data, IsTools};
 ghost use Rattle.piece_pick.specs.Choice.{lists_of, IsWant, IsPick};
-ghost use Rattle.piece_pick.specs.Search.{shorter, IsPart, IsAsked, IsState, Begins, GoesOn, HasNone, Finds};
+ghost use Rattle.piece_pick.specs.Search.{shorter, IsSupply, HasNoFill, IsPart, IsAsked, IsState, Begins, GoesOn, HasNone, Finds};
 
+use crate::divisor::may_divide;
+use crate::grid::has_pieces_off;
 use crate::piece_search::PieceSearch;
-use crate::supply::supply_for;
+use crate::stock_length::is_stock_enough;
+use crate::supply::{Supply, supply_for};
 use crate::want::{MOST_PIECES, Picked, Pieces, Want};
 use tool_library::Tools;
 
@@ -16,6 +19,19 @@ fn copy_of(pieces: &Pieces) -> Pieces
     let mut copy = Pieces::new();
     let _ = copy.try_extend_from_slice(pieces.as_slice());
     copy
+}
+
+/// Whether pieces of the supply may make up the want's length. Where it is false, none do.
+fn may_be_served(want: &Want, supply: Supply) -> bool
+    requires supply { IsSupply supply.items }
+    requires long { pos 0 ≤ℤ want.now.length }
+    ensures { IsFalse result → HasNoFill supply.items want.now.length 32 }
+{
+    if !may_divide(supply.as_slice(), &want.length) {
+        return false;
+    }
+    let mut search = PieceSearch::new(want, supply);
+    search.may_make_up(0, &want.length, MOST_PIECES)
 }
 
 /// Whether each of the wants without pieces can be served by itself from what is left. Where one
@@ -29,8 +45,10 @@ fn is_each_served(tools: &Tools, wants: &[Want], picked: &[Pieces]) -> bool
     for i in picked.len()..wants.len() {
         let want = &wants[i];
         let supply = supply_for(tools, wants, picked, want);
-        let mut search = PieceSearch::new(want, supply);
-        if !search.may_make_up(0, &want.length, MOST_PIECES) {
+        if !has_pieces_off(&wants[i..], want, supply.as_slice()) {
+            return false;
+        }
+        if !may_be_served(want, supply) {
             return false;
         }
     }
@@ -71,7 +89,6 @@ fn make_up(
     from: usize,
     rest: &i64,
 ) -> bool
-    requires asked { IsAsked (tools_data tools.now) wants.now }
     requires state { IsState (tools_data tools.now) wants.now (lists_of picked.old.items)
         search.old.want search.old.supply.items search.old.pieces.items from rest.now }
     ensures found { Finds (tools_data tools.now) wants.now
@@ -105,7 +122,6 @@ fn take_next(
     from: usize,
     rest: &i64,
 ) -> bool
-    requires asked { IsAsked (tools_data tools.now) wants.now }
     requires state { IsState (tools_data tools.now) wants.now (lists_of picked.old.items)
         search.old.want search.old.supply.items search.old.pieces.items from rest.now }
     requires from { from < length search.old.supply.items }
@@ -142,7 +158,6 @@ fn leave_length(
     from: usize,
     rest: &i64,
 ) -> bool
-    requires asked { IsAsked (tools_data tools.now) wants.now }
     requires state { IsState (tools_data tools.now) wants.now (lists_of picked.old.items)
         search.old.want search.old.supply.items search.old.pieces.items from rest.now }
     requires from { from < length search.old.supply.items }
@@ -178,6 +193,40 @@ fn finish(tools: &Tools, wants: &[Want], picked: &mut Picked, search: &PieceSear
     false
 }
 
+/// Whether there is a choice for the wants.
+fn has_choice(tools: &Tools, wants: &[Want]) -> bool
+    requires asked { IsAsked (tools_data tools.now) wants.now }
+    ensures { IsFalse result → IsPick (tools_data tools.now) wants.now None }
+{
+    let mut picked = Picked::new();
+    pick_rest(tools, wants, &mut picked)
+}
+
+/// Whether there is a choice for the wants from a place on. Where there is none, there is none for
+/// all.
+fn has_end(tools: &Tools, wants: &[Want], from: usize) -> bool
+    requires asked { IsAsked (tools_data tools.now) wants.now }
+    requires from { from ≤ length wants.now }
+    ensures { IsFalse result → IsPick (tools_data tools.now) wants.now None }
+{
+    has_choice(tools, &wants[from..])
+}
+
+/// Whether there is a choice for the last want, for the last two, and so on up to all but the
+/// first.
+fn has_each_end(tools: &Tools, wants: &[Want]) -> bool
+    requires asked { IsAsked (tools_data tools.now) wants.now }
+    ensures { IsFalse result → IsPick (tools_data tools.now) wants.now None }
+{
+    for count in 1..wants.len() {
+        let from = wants.len() - count;
+        if !has_end(tools, wants, from) {
+            return false;
+        }
+    }
+    true
+}
+
 /// The first choice of pieces for the wants, in the order of choices; None exactly where there is
 /// none. It takes no memory.
 pub fn pick(tools: &Tools, wants: &[Want]) -> Option<Picked>
@@ -187,6 +236,12 @@ pub fn pick(tools: &Tools, wants: &[Want]) -> Option<Picked>
     ensures { IsPick (tools_data tools.now) wants.now
         (option_map (λ picked. lists_of picked.items) result) }
 {
+    if !is_stock_enough(tools, wants) {
+        return None;
+    }
+    if !has_each_end(tools, wants) {
+        return None;
+    }
     let mut picked = Picked::new();
     if pick_rest(tools, wants, &mut picked) {
         Some(picked)

@@ -127,3 +127,49 @@ fn a_big_want_of_short_pieces_is_refused_at_once(rt: HostRuntime) -> Result<(), 
     assert!(rt; picked_of(rt.alloc(), sections, sections, &wants)?.is_none());
     Ok(())
 }
+
+#[test]
+fn wants_that_are_longer_than_the_stock_are_refused_at_once(rt: HostRuntime) -> Result<(), Fail> {
+    let sections = "[[835000, 4], [550000, 4], [500000, 4], [300000, 4], [100000, 8], [20000, 9]]";
+    let wants = [
+        want(2_500_000),
+        want(2_500_000),
+        want(2_500_000),
+        want(2_500_000),
+    ];
+    assert!(rt; picked_of(rt.alloc(), sections, sections, &wants)?.is_none());
+    Ok(())
+}
+
+#[test]
+fn a_length_off_the_grid_of_its_pieces_is_refused_at_once(rt: HostRuntime) -> Result<(), Fail> {
+    let sections = "[[835000, 32], [550000, 32], [300000, 32], [100000, 32], [15000, 32]]";
+    let wants = [want(12_003_000)];
+    assert!(rt; picked_of(rt.alloc(), sections, sections, &wants)?.is_none());
+    Ok(())
+}
+
+#[test]
+fn the_last_wants_are_tried_alone(rt: HostRuntime) -> Result<(), Fail> {
+    let sections = "[[500000, 4], [300000, 4], [200000, 8], [100000, 8], [10000, 3], [15000, 1]]";
+    let wants = [
+        want(1_000_000),
+        want(2_000_000),
+        want(1_115_000),
+        want(1_115_000),
+    ];
+    assert!(rt; picked_of(rt.alloc(), sections, sections, &wants)?.is_none());
+    Ok(())
+}
+
+#[test]
+fn wants_off_a_grid_share_the_pieces_off_it(rt: HostRuntime) -> Result<(), Fail> {
+    let long = "[835000, 2], [800000, 2], [550000, 2], [500000, 2], [415000, 2], [300000, 2]";
+    let middle = "[200000, 2], [150000, 2], [100000, 2], [80000, 2], [50000, 2]";
+    let short = "[40000, 2], [30000, 2], [20000, 2], [15000, 2], [10000, 2]";
+    let sections = format!(in rt.alloc(); "[{long}, {middle}, {short}]")?;
+    let picked = picked_of(rt.alloc(), &sections, &sections, &[want(1_265_000); 6])?;
+    let picked = picked.expect(&rt, "a choice");
+    assert!(rt; has_pieces(&picked, 0, &[835_000, 300_000, 100_000, 30_000]));
+    Ok(())
+}

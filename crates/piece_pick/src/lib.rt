@@ -6,8 +6,11 @@ mod choice;
 #[cfg(test)]
 mod choice_tests;
 mod dead_states;
+mod divisor;
+mod grid;
 mod piece_search;
 mod stock;
+mod stock_length;
 mod supply;
 mod want;
 

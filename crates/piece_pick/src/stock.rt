@@ -2,11 +2,13 @@
 ghost use Rattle.std.specs.Prelude.{◌≡◌, ◌≤◌, ◌-◌, length, map};
 ghost use Rattle.std.specs.List.{slice_get};
 ghost use Rattle.tool_library.specs.Tools.{tools_data, punch_data, die_data};
-ghost use Rattle.piece_pick.specs.Stock.{punch_sections, die_sections, sections_of, section_count, held, count_of, is_of, taken_by, taken};
+ghost use Rattle.tool_library.specs.Stock.{punch_sections, die_sections};
+ghost use Rattle.piece_pick.specs.Stock.{sections_of, is_of, taken_by, taken};
 ghost use Rattle.piece_pick.specs.Choice.{lists_of};
 ghost use Rattle.piece_pick.specs.Search.{left, left_for};
 
 use crate::want::{MOST_PIECES, Pieces, Want};
+use tool_library::stock::{count_of, held};
 use tool_library::{Die, Punch, Tools};
 
 /// A punch or a die, by its place among the tools.
@@ -49,40 +51,8 @@ pub fn sections_of(tools: &Tools, tool: Tool) -> &[(i64, u16)]
     }
 }
 
-/// How many pieces of this length the section stands for.
-fn section_count(section: &(i64, u16), piece: &i64) -> usize
-    ensures value { result ≡ section_count piece.now section.now }
-    ensures few { result ≤ 65535 }
-{
-    if section.0 == *piece {
-        usize::from(section.1)
-    } else {
-        0
-    }
-}
-
-/// How many pieces of this length the sections hold.
-fn held(sections: &[(i64, u16)], piece: &i64) -> usize
-    requires { length sections.now ≤ 16 }
-    ensures { result ≡ held sections.now piece.now }
-{
-    let mut held = 0;
-    for section in sections {
-        held += section_count(section, piece);
-    }
-    held
-}
-
-/// How many of the pieces have this length.
-fn count_of(pieces: &[i64], piece: &i64) -> usize
-    ensures value { result ≡ count_of piece.now pieces.now }
-    ensures few { result ≤ length pieces.now }
-{
-    pieces.iter().filter(|other| **other == *piece).count()
-}
-
 /// Whether the want is one of the tool's.
-fn is_of(tool: Tool, want: &Want) -> bool
+pub fn is_of(tool: Tool, want: &Want) -> bool
     ensures { result ≡ is_of tool want.now }
 {
     match tool {

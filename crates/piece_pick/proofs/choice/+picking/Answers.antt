@@ -1,13 +1,13 @@
-use Rattle.std.proofs.Common.{◌≡◌, ◌≤◌, ◌<◌, ◌+◌, ◌∙◌, ℤ, pos, ◌≤ℤ◌, ◌<ℤ◌, true, false, ◌++◌, ◌∷◌, [], List, length, get_or, drop, refl, sym, ap, subst, IsFalse, ◌-ℤ◌, FitsSigned, w64, to_z, of_z, rules, arith}
-use Rattle.std.proofs.lemmas.Int.{ints, to_z-of_z}
-use Rattle.std.proofs.lemmas.List.{length-map, get_or_default}
+use Rattle.std.proofs.Common.{◌≡◌, ◌≤◌, ◌<◌, ◌+◌, ◌∙◌, ℤ, pos, ◌≤ℤ◌, ◌<ℤ◌, true, false, ◌++◌, ◌∷◌, [], List, length, get_or, drop, refl, sym, ap, subst, ◌-ℤ◌, FitsSigned, w64, to_z, of_z, rules, arith}
+use Rattle.std.proofs.lemmas.Int.{to_z-of_z}
+use Rattle.std.proofs.lemmas.List.{get_or_default}
 use Rattle.arrayvec.specs.ArrayVec.{ArrayVec}
 use Rattle.tool_library.specs.Tools.{tools_data}
 use Rattle.piece_pick.specs.Search.{IsLeftFor, GoesOn, IsFirst}
 use Rattle.piece_pick.specs.Choice.{lists_of}
 use Rattle.piece_pick.proofs.Begun.{next_want}
 use Rattle.piece_pick.proofs.Firsts.{first_full}
-use Rattle.piece_pick.proofs.Steps.{at_start, at_next, at_shorter, done_part, done_finds, dead_finds, taken_finds, left_finds, too_long, start_finds, next_within, taken_kind, left_kind, start_state, next_state, shorter_state, moved_state, moved_start, same_size, size_of}
+use Rattle.piece_pick.proofs.Steps.{done_part, done_finds, dead_finds, taken_finds, left_finds, too_long, start_finds, next_within, taken_kind, left_kind, start_state, next_state, shorter_state, moved_state, moved_start, same_size, size_of}
 use Rattle.piece_pick.specs.declared.want.Want.{Want}
 use Rattle.piece_pick.proofs.choice.+picking.Goals as goal
 
@@ -24,10 +24,10 @@ make_up-finish-requires t c =
     let few : length own.pieces.items ≤ 32 = omega (arith, c.room-room.ensures) in (
       omega (arith, c.decreases),
       (
-        c.requires.asked,
+        state.asked,
         (
           omega (arith, within, size),
-          done_part tools wants before own.want own.supply.items own.pieces.items c.args.from c.args.rest.now c.requires.asked.wants_are state.part state.next
+          done_part tools wants before own.want own.supply.items own.pieces.items c.args.from c.args.rest.now state.asked.wants_are state.part state.next
               own.supply_is state.left state.at none few,
         ),
       ),
@@ -107,12 +107,9 @@ make_up-leave_length-requires t c =
     let long : length after.supply.items ≡ length own.supply.items = ap length same_supply in (
       omega (arith, c.decreases, size, long),
       (
-        c.requires.asked,
-        (
-          moved_state tools wants before first own.want after.want own.supply.items after.supply.items own.pieces.items after.pieces.items c.args.from c.args.rest.now
-              none.1 same_want same_supply same_pieces c.requires.state,
-          omega (arith, long, within),
-        ),
+        moved_state tools wants before first own.want after.want own.supply.items after.supply.items own.pieces.items after.pieces.items c.args.from c.args.rest.now
+            none.1 same_want same_supply same_pieces c.requires.state,
+        omega (arith, long, within),
       ),
     )
 
@@ -139,11 +136,8 @@ pick_rest-make_up-requires t c =
     let next = next_want wants before want no_want within (ap (λ n. get_or wants n no_want) place) in
     let long : length made.supply.items ≡ length c.supply_for-supply.result.items = ap length c.new-search.ensures.supply in (
       omega (arith, c.decreases, long, within, size, c.supply_for-supply.ensures.few),
-      (
-        c.requires.asked,
-        start_state tools wants before made.want want made.supply.items c.supply_for-supply.result.items made.pieces.items want.length
-            c.requires.asked c.requires.part next left c.new-search.ensures.want c.new-search.ensures.supply c.new-search.ensures.pieces refl,
-      ),
+      start_state tools wants before made.want want made.supply.items c.supply_for-supply.result.items made.pieces.items want.length
+          c.requires.asked c.requires.part next left c.new-search.ensures.want c.new-search.ensures.supply c.new-search.ensures.pieces refl,
     )
 
 pub pick_rest-returns : goal.pick_rest-returns
@@ -195,11 +189,8 @@ take_next-make_up-requires t c =
     let pushed : c.push.new.self.items ≡ own.pieces.items ++ x ∷ [] = simp to_z-of_z at c.push.ensures.items in
     let over : to_z w64 (of_z w64 (to_z w64 (of_z w64 c.args.rest.now) -ℤ to_z w64 (of_z w64 x))) ≡ (c.args.rest.now -ℤ x) = simp to_z-of_z in (
       omega (arith, c.decreases, c.requires.from),
-      (
-        c.requires.asked,
-        next_state (tools_data c.args.tools.now) c.args.wants.now (lists_of c.args.picked.now.items) own.want supply own.pieces.items c.push.new.self.items c.args.from c.args.rest.now x
-            (to_z w64 (of_z w64 (to_z w64 (of_z w64 c.args.rest.now) -ℤ to_z w64 (of_z w64 x)))) c.requires.state c.requires.from here small pushed over,
-      ),
+      next_state (tools_data c.args.tools.now) c.args.wants.now (lists_of c.args.picked.now.items) own.want supply own.pieces.items c.push.new.self.items c.args.from c.args.rest.now x
+          (to_z w64 (of_z w64 (to_z w64 (of_z w64 c.args.rest.now) -ℤ to_z w64 (of_z w64 x)))) c.requires.state c.requires.from here small pushed over,
     )
 
 pub take_next-returns-then-make_up-clause-found : goal.take_next-returns-then-make_up-clause-found
@@ -226,9 +217,6 @@ leave_length-make_up-requires t c =
     let x = get_or own.supply.items c.args.from (pos 0) in
     let here : get_or own.supply.items c.args.from x ≡ x = get_or_default own.supply.items c.args.from x (pos 0) c.requires.from in (
       omega (arith, c.decreases, c.after-next.ensures.after, c.after-next.ensures.within),
-      (
-        c.requires.asked,
-        shorter_state (tools_data c.args.tools.now) c.args.wants.now (lists_of c.args.picked.now.items) own.want own.supply.items own.pieces.items c.args.from c.after-next.result c.args.rest.now x
-            c.requires.state c.requires.from here c.after-next.ensures.within (c.after-next.ensures.value x here),
-      ),
+      shorter_state (tools_data c.args.tools.now) c.args.wants.now (lists_of c.args.picked.now.items) own.want own.supply.items own.pieces.items c.args.from c.after-next.result c.args.rest.now x
+          c.requires.state c.requires.from here c.after-next.ensures.within (c.after-next.ensures.value x here),
     )

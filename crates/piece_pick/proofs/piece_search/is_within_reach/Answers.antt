@@ -1,4 +1,4 @@
-use Rattle.std.proofs.Common.{◌≡◌, ◌+◌, ◌≤◌, ◌<◌, ℤ, pos, ◌-ℤ◌, ◌<ℤ◌, length, get_or, take, sym, FitsSigned, w64, to_z, of_z, rules, arith}
+use Rattle.std.proofs.Common.{◌+◌, pos, ◌-ℤ◌, get_or, take, FitsSigned, w64, to_z, rules, arith}
 use Rattle.std.proofs.lemmas.Int.{ints, to_z-of_z}
 use Rattle.piece_pick.specs.Choice.{total}
 use Rattle.piece_pick.proofs.Drawn.{total_more, sum_moves}

@@ -1,7 +1,7 @@
-use Rattle.std.proofs.Common.{◌≡◌, ◌∙◌, ◌≤◌, ◌<◌, length, sym, get_or, add-one, pos, arith}
+use Rattle.std.proofs.Common.{◌<◌, length, sym, get_or, add-one, pos, arith}
 use Rattle.std.proofs.lemmas.List.{get_or_default}
 use Rattle.piece_pick.specs.declared.want.Want.{Want}
-use Rattle.piece_pick.proofs.Begun.{taken_nothing, taken_more, taken_all}
+use Rattle.piece_pick.proofs.Begun.{taken_nothing, taken_more}
 use Rattle.piece_pick.proofs.stock.taken.Goals as goal
 
 pub loop-i-init : goal.loop-i-init

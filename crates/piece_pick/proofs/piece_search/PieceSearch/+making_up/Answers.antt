@@ -1,5 +1,4 @@
-use Rattle.std.proofs.Common.{◌≡◌, ◌⊎◌, ℤ, pos, length, get_or, drop, inl, inr, refl, IsFalse, FitsSigned, w64, rules, arith}
-use Rattle.std.proofs.lemmas.Int.{to_z-of_z}
+use Rattle.std.proofs.Common.{◌≡◌, pos, get_or, refl}
 use Rattle.std.proofs.lemmas.List.{get_or_default}
 use Rattle.piece_pick.proofs.Drawn.{none_within, none_in_slice, none_after}
 use Rattle.piece_pick.proofs.piece_search.PieceSearch.+making_up.Goals as goal

@@ -1,6 +1,0 @@
-use Rattle.std.proofs.Common.{◌≡◌, ◌≤◌, ◌*◌, take}
-use Rattle.piece_pick.specs.Stock.{held}
-use Rattle.piece_pick.proofs.stock.held.Given as goal
-
-abbrev pub invariant-loop-section : goal.invariant-loop-section
-invariant-loop-section l = (l.held ≡ held (take l.section-index l.sections) l.piece) × (l.held ≤ 65535 * l.section-index)
