@@ -33,6 +33,7 @@ use Rattle.plan_cert.specs.Cert.{CertData}
 use Rattle.plan_cert.specs.Lines.{action_at}
 use Rattle.plan_cert.specs.WellFormed.{IsWorth, IsStep, HasSteps, IsRow, IsNote, NoteIsBefore, AreRows}
 use Rattle.plan_cert.specs.GoodCert.{IsThriftyCert, IsWithinBudget, HasRow as HasCertRow, HasNote as HasCertNote}
+use Rattle.plan_cert.proofs.ReasonRanges.{reason_ranged}
 use Rattle.bb_search.specs.Table.{HasRow, HasNote}
 use Rattle.bb_search.specs.Outcomes.{HaveFirstGauges, outcome_of, AreGoodRows, IsAnswer}
 use Rattle.bb_search.specs.Searches.{SearchData}
@@ -40,7 +41,7 @@ use Rattle.bb_search.specs.Certificates.{HasAnswer, HasRowsOf, IsCertificateOf}
 use Rattle.bb_search.specs.CertRows.{row_order, row_of_order, IsRowOrder, AreSortedRows, AreHeads, note_order, AreNotes}
 use Rattle.bb_search.proofs.OutcomeLemmas.{apart, some_worth, reach_of_rows}
 use Rattle.bb_search.proofs.RowOrders.{key_before, order_of_row}
-use Rattle.bb_search.proofs.Ranges.{reason_ranged, steps_ranged, steps_most}
+use Rattle.bb_search.proofs.Ranges.{steps_ranged, steps_most}
 use Rattle.bb_search.proofs.CertLemmas.{condition_carried, thrifty_carried, map_pairs, row_of_head, row_there, row_back, note_there, note_back, note_at}
 
 -- ---- the claim and the steps

@@ -52,3 +52,5 @@ pub mod Conditions
 pub mod NoteCounts
 pub mod LineSizes
 pub mod TextSizes
+pub mod ReasonRanges
+pub mod NumberedActions

@@ -5,7 +5,8 @@ use Rattle.plan_cert.specs.Lines.{action_at}
 use Rattle.cert_check.specs.declared.set_actions.NextKey.{NextKey}
 use Rattle.cert_check.specs.SetActions.{IsNext, IsNextOf}
 use Rattle.cert_check.specs.Rows.{noted_of}
-use Rattle.cert_check.proofs.ActionLemmas.{number_answer, tried_at}
+use Rattle.plan_cert.proofs.NumberedActions.{tried_at}
+use Rattle.cert_check.proofs.ActionLemmas.{number_answer}
 use Rattle.cert_check.proofs.rows.check_number.Goals as goal
 
 pub check_action-requires-clause-next : goal.check_action-requires-clause-next

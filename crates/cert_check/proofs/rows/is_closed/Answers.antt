@@ -8,7 +8,8 @@ use Rattle.handling_cost.proofs.Small.{bound_small}
 use Rattle.plan_cert.specs.Lines.{action_at}
 use Rattle.cert_check.specs.Rows.{ProvesAfter}
 use Rattle.cert_check.proofs.RowLemmas.{row_key}
-use Rattle.cert_check.proofs.ActionLemmas.{next_key_is, tried_at}
+use Rattle.plan_cert.proofs.NumberedActions.{tried_at}
+use Rattle.cert_check.proofs.ActionLemmas.{next_key_is}
 use Rattle.cert_check.proofs.rows.is_closed.Goals as goal
 
 pub cost_to-cost-requires-clause-to : goal.cost_to-cost-requires-clause-to
