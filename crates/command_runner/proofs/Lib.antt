@@ -5,3 +5,4 @@ pub mod Fetches
 pub mod Forms
 pub mod Told
 pub mod Outcomes
+pub mod Rests

@@ -1,12 +1,12 @@
 -- What a run comes to, from how it ends.
-use Rattle.std.proofs.Common.{◌≡◌, ℕ, List, Option, Result, refl, ◌∙◌, subst}
+use Rattle.std.proofs.Common.{◌≡◌, ◌⊎◌, inl, inr, ℕ, List, length, Option, Result, refl, ◌∙◌, subst}
 use Rattle.brake_io.specs.Meanings.{Content, ShelfState, WhereBothTold, WhereTold}
 use Rattle.command_runner.specs.declared.word_kind.WordKind.{WordKind}
 use Rattle.command_runner.specs.declared.status.Status.{Status}
 use Rattle.command_runner.specs.Answers.{AnswerData, long_refused}
-use Rattle.command_runner.specs.Fetching.{files_of, IsFetched, all_fetched, one_too_long}
-use Rattle.command_runner.specs.Delivery.{Outside, HoldsAll, delivered, stored_in_part, put_in_part}
-use Rattle.command_runner.specs.Ends.{Meaning, IsAnswerAfter, Ends, answers, stops, Leaves, IsOutcome, cut_short, answered, refused_long}
+use Rattle.command_runner.specs.Fetching.{files_of, OnlyFetches, IsFetched, all_fetched, one_too_long}
+use Rattle.command_runner.specs.Delivery.{IsCutShort, Outside, HoldsAll, Delivers, delivered, stored_in_part, put_in_part}
+use Rattle.command_runner.specs.Ends.{Meaning, Beginning, no_beginning, IsAnswer, IsAnswerAfter, Ends, answers, stops, begun, Leaves, IsOutcome, cut_short, answered, refused_long}
 
 -- what was stored after the files were fetched
 stored_since : (before between now : ShelfState) (P : Content → Content → Type 0) → between.content ≡ before.content → WhereTold between now P → WhereTold before now P
@@ -33,10 +33,20 @@ module _ (form : List WordKind) (meaning : Meaning) (words : List (List ℕ)) (b
       })
 
 -- what a run comes to
-pub outcome_of : (form : List WordKind) (meaning : Meaning) (words : List (List ℕ)) (before now : Outside) (status : Status) → Ends form meaning words before now status → IsOutcome form meaning words before now status
-outcome_of form meaning words before now status (stops short fetches same) = cut_short short
-outcome_of form meaning words before now status (answers answer between fetches is (stored_in_part short stored puts)) = cut_short short
-outcome_of form meaning words before now status (answers answer between fetches is (put_in_part short stored puts)) = cut_short short
-outcome_of form meaning words before now status (answers answer between fetches is (delivered ended stored puts faults sink_faults)) =
+pub outcome_of : (form : List WordKind) (meaning : Meaning) (begins : Beginning) (words : List (List ℕ)) (before now : Outside) (status : Status) → Ends form meaning begins words before now status → IsOutcome form meaning words before now status
+outcome_of form meaning begins words before now status (stops short fetches same) = cut_short short
+outcome_of form meaning begins words before now status (begun short stored same) = cut_short short
+outcome_of form meaning begins words before now status (answers answer between fetches is (stored_in_part short stored puts)) = cut_short short
+outcome_of form meaning begins words before now status (answers answer between fetches is (put_in_part short stored puts)) = cut_short short
+outcome_of form meaning begins words before now status (answers answer between fetches is (delivered ended stored puts faults sink_faults)) =
     by_fetched form meaning words before now between status answer is.fetched is.is_fetched is.is_answer stored.longs
     (record { ends = ended; stores = stored_since before.shelf between now.shelf (HoldsAll answer.stored) fetches.content stored.holds; puts = puts })
+
+-- how a run ends whose command stores nothing before it has its answer: it stores and puts an answer, or it only fetches
+pub ends_whole : (form : List WordKind) (meaning : Meaning) (words : List (List ℕ)) (before now : Outside) (status : Status) → Ends form meaning no_beginning words before now status
+    → ((answer : AnswerData) × ((between : ShelfState) × OnlyFetches (length (files_of form words)) before.shelf between
+    × IsAnswer form meaning words before.shelf between answer × Delivers answer (record { shelf = between; sink = before.sink }) now status))
+    ⊎ (IsCutShort status × OnlyFetches (length (files_of form words)) before.shelf now.shelf × (now.sink ≡ before.sink))
+ends_whole form meaning words before now status (answers answer between fetches is delivers) = inl (answer, (between, fetches, is, delivers))
+ends_whole form meaning words before now status (stops short fetches same) = inr (short, fetches, same)
+ends_whole form meaning words before now status (begun short stored same) = absurd stored.stores.is_beginning

@@ -30,7 +30,7 @@ stored_one one (Some was) (Some is) only here =
     let held : is.held ≡ with_bytes one.name one.text was.held = fun_ext (given_at one.name one.text was.held is.held here only.others) in
     ap (λ (h : Names). record is { held = h }) held ∙ ap (λ (d : List ℕ). record { held = with_bytes one.name one.text was.held; due = d }) only.due
 
-stored_both : (xs ys : List StoredData) (a b c : Option Content) → WhereBothTold a b (HoldsAll xs) → WhereBothTold b c (HoldsAll ys) → WhereBothTold a c (HoldsAll (xs ++ ys))
+pub stored_both : (xs ys : List StoredData) (a b c : Option Content) → WhereBothTold a b (HoldsAll xs) → WhereBothTold b c (HoldsAll ys) → WhereBothTold a c (HoldsAll (xs ++ ys))
 stored_both xs ys None None None first then = tt
 stored_both xs ys None None (Some c) first then = absurd then
 stored_both xs ys None (Some b) c first then = absurd first

@@ -38,6 +38,10 @@ concatenation texts = flat_map (λ (text : List ℕ). text) texts
 abbrev pub one_text : Status → List ℕ → AnswerData
 one_text status text = record { stored = []; status = status; texts = text ∷ [] }
 
+-- the answer that stores these texts first
+abbrev pub after_storing : List StoredData → AnswerData → AnswerData
+after_storing first answer = record answer { stored = first ++ answer.stored }
+
 -- a number behind a space
 unfoldable pub field : ℕ → List ℕ
 field n = codes " " ++ signed_decimal (pos n)

@@ -12,7 +12,7 @@ use crate::status::Status;
 use brake_io::{PutFault, Shelf, Sink, StoreFault};
 
 /// Stores the texts in order, up to the first that can't be stored.
-fn store_all<H: Shelf>(stored: &[StoredText], shelf: &mut H) -> Result<(), StoreFault>
+pub fn store_all<H: Shelf>(stored: &[StoredText], shelf: &mut H) -> Result<(), StoreFault>
     ensures ok { OnOk result
         (AreStored (map stored_data stored.now) (H.state shelf.old) (H.state shelf.new)) }
     ensures err { OnErr result

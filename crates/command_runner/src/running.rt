@@ -1,21 +1,21 @@
 //! The run of a command.
-ghost use Rattle.std.specs.Prelude.{◌≡◌, ◌⊎◌, ◌≤◌, List, length, map, string_bytes, IsTrue, IfOk, IfErr, IsErrOf};
+ghost use Rattle.std.specs.Prelude.{◌≡◌, ◌⊎◌, ◌≤◌, List, length, map, string_bytes, IsTrue, IfOk, IfErr, OnErr, IsErrOf};
 ghost use Rattle.std.specs.Vec.{vec_items};
 ghost use Rattle.brake_io.specs.Rose.{Rose};
 ghost use Rattle.brake_io.specs.Meanings.{NoCountFalls};
 ghost use Rattle.command_runner.specs.declared.word_kind.WordKind.{WordKind};
 ghost use Rattle.command_runner.specs.Kinds.{is_form};
 ghost use Rattle.command_runner.specs.Answers.{answer_data, long_refused};
-ghost use Rattle.command_runner.specs.Fetching.{file_words, files_of, names_of, OnlyFetches, HasCause};
+ghost use Rattle.command_runner.specs.Fetching.{file_words, files_of, names_of, OnlyFetches, HasCause, HasDueCall};
 ghost use Rattle.command_runner.specs.Delivery.{IsCutShort, Outside};
-ghost use Rattle.command_runner.specs.Ends.{Meaning, IsAnswer, Ends, IsOutcome, CountsFault, MayFault};
+ghost use Rattle.command_runner.specs.Ends.{Meaning, Beginning, StoresFirst, StoresBeginning, IsBegun, HasRest, Ends, IsOutcome, CountsFault, MayFault};
 
 use crate::answer::{Answer, refusal};
 use crate::delivery::deliver;
 use crate::fetching::{FetchStop, fetch_all, file_words};
 use crate::status::Status;
 use crate::word_kind::WordKind;
-use brake_io::{Shelf, Sink};
+use brake_io::{Shelf, Sink, StoreFault};
 use std::alloc::{AllocError, Global};
 
 /// A command, with the form of its words and what it answers.
@@ -26,23 +26,39 @@ pub trait Command {
     /// What it answers to its words and the contents of its files. It may have several answers.
     ghost meaning: { Self → Meaning };
 
+    /// What it may have stored where it is cut short before it has its answer. Nothing, of a command
+    /// that stores no text before.
+    ghost begins: { Self → Beginning };
+
     /// The kinds of its words, at most 16.
     fn kinds(&self) -> &'static [WordKind]
         ensures kinds { result.now ≡ form self.now }
         ensures few { length result.now ≤ 16 };
 
-    /// An answer to words of its form and the contents of its files, in the order of their words.
-    fn answer(
+    /// An answer to words of its form and the contents of its files, in the order of their words. The
+    /// first texts of the answer may be stored here, each as soon as it is made; what is given back is
+    /// left to store and to put. A command that doesn't use the shelf gives its whole answer back.
+    fn answer<H: Shelf>(
         &self,
         alloc: Global,
         words: &[String],
         contents: &[Vec<u8>],
-    ) -> Result<Answer, AllocError>
+        shelf: &mut H,
+    ) -> Result<Answer, StoreFault>
         requires form { IsTrue (is_form (form self.now) (map string_bytes words.now)) }
         requires count { length contents.now ≡ length (file_words (form self.now)) }
-        ensures answer { IfOk result (λ answer. meaning self.now (map string_bytes words.now)
-            (map vec_items contents.now) (answer_data answer)) }
-        ensures status { IfOk result (λ answer. ¬ IsCutShort answer.status) };
+        ensures answer { IfOk result (λ answer.
+            StoresFirst (meaning self.now (map string_bytes words.now) (map vec_items contents.now))
+            (answer_data answer) (H.state shelf.old) (H.state shelf.new)) }
+        ensures status { IfOk result (λ answer. ¬ IsCutShort answer.status) }
+        ensures begins { OnErr result ((H.state shelf.new ≡ H.state shelf.old)
+            ⊎ StoresBeginning (begins self.now (map string_bytes words.now) (map vec_items contents.now))
+            (H.state shelf.old) (H.state shelf.new)) }
+        ensures never_falls { NoCountFalls (H.state shelf.old) (H.state shelf.new) }
+        ensures failed { IsErrOf result StoreFault.Failed →
+            Rose (H.state shelf.old).faults (H.state shelf.new).faults }
+        ensures cause { IsErrOf result StoreFault.Failed →
+            HasDueCall (H.state shelf.old) (H.state shelf.new) };
 }
 
 /// The answer that the file of this file word is too long.
@@ -58,8 +74,8 @@ fn long_refused(alloc: Global, number: u8) -> Result<Answer, AllocError>
     )
 }
 
-/// Fetches the files of a command and asks it for its answer. A refusal is the status of a run that
-/// is cut short.
+/// Fetches the files of a command and has it answer. What is given back of the answer is left to
+/// store and to put. A refusal is the status of a run that is cut short.
 fn answer_of<C: Command, H: Shelf>(
     alloc: Global,
     command: &C,
@@ -67,14 +83,17 @@ fn answer_of<C: Command, H: Shelf>(
     shelf: &mut H,
 ) -> Result<Answer, Status>
     requires { IsTrue (is_form (C.form command.now) (map string_bytes words.now)) }
-    ensures only { OnlyFetches (length (files_of (C.form command.now) (map string_bytes words.now)))
-        (H.state shelf.old) (H.state shelf.new) }
     ensures never_falls { NoCountFalls (H.state shelf.old) (H.state shelf.new) }
     ensures ok { IfOk result (λ answer.
-        IsAnswer (C.form command.now) (C.meaning command.now) (map string_bytes words.now)
+        HasRest (C.form command.now) (C.meaning command.now) (map string_bytes words.now)
         (H.state shelf.old) (H.state shelf.new) (answer_data answer)) }
     ensures status { IfOk result (λ answer. ¬ IsCutShort answer.status) }
     ensures err { IfErr result IsCutShort }
+    ensures stops { OnErr result
+        (OnlyFetches (length (files_of (C.form command.now) (map string_bytes words.now)))
+        (H.state shelf.old) (H.state shelf.new)
+        ⊎ IsBegun (C.form command.now) (C.begins command.now) (map string_bytes words.now)
+        (H.state shelf.old) (H.state shelf.new)) }
     ensures fault { IsErrOf result Status.Fault →
         Rose (H.state shelf.old).faults (H.state shelf.new).faults }
     ensures cause { IsErrOf result Status.Fault →
@@ -86,9 +105,10 @@ fn answer_of<C: Command, H: Shelf>(
         Err(_) => return Err(Status::NoMemory),
     };
     match fetch_all(alloc, words, files.as_slice(), shelf) {
-        Ok(contents) => match command.answer(alloc, words, contents.as_slice()) {
+        Ok(contents) => match command.answer(alloc, words, contents.as_slice(), shelf) {
             Ok(answer) => Ok(answer),
-            Err(_) => Err(Status::NoMemory),
+            Err(StoreFault::Failed) => Err(Status::Fault),
+            Err(StoreFault::NoMemory) => Err(Status::NoMemory),
         },
         Err(FetchStop::TooLong(number)) => match long_refused(alloc, number) {
             Ok(answer) => Ok(answer),
@@ -109,7 +129,8 @@ pub fn run<C: Command, H: Shelf, K: Sink>(
     out: &mut K,
 ) -> Status
     requires { IsTrue (is_form (C.form command.now) (map string_bytes words.now)) }
-    ensures ends { Ends (C.form command.now) (C.meaning command.now) (map string_bytes words.now)
+    ensures ends { Ends (C.form command.now) (C.meaning command.now) (C.begins command.now)
+        (map string_bytes words.now)
         (record { shelf = H.state shelf.old; sink = K.state out.old })
         (record { shelf = H.state shelf.new; sink = K.state out.new }) result }
     ensures outcome { IsOutcome (C.form command.now) (C.meaning command.now) (map string_bytes words.now)

@@ -7,11 +7,11 @@ ghost use Rattle.std.specs.Vec.{vec_items};
 ghost use Rattle.command_runner.specs.Kinds.{is_form};
 ghost use Rattle.command_runner.specs.Answers.{answer_data};
 ghost use Rattle.command_runner.specs.Delivery.{Outside};
-ghost use Rattle.command_runner.specs.Ends.{Ends};
+ghost use Rattle.command_runner.specs.Ends.{no_beginning, Ends};
 ghost use Rattle.command_runner.specs.declared.status.Status.TheVariants.{Done};
 ghost use Rattle.sample_command.specs.Sample.{sample_form, marked, IsSampleAnswer};
 
-use brake_io::{Shelf, Sink};
+use brake_io::{Shelf, Sink, StoreFault};
 use command_runner::{Answer, Command, Keyword, Status, StoredText, WordKind, run};
 use std::alloc::{AllocError, Global};
 
@@ -51,11 +51,14 @@ fn marked(
 }
 
 impl Command for Sample {
+    ghost use Rattle.command_runner.specs.Ends.{no_beginning};
     ghost use Rattle.sample_command.specs.Sample.{sample_form, IsSampleAnswer};
 
     ghost form = { λ _. sample_form };
 
     ghost meaning = { λ _. IsSampleAnswer };
+
+    ghost begins = { λ _. no_beginning };
 
     fn kinds(&self) -> &'static [WordKind] {
         &[
@@ -65,15 +68,16 @@ impl Command for Sample {
         ]
     }
 
-    fn answer(
+    fn answer<H: Shelf>(
         &self,
         alloc: Global,
         words: &[String],
         contents: &[Vec<u8>],
-    ) -> Result<Answer, AllocError> {
+        _: &mut H,
+    ) -> Result<Answer, StoreFault> {
         match self {
-            Sample::One => marked(alloc, b"one\n", words, contents),
-            Sample::Two => marked(alloc, b"two\n", words, contents),
+            Sample::One => Ok(marked(alloc, b"one\n", words, contents)?),
+            Sample::Two => Ok(marked(alloc, b"two\n", words, contents)?),
         }
     }
 }
@@ -87,7 +91,7 @@ pub fn run_sample<H: Shelf, K: Sink>(
     out: &mut K,
 ) -> Status
     requires { IsTrue (is_form sample_form (map string_bytes words.now)) }
-    ensures { Ends sample_form IsSampleAnswer (map string_bytes words.now)
+    ensures { Ends sample_form IsSampleAnswer no_beginning (map string_bytes words.now)
         (record { shelf = H.state shelf.old; sink = K.state out.old })
         (record { shelf = H.state shelf.new; sink = K.state out.new }) result }
 {

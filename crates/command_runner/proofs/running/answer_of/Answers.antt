@@ -1,24 +1,34 @@
-use Rattle.std.proofs.Common.{◌≡◌, Ok, Err, map, ap, ◌∙◌}
+use Rattle.std.proofs.Common.{◌≡◌, Ok, Err, map, string_bytes, ap, ◌∙◌, refl}
 use Rattle.std.specs.Vec.{vec_items}
+use Rattle.command_runner.specs.Answers.{answer_data}
 use Rattle.command_runner.specs.Fetching.{file_words}
+use Rattle.command_runner.proofs.Rests.{has_rest, stops_short, refused_rest}
 use Rattle.command_runner.proofs.running.answer_of.Goals as goal
 
 pub returns-in-Ok-answer-clause-ok : goal.returns-in-Ok-answer-clause-ok
 returns-in-Ok-answer-clause-ok g c =
     let files : c.as_slice.result.now ≡ file_words (g.C.Command.form c.args.command.now) = c.as_slice.ensures.value ∙ c.in-Ok.ensures ∙ ap file_words c.kinds.ensures.kinds in
-    record {
-      fetched = Ok (map vec_items c.in-Ok-fetch_all.contents.items);
-      is_fetched = rw files at c.in-Ok-fetch_all.ensures.fetched;
-      is_answer = rw c.as_slice-in-Ok-fetch_all.ensures.value at c.in-Ok-answer.ensures.answer;
-      faults = c.in-Ok-fetch_all.ensures.faults (λ fails. cc);
-    }
+    has_rest (g.C.Command.form c.args.command.now) (g.C.Command.meaning c.args.command.now) (map string_bytes c.args.words.now) c.as_slice.result.now (map vec_items c.in-Ok-fetch_all.contents.items)
+    (g.H.Shelf.state c.args.shelf.now) (g.H.Shelf.state c.fetch_all.new.shelf) (g.H.Shelf.state c.answer.new.shelf) (answer_data c.in-Ok-answer.answer)
+    files c.in-Ok-fetch_all.ensures.only c.in-Ok-fetch_all.ensures.fetched (c.in-Ok-fetch_all.ensures.faults (λ fails. cc)) (rw c.as_slice-in-Ok-fetch_all.ensures.value at c.in-Ok-answer.ensures.answer)
 
 pub returns-in-Ok-long_refused-clause-ok : goal.returns-in-Ok-long_refused-clause-ok
 returns-in-Ok-long_refused-clause-ok g c =
     let files : c.as_slice.result.now ≡ file_words (g.C.Command.form c.args.command.now) = c.as_slice.ensures.value ∙ c.in-Ok.ensures ∙ ap file_words c.kinds.ensures.kinds in
-    record {
-      fetched = Err c.in-Err-TooLong.number;
-      is_fetched = rw (files, c.in-Err-TooLong.field-0-is) at c.in-Err-TooLong.ensures.fetched;
-      is_answer = c.in-Ok-long_refused.ensures.answer;
-      faults = c.in-Err-TooLong.ensures.faults (λ fails. cc);
-    }
+    refused_rest (g.C.Command.form c.args.command.now) (g.C.Command.meaning c.args.command.now) (map string_bytes c.args.words.now) c.as_slice.result.now c.in-Err-TooLong.number
+    (g.H.Shelf.state c.args.shelf.now) (g.H.Shelf.state c.fetch_all.new.shelf) (answer_data c.in-Ok-long_refused.answer)
+    files c.in-Err-TooLong.ensures.only (rw c.in-Err-TooLong.field-0-is at c.in-Err-TooLong.ensures.fetched) (c.in-Err-TooLong.ensures.faults (λ fails. cc)) c.in-Ok-long_refused.ensures.answer
+
+pub returns-in-Err-Failed-clause-stops : goal.returns-in-Err-Failed-clause-stops
+returns-in-Err-Failed-clause-stops g c =
+    let files : c.as_slice.result.now ≡ file_words (g.C.Command.form c.args.command.now) = c.as_slice.ensures.value ∙ c.in-Ok.ensures ∙ ap file_words c.kinds.ensures.kinds in
+    stops_short (g.C.Command.form c.args.command.now) (g.C.Command.begins c.args.command.now) (map string_bytes c.args.words.now) c.as_slice.result.now (map vec_items c.in-Ok-fetch_all.contents.items)
+    (g.H.Shelf.state c.args.shelf.now) (g.H.Shelf.state c.fetch_all.new.shelf) (g.H.Shelf.state c.answer.new.shelf)
+    files c.in-Ok-fetch_all.ensures.only c.in-Ok-fetch_all.ensures.fetched (rw c.as_slice-in-Ok-fetch_all.ensures.value at c.in-Err-Failed.ensures.begins)
+
+pub returns-in-Ok-fetch_all-clause-stops : goal.returns-in-Ok-fetch_all-clause-stops
+returns-in-Ok-fetch_all-clause-stops g c =
+    let files : c.as_slice.result.now ≡ file_words (g.C.Command.form c.args.command.now) = c.as_slice.ensures.value ∙ c.in-Ok.ensures ∙ ap file_words c.kinds.ensures.kinds in
+    stops_short (g.C.Command.form c.args.command.now) (g.C.Command.begins c.args.command.now) (map string_bytes c.args.words.now) c.as_slice.result.now (map vec_items c.in-Ok-fetch_all.contents.items)
+    (g.H.Shelf.state c.args.shelf.now) (g.H.Shelf.state c.fetch_all.new.shelf) (g.H.Shelf.state c.answer.new.shelf)
+    files c.in-Ok-fetch_all.ensures.only c.in-Ok-fetch_all.ensures.fetched (rw c.as_slice-in-Ok-fetch_all.ensures.value at c.in-Err-NoMemory-answer.ensures.begins)
