@@ -7,6 +7,8 @@ mod bb_search_tests;
 #[cfg(test)]
 mod cert_check_tests;
 #[cfg(test)]
+mod cert_merge_tests;
+#[cfg(test)]
 mod cert_words_tests;
 #[cfg(test)]
 mod first_stage;
@@ -16,5 +18,7 @@ mod part_gen_tests;
 mod plan_cert_tests;
 #[cfg(test)]
 mod row_pool_tests;
+#[cfg(test)]
+mod settled_tests;
 #[cfg(test)]
 mod setup_sheet_tests;

@@ -1,0 +1,10 @@
+pub mod Entries
+pub mod Table
+pub mod Merged
+pub mod MergeSteps
+pub mod NotedRows
+pub mod TableChecks
+pub mod SetActions
+pub mod TableTexts
+pub mod Settled
+pub mod Settling

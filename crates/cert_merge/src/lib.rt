@@ -1,0 +1,17 @@
+//! Tables of settled states: the rows and notes of several runs on one job, joined in any order.
+#![tactic(auto)]
+
+mod checked;
+mod merged;
+mod noted_row;
+mod set_actions;
+mod settled;
+mod settled_sets;
+mod table;
+mod texts;
+
+pub use checked::{TableFault, check_table, proved_at_start};
+pub use merged::merge;
+pub use settled::settle;
+pub use table::{Table, TableFile};
+pub use texts::{read_table, write_table};

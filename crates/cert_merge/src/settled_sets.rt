@@ -1,0 +1,391 @@
+//! The settling of all keys of a set of folded bends, over what is known of greater masks.
+ghost use Rattle.std.specs.Prelude.{◌≡◌, ◌↔◌, ◌⊎◌, ℕ, Option, IfSome, ◌+◌, ◌-◌, ◌*◌, ◌^◌, ◌<◌, ◌≤◌, IsTrue, Some, None, length, slice_get, slice_index_or, option_map};
+ghost use Rattle.brake_base.specs.declared.stroke.Key.{Key};
+ghost use Rattle.brake_base.specs.declared.reason.Reason.{Reason};
+ghost use Rattle.brake_base.specs.declared.stroke.Worth.TheVariants.{Blocked};
+ghost use Rattle.brake_base.specs.Worths.{IsAtMost};
+ghost use Rattle.fold_boxes.specs.Places.{ArePlaces};
+ghost use Rattle.job_setup.specs.Setup.{bend_count, stage_count, shape_of};
+ghost use Rattle.handling_cost.specs.StepCost.{IsKeyOf};
+ghost use Rattle.handling_cost.specs.Bound.{bound_of};
+ghost use Rattle.plan_cert.specs.Lines.{action_at};
+ghost use Rattle.plan_cert.specs.WellFormed.{AreRowsOf, IsWorth};
+ghost use Rattle.cert_merge.specs.MergeSteps.{row_said};
+ghost use Rattle.cert_merge.specs.Settled.{AreFirstNoted, IsFirstNoted, IsFirstFor, capped};
+ghost use Rattle.cert_merge.specs.Settling.{AreNext, AreReady, AreSettled, IsAmong, IsLeastAfter, IsNextOf, IsReady, IsSettledSet, place_in_set, proved_over, said_by, said_in, with_worth, worth_after};
+
+use crate::checked::{action_at, action_count, after_cost, greater, worth_of};
+use crate::noted_row::NotedRow;
+use brake_base::{Key, Mask, Place, Reason, Turn, Worth};
+use fold_boxes::place;
+use handling_cost::{cost_to, is_lead, next_key};
+use job_setup::Job;
+use plan_cert::RowHead;
+use set_facts::FactTable;
+use stroke_table::StrokeTable;
+
+/// The greatest number that a row may have, in tenths of a second.
+const GREATEST_WORTH: u64 = 1_000_000_000;
+
+/// The rows of all keys of a set.
+#[derive(Clone, Copy, Debug)]
+pub(crate) struct SettledSet {
+    /// The first reason against each action, by its number. None for a legal one, and for the
+    /// number of one that can't be tried.
+    pub reasons: [Option<Reason>; 144],
+    /// The worth of each key, by its number among those of the set.
+    pub worths: [Worth; 144],
+}
+
+/// The rows of all keys of some sets, from the highest mask downwards.
+#[derive(Drop)]
+pub(crate) struct SettledSets {
+    pub high: u16,
+    pub sets: Vec<SettledSet>,
+}
+
+/// The key to which an action leads, and what is proved of it.
+#[derive(Clone, Copy, Debug)]
+pub(crate) struct NextKey {
+    pub key: Key,
+    pub proved: Worth,
+}
+
+/// The number of a key among those of its mask: by its attitude, and then by its stage.
+fn place_in_set(key: &Key) -> usize
+    requires { key.now.stage < 6 }
+    ensures value { result ≡ place_in_set key.now }
+    ensures few { result < 144 }
+{
+    usize::from(key.attitude.number()) * 6 + usize::from(key.stage)
+}
+
+impl SettledSet {
+    /// The row of a key of the set.
+    fn row(&self, key: &Key) -> NotedRow
+        requires { key.now.stage < 6 }
+        ensures { row_said result ≡ (key.now, said_by self.now key.now) }
+    {
+        NotedRow {
+            head: RowHead {
+                key: *key,
+                worth: self.worths[place_in_set(key)],
+            },
+            reasons: self.reasons,
+        }
+    }
+}
+
+impl SettledSets {
+    /// The worth that was settled of a key. None where its mask isn't settled.
+    fn worth(&self, key: &Key) -> Option<Worth>
+        requires { key.now.stage < 6 }
+        ensures { result ≡ option_map (λ said. said.worth) (said_in self.now key.now) }
+    {
+        if self.is_settled(key.mask) {
+            Some(self.row(key).head.worth)
+        } else {
+            None
+        }
+    }
+
+    /// Whether the keys of a mask are settled.
+    fn is_settled(&self, mask: Mask) -> bool
+        ensures { IsTrue result ↔ IsAmong self.now mask }
+    {
+        mask.0 <= self.high && usize::from(self.high - mask.0) < self.sets.len()
+    }
+
+    /// The row of a key that is settled.
+    pub fn row(&self, key: &Key) -> NotedRow
+        requires mask { IsAmong self.now key.now.mask }
+        requires stage { key.now.stage < 6 }
+        ensures key { result.head.key ≡ key.now }
+        ensures said { said_in self.now key.now ≡ Some (row_said result).1 }
+    {
+        self.set(key.mask).row(key)
+    }
+
+    /// The set of a mask that is settled.
+    fn set(&self, mask: Mask) -> &SettledSet
+        requires { IsAmong self.now mask }
+        ensures { slice_get self.now.sets.items (self.now.high - mask.0) ≡ Some result.now }
+    {
+        &self.sets[usize::from(self.high - mask.0)]
+    }
+}
+
+/// Settles all keys of a mask.
+pub(crate) fn settle_set(
+    job: &Job,
+    strokes: &mut StrokeTable,
+    facts: &mut FactTable,
+    base: &[RowHead],
+    settled: &SettledSets,
+    mask: Mask,
+) -> SettledSet
+    requires strokes { job.now ≡ strokes.old }
+    requires facts { job.now ≡ facts.old }
+    requires base { AreRowsOf job.now base.now }
+    requires settled { AreSettled job.now base.now settled.now }
+    requires mask { mask.0 < 2 ^ bend_count job.now }
+    ensures set { IsSettledSet job.now (proved_over job.now base.now settled.now) mask result }
+    ensures strokes { strokes.new ≡ strokes.old }
+    ensures facts { facts.new ≡ facts.old }
+{
+    let reasons = first_reasons(job, strokes, mask);
+    let nexts = next_keys(job, facts, base, settled, mask, &reasons);
+    let worths = set_worths(job, mask, &nexts);
+    SettledSet { reasons, worths }
+}
+
+/// The first reason against each action where the bends of the mask are folded, by the numbers of
+/// the actions. None for a legal one, and for the number of one that can't be tried.
+fn first_reasons(job: &Job, strokes: &mut StrokeTable, mask: Mask) -> [Option<Reason>; 144]
+    requires strokes { job.now ≡ strokes.old }
+    requires mask { mask.0 < 2 ^ bend_count job.now }
+    ensures reasons { (key : Key) → key.mask ≡ mask
+        → AreFirstNoted job.now key (λ action. slice_index_or result action None) }
+    ensures strokes { strokes.new ≡ strokes.old }
+{
+    let places = place(job.shape(), mask);
+    let mut reasons = [None; 144];
+    for number in 0..action_count(job) {
+        reasons[usize::from(number)] = first_reason_of(
+            job,
+            strokes,
+            places.as_slice(),
+            mask,
+            number,
+        );
+    }
+    reasons
+}
+
+/// The first reason against the action of a number, where it can be tried.
+fn first_reason_of(
+    job: &Job,
+    strokes: &mut StrokeTable,
+    places: &[Place],
+    mask: Mask,
+    number: u8,
+) -> Option<Reason>
+    requires strokes { job.now ≡ strokes.old }
+    requires mask { mask.0 < 2 ^ bend_count job.now }
+    requires count { length places.now ≡ length job.now.part.faces }
+    requires places { ArePlaces (shape_of job.now) mask places.now }
+    requires number { number < 2 * bend_count job.now * stage_count job.now }
+    ensures reason { (key : Key) → key.mask ≡ mask → IsFirstNoted job.now key number result }
+    ensures strokes { strokes.new ≡ strokes.old }
+{
+    job.recall_valid();
+    let action = action_at(job, number);
+    if is_lead(job, mask, action.bend) {
+        let found = strokes.stroke_at(job, places, mask, action);
+        found.reason
+    } else {
+        None
+    }
+}
+
+/// Where the legal actions lead, and what is proved there, by the numbers of the actions.
+fn next_keys(
+    job: &Job,
+    facts: &mut FactTable,
+    base: &[RowHead],
+    settled: &SettledSets,
+    mask: Mask,
+    reasons: &[Option<Reason>; 144],
+) -> [Option<NextKey>; 144]
+    requires facts { job.now ≡ facts.old }
+    requires base { AreRowsOf job.now base.now }
+    requires settled { AreSettled job.now base.now settled.now }
+    requires mask { mask.0 < 2 ^ bend_count job.now }
+    ensures next { (key : Key) → key.mask ≡ mask → AreNext job.now
+        (proved_over job.now base.now settled.now) key
+        (λ action. slice_index_or reasons.now action None) result }
+    ensures ready { AreReady job.now result }
+    ensures facts { facts.new ≡ facts.old }
+{
+    let mut nexts = [None; 144];
+    for number in 0..action_count(job) {
+        if is_unnoted(reasons, number) {
+            nexts[usize::from(number)] = next_of(job, facts, base, settled, mask, number);
+        }
+    }
+    nexts
+}
+
+/// Whether no reason is noted against the action of a number.
+fn is_unnoted(reasons: &[Option<Reason>; 144], number: u8) -> bool
+    requires { number < 144 }
+    ensures { IsTrue result ↔ (slice_index_or reasons.now number None ≡ None) }
+{
+    reasons[usize::from(number)].is_none()
+}
+
+/// Where the action of a number leads, where it can be tried, and what is proved there.
+fn next_of(
+    job: &Job,
+    facts: &mut FactTable,
+    base: &[RowHead],
+    settled: &SettledSets,
+    mask: Mask,
+    number: u8,
+) -> Option<NextKey>
+    requires facts { job.now ≡ facts.old }
+    requires base { AreRowsOf job.now base.now }
+    requires settled { AreSettled job.now base.now settled.now }
+    requires mask { mask.0 < 2 ^ bend_count job.now }
+    requires number { number < 2 * bend_count job.now * stage_count job.now }
+    ensures next { (key : Key) (reasons : ℕ → Option Reason) → key.mask ≡ mask
+        → reasons number ≡ None → IsNextOf job.now
+        (proved_over job.now base.now settled.now) key reasons number result }
+    ensures ready { IfSome result (IsReady job.now) }
+    ensures facts { facts.new ≡ facts.old }
+{
+    job.recall_valid();
+    let action = action_at(job, number);
+    if is_lead(job, mask, action.bend) {
+        let key = next_key(job, first_key(mask), action);
+        let proved = proved_over(job, facts, base, settled, &key);
+        Some(NextKey { key, proved })
+    } else {
+        None
+    }
+}
+
+/// A key of the mask.
+fn first_key(mask: Mask) -> Key
+    ensures { result ≡ record { mask = mask; attitude = 0; stage = 0 } }
+{
+    Key {
+        mask,
+        attitude: Turn::from_number(0),
+        stage: 0,
+    }
+}
+
+/// What is proved of a key: the greatest of its bound, of the worth of its row in the base, and of
+/// what is settled of it.
+fn proved_over(
+    job: &Job,
+    facts: &mut FactTable,
+    base: &[RowHead],
+    settled: &SettledSets,
+    key: &Key,
+) -> Worth
+    requires facts { job.now ≡ facts.old }
+    requires base { AreRowsOf job.now base.now }
+    requires settled { AreSettled job.now base.now settled.now }
+    requires key { IsKeyOf job.now key.now }
+    ensures value { result ≡ proved_over job.now base.now settled.now key.now }
+    ensures small { IsWorth result }
+    ensures facts { facts.new ≡ facts.old }
+{
+    job.recall_valid();
+    let bound = bound_at(job, facts, key);
+    let by_base = at_least(Worth::Cost(bound), worth_of(base, key));
+    let known = settled.worth(key);
+    at_least(by_base, known)
+}
+
+/// The greater of a worth and of another, where there is one.
+fn at_least(worth: Worth, other: Option<Worth>) -> Worth
+    ensures { result ≡ with_worth worth other }
+{
+    match other {
+        Some(other) => greater(worth, other),
+        None => worth,
+    }
+}
+
+/// What every rest from a key costs at least.
+fn bound_at(job: &Job, facts: &mut FactTable, key: &Key) -> u64
+    requires facts { job.now ≡ facts.old }
+    requires key { IsKeyOf job.now key.now }
+    ensures value { result ≡ bound_of job.now key.now }
+    ensures small { result ≤ 18000000 }
+    ensures facts { facts.new ≡ facts.old }
+{
+    job.recall_valid();
+    let facts = facts.facts(key.mask);
+    u64::from(facts.bound(key.stage))
+}
+
+/// The worths of the keys of a mask.
+fn set_worths(job: &Job, mask: Mask, nexts: &[Option<NextKey>; 144]) -> [Worth; 144]
+    requires { AreReady job.now nexts.now }
+    ensures { (key : Key) → IsKeyOf job.now key → key.mask ≡ mask
+        → IsLeastAfter job.now key nexts.now (slice_index_or result (place_in_set key) Blocked) }
+{
+    job.recall_valid();
+    let mut worths = [Worth::Blocked; 144];
+    for place in 0..144u8 {
+        if place % 6 < job.stages() {
+            let key = Key {
+                mask,
+                attitude: Turn::from_number(place / 6),
+                stage: place % 6,
+            };
+            worths[usize::from(place)] = settled_worth(job, &key, nexts);
+        }
+    }
+    worths
+}
+
+/// The least of step cost and what is proved of the next key, over the legal actions.
+fn settled_worth(job: &Job, key: &Key, nexts: &[Option<NextKey>; 144]) -> Worth
+    requires stage { key.now.stage < stage_count job.now }
+    requires next { AreReady job.now nexts.now }
+    ensures { IsLeastAfter job.now key.now nexts.now result }
+{
+    let mut least = Worth::Blocked;
+    for number in 0..action_count(job) {
+        if let Some(next) = next_at(nexts, number) {
+            least = lesser(least, worth_after(job, key, &next));
+        }
+    }
+    capped(least)
+}
+
+/// Where the action of a number leads.
+fn next_at(nexts: &[Option<NextKey>; 144], number: u8) -> Option<NextKey>
+    requires { number < 144 }
+    ensures { result ≡ slice_index_or nexts.now number None }
+{
+    nexts[usize::from(number)]
+}
+
+/// The step cost to a next key and then what is proved of it.
+fn worth_after(job: &Job, key: &Key, next: &NextKey) -> Worth
+    requires stage { key.now.stage < stage_count job.now }
+    requires next { IsReady job.now next.now }
+    ensures { result ≡ worth_after job.now key.now next.now }
+{
+    let cost = cost_to(job, key, next.key.attitude, next.key.stage);
+    after_cost(cost, next.proved)
+}
+
+/// The lesser of two worths.
+fn lesser(first: Worth, second: Worth) -> Worth
+    ensures either { (result ≡ first) ⊎ (result ≡ second) }
+    ensures first { IsAtMost result first }
+    ensures second { IsAtMost result second }
+{
+    if first.is_at_most(second) {
+        first
+    } else {
+        second
+    }
+}
+
+/// A worth that a row may have.
+fn capped(worth: Worth) -> Worth
+    ensures { result ≡ capped worth }
+{
+    match worth {
+        Worth::Cost(cost) => Worth::Cost(cost.min(GREATEST_WORTH)),
+        Worth::Blocked => Worth::Blocked,
+    }
+}

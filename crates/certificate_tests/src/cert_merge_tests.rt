@@ -1,0 +1,328 @@
+//! Tables of the U channel: merged, written, read, checked and altered.
+
+use brake_base::Worth;
+use cert_merge::{
+    TableFault, TableFile, check_table, merge, proved_at_start, read_table, write_table,
+};
+use certificate_texts::{ROWS, VERSION_2_JOB};
+use plan_cert::CertFault;
+use std::alloc::{AllocError, Global};
+use std::test::Fail;
+
+/// Two rows, the second with a note.
+const FIRST: &str = "row 0 0 0 200
+row 1 0 0 130
+x 2 P 0 8
+";
+/// Rows of which one has the key of the second row above, its worth and another reason against the
+/// same action.
+const SECOND: &str = "row 1 0 0 130
+x 2 P 0 1
+x 2 C 0 8
+row 2 0 0 100
+";
+/// Rows of which one is worth more than that of the same key above, and one less.
+const THIRD: &str = "row 0 0 0 none
+x 1 P 0 8
+row 1 0 0 120
+x 2 C 0 1
+";
+
+/// The first line of a table of the U channel, and the lines of its job.
+fn head_of(alloc: Global) -> Result<String, AllocError> {
+    let lines = VERSION_2_JOB.concat(alloc)?;
+    lines.replacen(alloc, "brake-cert 2", "brake-table 1", 1)
+}
+
+/// The text of a table of the U channel with these lines of rows and notes.
+fn text_of(alloc: Global, rows: &str) -> Result<String, AllocError> {
+    let head = head_of(alloc)?;
+    format!(in alloc; "{head}{rows}end\n")
+}
+
+/// The table with these lines.
+fn table_of(alloc: Global, rows: &str) -> Result<TableFile, CertFault> {
+    let text = text_of(alloc, rows)?;
+    read_table(alloc, text.as_bytes())
+}
+
+/// The text of the merge of two tables.
+fn merged(alloc: Global, first: &str, second: &str) -> Result<Vec<u8>, CertFault> {
+    let first = table_of(alloc, first)?;
+    let second = table_of(alloc, second)?;
+    let both = merge(alloc, &first.table, &second.table)?;
+    let text = write_table(alloc, &first.job, &both)?;
+    Ok(text)
+}
+
+/// Two tables and the rows and notes of their merge.
+const MERGES: [(&str, &str, &str); 5] = [
+    (FIRST, "", FIRST),
+    (FIRST, FIRST, FIRST),
+    (
+        FIRST,
+        SECOND,
+        "row 0 0 0 200\nrow 1 0 0 130\nx 2 P 0 1\nx 2 C 0 8\nrow 2 0 0 100\n",
+    ),
+    (
+        FIRST,
+        THIRD,
+        "row 0 0 0 none\nx 1 P 0 8\nrow 1 0 0 130\nx 2 P 0 8\n",
+    ),
+    (
+        SECOND,
+        THIRD,
+        "row 0 0 0 none\nx 1 P 0 8\nrow 1 0 0 130\nx 2 P 0 1\nx 2 C 0 8\nrow 2 0 0 100\n",
+    ),
+];
+
+#[test]
+fn tables_are_merged_by_their_keys_in_either_order(rt: HostRuntime) -> Result<(), Fail> {
+    let alloc = rt.alloc();
+    for (first, second, both) in MERGES {
+        let wanted = text_of(alloc, both)?;
+        assert_eq!(rt; merged(alloc, first, second)?.as_slice(), wanted.as_bytes());
+        assert_eq!(rt; merged(alloc, second, first)?.as_slice(), wanted.as_bytes());
+    }
+    Ok(())
+}
+
+#[test]
+fn three_tables_are_merged_in_any_grouping(rt: HostRuntime) -> Result<(), Fail> {
+    let alloc = rt.alloc();
+    let (first, second, third) = (
+        table_of(alloc, FIRST)?,
+        table_of(alloc, SECOND)?,
+        table_of(alloc, THIRD)?,
+    );
+    let left = merge(alloc, &first.table, &second.table)?;
+    let left = merge(alloc, &left, &third.table)?;
+    let right = merge(alloc, &second.table, &third.table)?;
+    let right = merge(alloc, &first.table, &right)?;
+    let text = write_table(alloc, &first.job, &left)?;
+    let other = write_table(alloc, &first.job, &right)?;
+    assert_eq!(rt; text.as_slice(), other.as_slice());
+    Ok(())
+}
+
+#[test]
+fn a_table_is_written_as_it_was_read(rt: HostRuntime) -> Result<(), Fail> {
+    let alloc = rt.alloc();
+    for rows in ["", FIRST, SECOND, THIRD] {
+        let text = text_of(alloc, rows)?;
+        let file = read_table(alloc, text.as_bytes())?;
+        let again = write_table(alloc, &file.job, &file.table)?;
+        assert_eq!(rt; again.as_slice(), text.as_bytes());
+    }
+    Ok(())
+}
+
+/// The refusal of a text.
+fn fault_of(alloc: Global, text: &[u8]) -> Option<CertFault> {
+    read_table(alloc, text).err()
+}
+
+#[test]
+fn a_beginning_of_a_table_is_unended(rt: HostRuntime) -> Result<(), Fail> {
+    let alloc = rt.alloc();
+    let text = text_of(alloc, FIRST)?;
+    for end in 0..text.len() {
+        let fault = fault_of(alloc, &text.as_bytes()[..end]);
+        assert_eq!(rt; fault, Some(CertFault::Unended));
+    }
+    Ok(())
+}
+
+/// Lines of rows and notes, and the first that isn't allowed, counted from 1 behind the job.
+const REFUSED: [(&str, u32); 12] = [
+    ("row 0 0 0 0200\n", 1),
+    ("row 0 0 0  200\n", 1),
+    ("row 0 0 0 200 \n", 1),
+    ("row 0 24 0 200\n", 1),
+    ("row 3 0 0 200\n", 1),
+    ("row 0 0 0 1000000001\n", 1),
+    ("row 1 0 0 130\nrow 0 0 0 200\n", 2),
+    ("row 1 0 0 130\nrow 1 0 0 130\n", 2),
+    ("x 1 P 0 8\n", 1),
+    ("row 1 0 0 130\nx 1 P 0 8\n", 2),
+    ("row 0 0 0 200\nx 2 P 0 8\nx 1 P 0 8\n", 3),
+    ("row 0 0 0 200\nx 1 P 0 8\nx 1 P 0 8\n", 3),
+];
+
+#[test]
+fn altered_tables_are_refused_at_their_line(rt: HostRuntime) -> Result<(), Fail> {
+    let alloc = rt.alloc();
+    let before = text_of(alloc, "")?.lines().count() as u32 - 1;
+    for (rows, line) in REFUSED {
+        let text = text_of(alloc, rows)?;
+        let wanted = CertFault::BadLine {
+            line: before + line,
+        };
+        assert_eq!(rt; fault_of(alloc, text.as_bytes()), Some(wanted));
+    }
+    let behind = format!(in alloc; "{}x", text_of(alloc, FIRST)?)?;
+    assert_eq!(rt;
+        fault_of(alloc, behind.as_bytes()),
+        Some(CertFault::Trailing)
+    );
+    Ok(())
+}
+
+/// Why a text proves nothing: it is no table's, or an action at a row isn't accounted for.
+#[derive(Clone, Copy, Debug, PartialEq, Eq)]
+enum Refusal {
+    Text(CertFault),
+    Rows(TableFault),
+}
+
+/// What a text proves of the start, or its first refusal.
+fn answer_of(alloc: Global, text: &str) -> Result<Worth, Refusal> {
+    let file = match read_table(alloc, text.as_bytes()) {
+        Ok(file) => file,
+        Err(fault) => return Err(Refusal::Text(fault)),
+    };
+    match check_table(&file.job, &file.table) {
+        Ok(worth) => Ok(worth),
+        Err(fault) => Err(Refusal::Rows(fault)),
+    }
+}
+
+#[test]
+fn the_worked_table_proves_the_least_cost(rt: HostRuntime) -> Result<(), Fail> {
+    let alloc = rt.alloc();
+    let head = head_of(alloc)?;
+    // The bound alone proves it too.
+    for rows in [ROWS, "end\n"] {
+        let text = format!(in alloc; "{head}{rows}")?;
+        assert_eq!(rt; answer_of(alloc, &text), Ok(Worth::Cost(200)));
+    }
+    // What a table proves is the greater of the bound and the start's row, closed or not.
+    let open = table_of(alloc, "row 0 0 0 none\n")?;
+    assert_eq!(rt; proved_at_start(&open.job, &open.table), Worth::Blocked);
+    let low = table_of(alloc, "row 0 0 0 100\n")?;
+    assert_eq!(rt; proved_at_start(&low.job, &low.table), Worth::Cost(200));
+    Ok(())
+}
+
+/// A text of the worked table, another in its place, and the first refusal that this brings.
+const FAULTS: [(&str, &str, Refusal); 21] = [
+    (
+        "brake-table 1",
+        "brake-table 2",
+        Refusal::Text(CertFault::BadLine { line: 1 }),
+    ),
+    (
+        "brake-table 1",
+        "brake-table  1",
+        Refusal::Text(CertFault::BadLine { line: 1 }),
+    ),
+    (
+        "brake-table 1",
+        "brake-cert 2",
+        Refusal::Text(CertFault::BadLine { line: 1 }),
+    ),
+    (
+        "2000 1919",
+        "2000 01919",
+        Refusal::Text(CertFault::BadLine { line: 2 }),
+    ),
+    ("2000 1919", "2000 500", Refusal::Text(CertFault::BadJob)),
+    (
+        "gang 0\n",
+        "",
+        Refusal::Text(CertFault::BadLine { line: 12 }),
+    ),
+    (
+        "load 0 0\n",
+        "load 0 0\nload 0 0\n",
+        Refusal::Text(CertFault::BadLine { line: 23 }),
+    ),
+    (
+        "row 0 0 0 200",
+        "claim 200\nrow 0 0 0 200",
+        Refusal::Text(CertFault::BadLine { line: 23 }),
+    ),
+    (
+        "row 0 0 0 200",
+        "step 2 P 0 1 1\nrow 0 0 0 200",
+        Refusal::Text(CertFault::BadLine { line: 23 }),
+    ),
+    (
+        "row 0 0 0 200",
+        "row 3 0 0 0",
+        Refusal::Text(CertFault::BadLine { line: 23 }),
+    ),
+    (
+        "row 0 0 0 200",
+        "row 0 0 0 1000000001",
+        Refusal::Text(CertFault::BadLine { line: 23 }),
+    ),
+    (
+        "row 2 0 0 100\n",
+        "row 2 0 0 100\nrow 2 0 0 100\n",
+        Refusal::Text(CertFault::BadLine { line: 27 }),
+    ),
+    (
+        "row 2 0 0 100",
+        "row 02 0 0 100",
+        Refusal::Text(CertFault::BadLine { line: 26 }),
+    ),
+    (
+        "x 2 P 0 8",
+        "x 1 P 0 8",
+        Refusal::Text(CertFault::BadLine { line: 25 }),
+    ),
+    ("end\n", "", Refusal::Text(CertFault::Unended)),
+    ("end\n", "end\n\n", Refusal::Text(CertFault::Trailing)),
+    (
+        "x 2 P 0 8",
+        "x 2 P 0 4 0 1 0",
+        Refusal::Rows(TableFault::BadReason { row: 1, action: 2 }),
+    ),
+    (
+        "x 2 P 0 8\n",
+        "",
+        Refusal::Rows(TableFault::NotClosed { row: 1, action: 2 }),
+    ),
+    (
+        "row 0 0 0 200",
+        "row 0 0 0 210",
+        Refusal::Rows(TableFault::NotClosed { row: 0, action: 2 }),
+    ),
+    // The false note of row 1 stands behind the open action of row 0.
+    (
+        "row 0 0 0 200\nrow 1 0 0 130\nx 2 P 0 8",
+        "row 0 0 0 210\nrow 1 0 0 130\nx 2 P 0 4 0 1 0",
+        Refusal::Rows(TableFault::NotClosed { row: 0, action: 2 }),
+    ),
+    (
+        "row 2 0 0 100",
+        "row 2 0 0 1000",
+        Refusal::Rows(TableFault::NotClosed { row: 2, action: 0 }),
+    ),
+];
+
+#[test]
+fn altered_tables_are_refused_by_their_first_fault(rt: HostRuntime) -> Result<(), Fail> {
+    let alloc = rt.alloc();
+    let head = head_of(alloc)?;
+    let text = format!(in alloc; "{head}{ROWS}")?;
+    for (old, new, refusal) in FAULTS {
+        let text = text.replacen(alloc, old, new, 1)?;
+        assert!(rt; answer_of(alloc, &text) == Err(refusal), "{new}");
+    }
+    Ok(())
+}
+
+#[test]
+fn a_table_of_another_job_gives_that_job(rt: HostRuntime) -> Result<(), Fail> {
+    let alloc = rt.alloc();
+    let head = head_of(alloc)?;
+    let text = format!(in alloc; "{head}{ROWS}")?;
+    let other = text.replace(alloc, "30000 up", "80000 up")?;
+    let file = read_table(alloc, other.as_bytes())?;
+    let again = write_table(alloc, &file.job, &file.table)?;
+    assert_eq!(rt; again.as_slice(), other.as_bytes());
+    assert!(rt; again.as_slice() != text.as_bytes());
+    Ok(())
+}
