@@ -1,6 +1,6 @@
 -- The best of the tried setups, with the plan of its certificate, is a pair such that none costs less.
-use Rattle.std.proofs.Common.{◌≡◌, ◌⊎◌, inl, inr, ℕ, ◌≤◌, ℤ, List, [], ◌∷◌, length, Option, Some, None, Result, Ok, Err, refl, sym, ap, ◌∙◌, subst, arith}
-use Rattle.std.specs.Prelude.{All, slice_get, unwrap_or}
+use Rattle.std.proofs.Common.{◌≡◌, ℕ, ◌≤◌, ℤ, List, Option, Some, None, Result, Ok, Err, refl, sym, ap, ◌∙◌, subst, arith}
+use Rattle.std.specs.Prelude.{All}
 use Rattle.std.specs.List.{AllZip}
 use Rattle.std.proofs.lemmas.Option.{slice_get_within}
 use Rattle.brake_base.specs.declared.stroke.Step.{Step}
@@ -14,13 +14,13 @@ use Rattle.handling_cost.specs.Claim.{IsTrueClaim}
 use Rattle.setup_choice.specs.declared.outcome.Fit.{Fit}
 use Rattle.setup_choice.specs.declared.outcome.Fit.TheVariants.{Ready, Short}
 use Rattle.setup_choice.specs.Setups.{OneSetupData}
-use Rattle.setup_choice.specs.Best.{HasCost, IsCheapest, IsBest}
+use Rattle.setup_choice.specs.Best.{HasCost}
 use Rattle.setup_choice.specs.Fitting.{job_of_choice}
 use Rattle.command_runner.specs.declared.status.Status.{Status}
 use Rattle.brake_cli.specs.SetupList.{JobFilesData, SetupList}
 use Rattle.brake_cli.specs.SetupStops.{FitsAs}
 use Rattle.brake_cli.specs.Attempts.{PlannedData, AttemptData, IsPlannedJob, IsPlannedAs, IsAttempt, IsPlannedWell, IsPlannedAt, tried_all}
-use Rattle.brake_cli.specs.Pairs.{IsPair, NoPairCostsLess, HasNoPair, IsCheapestPair}
+use Rattle.brake_cli.specs.Pairs.{IsPair}
 use Rattle.brake_cli.specs.SetupsAnswer.{EndsTried, with_best, without, IsEnding, best, no_pair}
 use Rattle.brake_cli.proofs.Claims.{good_claim_true}
 use Rattle.brake_cli.proofs.FirstChoice.{one_first}

@@ -13,3 +13,7 @@ pub mod FirstChoice
 pub mod Trying
 pub mod CheapestPairs
 pub mod SetupsAnswers
+pub mod FormApart
+pub mod Kept
+pub mod Begun
+pub mod TableAnswers

@@ -1,5 +1,5 @@
 -- From what the calls of `setups` say to what it answers.
-use Rattle.std.proofs.Common.{◌≡◌, ℕ, ◌<◌, ◌≤◌, ℤ, List, [], ◌∷◌, length, Result, Ok, Err, refl, sym, ap, ◌∙◌, subst, arith}
+use Rattle.std.proofs.Common.{◌≡◌, ℕ, ◌<◌, ◌≤◌, ℤ, List, [], ◌∷◌, length, Result, Ok, Err, refl, arith}
 use Rattle.std.specs.List.{AllZip}
 use Rattle.allowance.specs.declared.table.AllowFault.{AllowFault}
 use Rattle.allowance.specs.AllowTable.{half_deduction_in}
@@ -18,10 +18,8 @@ use Rattle.brake_cli.specs.declared.setup_list.SetupsStop.TheVariants as stop
 use Rattle.brake_cli.specs.SetupList.{JobFilesData, SetupList, SetupsFault, list_refused, AnswersList}
 use Rattle.brake_cli.specs.SetupStops.{FittedData, IsFitted, ListStopsAt, IsFaultAnd, StopsAtSetup}
 use Rattle.brake_cli.specs.Attempts.{AttemptData, IsAttemptOf}
-use Rattle.brake_cli.specs.SetupsAnswer.{all_stored, IsBlankSheetIn, AnswersTried, IsTriedAnswer, IsListAnswer, setup_refused}
-use Rattle.brake_cli.proofs.Trying.{stands, all_attempts, all_well, as_many}
-use Rattle.brake_cli.proofs.NumberedNames.{all_different}
-use Rattle.brake_cli.proofs.CheapestPairs.{ends}
+use Rattle.brake_cli.specs.SetupsAnswer.{IsListAnswer, setup_refused}
+use Rattle.brake_cli.proofs.Trying.{stands, as_many}
 
 -- the answer to files that give no list
 pub list_stopped : (P : SetupList → AnswerData → Type 0) (why : SetupsStop) (read : Result SetupList SetupsFault) (answer : AnswerData) → ListStopsAt why read → IsFaultAnd why (λ fault. answer ≡ list_refused fault)
@@ -79,21 +77,3 @@ pub few_attempts : (files : JobFilesData) (setups : List OneSetupData) (fits : L
     → AllZip (IsFitted files) setups fits → AllZip IsAttemptOf fits attempts → length attempts ≤ 16
 few_attempts files setups fits attempts few fitted tried =
     omega (arith, few, as_many (IsFitted files) setups fits fitted, as_many IsAttemptOf fits attempts tried)
-
--- the answer once all setups are tried
-pub tried_is : (name : List ℕ) (list : SetupList) (sheet : List ℕ) (fits : List FittedData) (attempts : List AttemptData) (answer : AnswerData) → IsBlankSheetIn list.files sheet → length list.setups ≤ 16
-    → AllZip (IsFitted list.files) list.setups fits → AllZip IsAttemptOf fits attempts → AnswersTried name sheet attempts answer → IsTriedAnswer name list answer
-tried_is name list sheet fits attempts answer is_sheet few fitted tried is =
-    let tries = all_attempts list.files list.setups fits attempts fitted tried in
-    let different = all_different name attempts (few_attempts list.files list.setups fits attempts few fitted tried) in
-    record {
-      sheet = sheet;
-      is_sheet = is_sheet;
-      attempts = attempts;
-      tries = tries;
-      ending = is.ending;
-      ends = ends list attempts tries answer.status is.ending (all_well fits attempts tried) is.ends;
-      stores = is.stores;
-      different = rw is.stores different;
-      texts = is.texts;
-    }

@@ -1,10 +1,10 @@
 -- What trying the setups of a list comes to.
-use Rattle.std.specs.Prelude.{◌≡◌, ℕ, List, map, Option, Some, None, IfSome, option_map}
+use Rattle.std.specs.Prelude.{◌≡◌, ℕ, List, [], map, Option, Some, None, IfSome, option_map}
 use Rattle.std.specs.List.{slice_get}
 use Rattle.brake_base.specs.declared.stroke.Worth.TheVariants.{Cost}
 use Rattle.job_setup.specs.Setup.{JobData}
 use Rattle.job_setup.specs.ValidJob.{IsJob}
-use Rattle.plan_cert.specs.Cert.{CertData, cert_data}
+use Rattle.plan_cert.specs.Cert.{CertData}
 use Rattle.setup_choice.specs.declared.outcome.Fit.{Fit}
 use Rattle.setup_choice.specs.declared.outcome.Fit.TheVariants.{Ready, Short}
 use Rattle.setup_choice.specs.declared.cheapest.Tried.{Tried}
@@ -27,9 +27,12 @@ pub record AttemptData : Type 0 where
   pub name : List ℕ
   pub planned : Option PlannedData
 
--- what contracts see of the code's types
+-- what contracts see of the code's types, which keep no rows of a certificate
 abbrev pub planned_data : PlannedJob → PlannedData
-planned_data p = record { job = p.job; cert = cert_data p.cert }
+planned_data p = record {
+  job = p.job;
+  cert = record { claim = p.claim; steps = p.steps.items; rows = []; notes = [] };
+}
 
 abbrev pub attempt_data : Attempt → AttemptData
 attempt_data a = record { name = a.name.bytes; planned = option_map planned_data a.planned }
@@ -70,9 +73,20 @@ tried_of (Some planned) = tried.Planned planned.cert.claim
 abbrev pub tried_all : List AttemptData → List Tried
 tried_all attempts = map (λ attempt. tried_of attempt.planned) attempts
 
+-- what is kept of a planned job once its certificate is stored: the claim and the steps
+abbrev pub kept_of : PlannedData → PlannedData
+kept_of planned = record planned { cert = record planned.cert { rows = []; notes = [] } }
+
+abbrev pub kept_attempt : AttemptData → AttemptData
+kept_attempt attempt = record attempt { planned = option_map kept_of attempt.planned }
+
 -- its certificate is one of its job, if it has one
 abbrev pub IsPlannedWell : AttemptData → Type 0
 IsPlannedWell attempt = IfSome attempt.planned IsPlannedJob
+
+-- this is kept of a tried setup whose certificate is one of its job, if it has one
+abbrev pub IsKept : AttemptData → Type 0
+IsKept kept = (attempt : AttemptData) × IsPlannedWell attempt × (kept ≡ kept_attempt attempt)
 
 -- the tried setup of this place, with its planned job
 abbrev pub IsPlannedAt : List AttemptData → ℕ → PlannedData → Type 0

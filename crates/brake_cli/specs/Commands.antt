@@ -1,19 +1,25 @@
 -- What the commands answer.
-use Rattle.std.specs.Prelude.{◌≡◌, ℕ, List, [], ◌∷◌, ◌++◌, codes}
+use Rattle.std.specs.Prelude.{◌≡◌, ℕ, List, [], ◌∷◌, ◌++◌, codes, Bool, true, false, Some}
+use Rattle.std.specs.Prelude.{None}
 use Rattle.std.specs.List.{flat_map}
 use Rattle.command_runner.specs.declared.status.Status.TheVariants as status
 use Rattle.command_runner.specs.Answers.{AnswerData, one_text}
 use Rattle.command_runner.specs.Fetching.{word_at}
-use Rattle.command_runner.specs.Ends.{Meaning}
+use Rattle.command_runner.specs.Ends.{Meaning, Beginning}
 use Rattle.brake_cli.specs.declared.command.Command.{Command}
 use Rattle.brake_cli.specs.declared.command.Command.TheVariants.{Blank, Plan, Check, CheckFiles}
-use Rattle.brake_cli.specs.declared.command.Command.TheVariants.{Trial, Why, Setups}
+use Rattle.brake_cli.specs.declared.command.Command.TheVariants.{Trial, Why, Setups, Settle, Merge}
+use Rattle.brake_cli.specs.declared.command.Command.TheVariants.{Prove}
 use Rattle.brake_cli.specs.BlankAnswer.{blank_answer}
 use Rattle.brake_cli.specs.PlanAnswer.{IsPlanAnswer}
 use Rattle.brake_cli.specs.CheckAnswer.{IsCheckAnswer, IsCheckFilesAnswer}
 use Rattle.brake_cli.specs.TrialAnswer.{IsTrialAnswer}
 use Rattle.brake_cli.specs.WhyAnswer.{IsWhyAnswer}
 use Rattle.brake_cli.specs.SetupsAnswer.{IsSetupsAnswer}
+use Rattle.brake_cli.specs.Begun.{IsSetupsBeginning}
+use Rattle.brake_cli.specs.SettleAnswer.{IsSettleAnswer, IsSettleOverAnswer}
+use Rattle.brake_cli.specs.MergeAnswer.{IsMergeAnswer}
+use Rattle.brake_cli.specs.ProveAnswer.{IsProveAnswer}
 
 -- the lines of the usage text: the forms of the words
 abbrev pub usage_lines : List (List ℕ)
@@ -36,7 +42,7 @@ ended_line line = line ++ codes "\n"
 unfoldable pub usage_text : List ℕ
 usage_text = flat_map ended_line usage_lines
 
--- the answer to words that have no form, and to those of a command that isn't built
+-- the answer to words that have no form
 abbrev pub usage : AnswerData
 usage = one_text status.Usage usage_text
 
@@ -52,4 +58,20 @@ meaning_of (Trial n) words contents answer = IsTrialAnswer n answer
 meaning_of (Why part tools machine) words contents answer = IsWhyAnswer contents answer
 meaning_of (Setups part tools machine setups cert) words contents answer =
     IsSetupsAnswer (word_at words cert) contents answer
-meaning_of _ words contents answer = answer ≡ usage
+meaning_of (Settle part tools machine out low high None) words contents answer =
+    IsSettleAnswer (word_at words out) low high contents answer
+meaning_of (Settle part tools machine out low high (Some base)) words contents answer =
+    IsSettleOverAnswer (word_at words out) low high contents answer
+meaning_of (Merge a b out) words contents answer = IsMergeAnswer (word_at words out) contents answer
+meaning_of (Prove table) words contents answer = IsProveAnswer contents answer
+
+-- the command stores texts before it has its answer
+abbrev pub stores_in_turn : Command → Bool
+stores_in_turn (Setups part tools machine setups cert) = true
+stores_in_turn _ = false
+
+-- what each command may have stored while it has no answer: nothing, but of `setups`
+abbrev pub begins_of : Command → Beginning
+begins_of (Setups part tools machine setups cert) words contents stored =
+    IsSetupsBeginning (word_at words cert) contents stored
+begins_of _ words contents stored = ⊥

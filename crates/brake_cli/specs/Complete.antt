@@ -12,7 +12,7 @@ use Rattle.command_runner.specs.Delivery.{IsCutShort, Outside}
 use Rattle.command_runner.specs.Ends.{RefusesLong}
 use Rattle.brake_cli.specs.declared.command.Command.{Command}
 use Rattle.brake_cli.specs.declared.command.Command.TheVariants.{Plan}
-use Rattle.brake_cli.specs.Forms.{run_of}
+use Rattle.brake_cli.specs.Forms.{command_of}
 use Rattle.brake_cli.specs.Run.{form_for}
 use Rattle.brake_cli.specs.JobAnswer.{job_of_files}
 use Rattle.brake_cli.specs.Headline.{AreFetched}
@@ -48,4 +48,4 @@ IsCompleteBy (Some (Plan part tools machine cert budget)) words before now statu
 IsCompleteBy _ words before now status = ⊤
 
 abbrev pub IsComplete : List (List ℕ) → Outside → Outside → Status → Type 0
-IsComplete words before now status = IsCompleteBy (run_of words) words before now status
+IsComplete words before now status = IsCompleteBy (command_of words) words before now status

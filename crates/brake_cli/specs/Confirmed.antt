@@ -9,7 +9,7 @@ use Rattle.command_runner.specs.Delivery.{IsCutShort, Outside}
 use Rattle.command_runner.specs.Ends.{Leaves}
 use Rattle.brake_cli.specs.declared.command.Command.{Command}
 use Rattle.brake_cli.specs.declared.command.Command.TheVariants.{Check}
-use Rattle.brake_cli.specs.Forms.{run_of}
+use Rattle.brake_cli.specs.Forms.{command_of}
 use Rattle.brake_cli.specs.CheckAnswer.{verdict_answer}
 
 -- where the shelf tells that the file of the word behind `check` holds the text of a good
@@ -23,4 +23,4 @@ ConfirmsHeldBy (Some (Check place)) words before now status =
 ConfirmsHeldBy _ words before now status = ⊤
 
 abbrev pub ConfirmsHeld : List (List ℕ) → Outside → Outside → Status → Type 0
-ConfirmsHeld words before now status = ConfirmsHeldBy (run_of words) words before now status
+ConfirmsHeld words before now status = ConfirmsHeldBy (command_of words) words before now status

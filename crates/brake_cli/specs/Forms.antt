@@ -1,5 +1,5 @@
 -- The words of the commands: their forms, and the command that words of a form say.
-use Rattle.std.specs.Prelude.{ℕ, List, [], ◌∷◌, Bool, true, false, Option, Some, None, option_map}
+use Rattle.std.specs.Prelude.{ℕ, List, [], ◌∷◌, Option, Some, None, option_map}
 use Rattle.std.specs.Prelude.{option_and_then, if◌then◌else◌}
 use Rattle.command_runner.specs.declared.word_kind.WordKind.{WordKind}
 use Rattle.command_runner.specs.declared.word_kind.WordKind.TheVariants.{Literal, Input}
@@ -86,24 +86,3 @@ read_by (form ∷ forms) words =
 -- the command that the words say; none where they have no form
 unfoldable pub command_of : List (List ℕ) → Option Command
 command_of words = read_by forms words
-
--- the commands that are built
-abbrev pub is_built : Command → Bool
-is_built (Blank part tools) = true
-is_built (Plan part tools machine cert budget) = true
-is_built (Check cert) = true
-is_built (CheckFiles cert part tools machine) = true
-is_built (Trial n) = true
-is_built (Why part tools machine) = true
-is_built (Setups part tools machine setups cert) = true
-is_built _ = false
-
--- the command, if it is built
-abbrev pub if_built : Option Command → Option Command
-if_built None = None
-if_built (Some command) = if is_built command then Some command else None
-
--- the command that is run for the words; none where they have no form, or that of a command that
--- isn't built
-unfoldable pub run_of : List (List ℕ) → Option Command
-run_of words = if_built (command_of words)

@@ -27,7 +27,7 @@ use Rattle.command_runner.specs.Fetching.{word_at, files_of, IsContent}
 use Rattle.command_runner.specs.Delivery.{Outside, HoldsAll}
 use Rattle.brake_cli.specs.declared.command.Command.{Command}
 use Rattle.brake_cli.specs.declared.command.Command.TheVariants.{Plan}
-use Rattle.brake_cli.specs.Forms.{run_of}
+use Rattle.brake_cli.specs.Forms.{command_of}
 use Rattle.brake_cli.specs.Run.{form_for}
 use Rattle.brake_cli.specs.JobAnswer.{job_of_files}
 use Rattle.brake_cli.specs.PlanAnswer.{claim_status, last_text, IsBlankOf, IsPlanCert, HasFewRows}
@@ -110,4 +110,4 @@ HasHeadlineBy (Some (Plan part tools machine cert budget)) words before now stat
 HasHeadlineBy _ words before now status = ⊤
 
 abbrev pub HasHeadline : List (List ℕ) → Outside → Outside → Status → Type 0
-HasHeadline words before now status = HasHeadlineBy (run_of words) words before now status
+HasHeadline words before now status = HasHeadlineBy (command_of words) words before now status

@@ -11,6 +11,14 @@ pub mod SetupStops
 pub mod Attempts
 pub mod Pairs
 pub mod SetupsAnswer
+pub mod SetupsWords
+pub mod Begun
+pub mod TableCheck
+pub mod TableStops
+pub mod TableAnswer
+pub mod SettleAnswer
+pub mod MergeAnswer
+pub mod ProveAnswer
 pub mod Forms
 pub mod Commands
 pub mod Run

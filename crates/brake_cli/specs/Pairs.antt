@@ -1,5 +1,5 @@
 -- The pairs of a list of setups, and the cheapest of them.
-use Rattle.std.specs.Prelude.{◌≡◌, ℕ, ◌≤◌, List, Option, Some}
+use Rattle.std.specs.Prelude.{◌≡◌, ℕ, ◌≤◌, List, Some}
 use Rattle.std.specs.List.{slice_get}
 use Rattle.brake_base.specs.declared.stroke.Step.{Step}
 use Rattle.job_setup.specs.Setup.{JobData}

@@ -7,12 +7,12 @@ use Rattle.command_runner.specs.declared.status.Status.{Status}
 use Rattle.command_runner.specs.Answers.{AnswerData, long_refused}
 use Rattle.command_runner.specs.Fetching.{files_of, fetched_over}
 use Rattle.command_runner.specs.Delivery.{IsCutShort, Outside}
-use Rattle.command_runner.specs.Ends.{Meaning, Ends, Leaves, IsOutcome}
+use Rattle.command_runner.specs.Ends.{Meaning, Beginning, no_beginning, Ends, Leaves, IsOutcome}
 use Rattle.brake_cli.specs.declared.command.Command.{Command}
 use Rattle.brake_cli.specs.declared.command.Command.TheVariants.{Blank}
-use Rattle.brake_cli.specs.Forms.{kinds_of, form_of, run_of}
+use Rattle.brake_cli.specs.Forms.{kinds_of, form_of, command_of}
 use Rattle.brake_cli.specs.BlankAnswer.{blank_answer}
-use Rattle.brake_cli.specs.Commands.{meaning_of, usage}
+use Rattle.brake_cli.specs.Commands.{meaning_of, begins_of, usage}
 
 -- the kinds of the words of a command, if one is run
 abbrev pub form_for : Option Command → List WordKind
@@ -24,15 +24,21 @@ abbrev pub meaning_for : Option Command → Meaning
 meaning_for (Some command) words contents answer = meaning_of command words contents answer
 meaning_for None words contents answer = answer ≡ usage
 
+-- what may be stored while there is no answer to them
+abbrev pub begins_for : Option Command → Beginning
+begins_for (Some command) words contents stored = begins_of command words contents stored
+begins_for None words contents stored = no_beginning words contents stored
+
 -- a run over the outside ends so
 abbrev pub RunEnds : List (List ℕ) → Outside → Outside → Status → Type 0
 RunEnds words before now status =
-    Ends (form_for (run_of words)) (meaning_for (run_of words)) words before now status
+    Ends (form_for (command_of words)) (meaning_for (command_of words))
+    (begins_for (command_of words)) words before now status
 
 -- and comes to this, as it shows from outside
 abbrev pub RunOutcome : List (List ℕ) → Outside → Outside → Status → Type 0
 RunOutcome words before now status =
-    IsOutcome (form_for (run_of words)) (meaning_for (run_of words)) words before now status
+    IsOutcome (form_for (command_of words)) (meaning_for (command_of words)) words before now status
 
 -- the answer of `blank` once its files are fetched, or one was too long
 abbrev pub blank_after : Result (List (List ℕ)) ℕ → AnswerData
@@ -53,4 +59,4 @@ TellsBlankBy (Some (Blank part tools)) words before now status =
 TellsBlankBy _ words before now status = ⊤
 
 abbrev pub TellsBlank : List (List ℕ) → Outside → Outside → Status → Type 0
-TellsBlank words before now status = TellsBlankBy (run_of words) words before now status
+TellsBlank words before now status = TellsBlankBy (command_of words) words before now status

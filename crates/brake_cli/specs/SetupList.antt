@@ -1,5 +1,5 @@
 -- What the four files of `setups` give, and the first refusal.
-use Rattle.std.specs.Prelude.{◌≡◌, ℕ, List, take, codes, All, Option, Some, Result, Ok, Err}
+use Rattle.std.specs.Prelude.{◌≡◌, ℕ, List, take, codes, All, Some, Result, Ok, Err}
 use Rattle.std.specs.List.{slice_get}
 use Rattle.toml_fields.specs.Results.{◌>>=◌}
 use Rattle.part_file.specs.Part.{PartData, IsPart}

@@ -94,13 +94,13 @@ pub data EndsTried (attempts : List AttemptData) : Status → List (List ℕ) �
   without : IsBest (tried_all attempts) None
       → EndsTried attempts status.NoPlan (no_plan_line ∷ [])
 
--- the answer to tried setups, with this as the first sheet
-pub record AnswersTried (name sheet : List ℕ) (attempts : List AttemptData) (answer : AnswerData)
+-- what is left to put once setups are tried, of which this is kept, with this as the first sheet
+pub record AnswersTried (sheet : List ℕ) (kept : List AttemptData) (answer : AnswerData)
     : Type 0 where
   pub ending : List (List ℕ)
-  pub ends : EndsTried attempts answer.status ending
-  pub stores : answer.stored ≡ all_stored name attempts
-  pub texts : answer.texts ≡ sheet ∷ try_lines attempts ∷ ending
+  pub ends : EndsTried kept answer.status ending
+  pub stores : answer.stored ≡ []
+  pub texts : answer.texts ≡ sheet ∷ try_lines kept ∷ ending
 
 -- the answer once all setups of the list are tried: a certificate is stored for each that has a
 -- choice of pieces

@@ -1,23 +1,36 @@
 //! The setups of a list, each tried in turn.
-ghost use Rattle.std.specs.Prelude.{◌≡◌, ◌≤◌, map, option_map, length, IfOk};
-ghost use Rattle.std.specs.List.{AllZip};
+ghost use Rattle.std.specs.Prelude.{◌≡◌, ◌⊎◌, ◌≤◌, ◌++◌, ◌∷◌, [], Some, map, option_map, length, string_bytes, All, IfOk, OnOk, OnErr, IsErrOf};
+ghost use Rattle.brake_io.specs.Rose.{Rose};
+ghost use Rattle.brake_io.specs.Meanings.{NoCountFalls};
+ghost use Rattle.plan_cert.specs.Cert.{cert_data};
+ghost use Rattle.setup_choice.specs.declared.outcome.Fit.TheVariants.{Ready};
 ghost use Rattle.setup_choice.specs.Best.{IsBest};
+ghost use Rattle.command_runner.specs.Fetching.{HasDueCall};
+ghost use Rattle.command_runner.specs.Delivery.{AreStored, AreStoredUpTo};
+ghost use Rattle.command_runner.specs.Ends.{StoresBeginning};
 ghost use Rattle.brake_cli.specs.SetupStops.{fitted_data};
 ghost use Rattle.brake_cli.specs.Attempts.{planned_data, attempt_data, PlannedData, IsPlannedJob, IsPlannedAs, IsAttemptOf, IsPlannedAt, tried_of, tried_all};
+ghost use Rattle.brake_cli.specs.SetupsAnswer.{numbered_name, stored_at};
+ghost use Rattle.brake_cli.specs.Begun.{StoresPlanned, StoresPart, StoresTried, IsTriedBeginning};
 
 use crate::plan::least_cert;
 use crate::setup_list::FittedSetup;
-use brake_base::Name;
+use arrayvec::ArrayVec;
+use brake_base::{Name, Step, Worth};
+use brake_io::{Shelf, StoreFault};
+use command_runner::{StoredText, store_all};
 use job_setup::Job;
-use plan_cert::Cert;
+use plan_cert::{Cert, write_cert};
 use setup_choice::{Fit, Tried, best};
 use std::alloc::{AllocError, Global};
 
-/// A job, and a certificate of the least cost of its plans or of there being none.
+/// What is kept of a planned job once its certificate is stored: the claim, which is the least cost
+/// of a plan or that there is none, and the steps.
 #[derive(Drop)]
 pub struct PlannedJob {
     pub job: Job,
-    pub cert: Cert,
+    pub claim: Worth,
+    pub steps: ArrayVec<Step, 12>,
 }
 
 /// A setup that was tried: its name, and its planned job, where the stock has a choice of pieces.
@@ -27,38 +40,133 @@ pub struct Attempt {
     pub planned: Option<PlannedJob>,
 }
 
-/// Plans a job.
-fn plan_job(alloc: Global, job: &Job) -> Result<PlannedJob, AllocError>
-    ensures job { IfOk result (λ planned. planned.job ≡ job.now) }
-    ensures proves { IfOk result (λ planned. IsPlannedJob (planned_data planned)) }
+/// NAME.I: the name, a full stop and a number.
+fn numbered_name(alloc: Global, name: &str, place: u8) -> Result<String, AllocError>
+    ensures { IfOk result (λ text. string_bytes text ≡ numbered_name name.now place) }
+{
+    let mut text = String::from_str(alloc, name)?;
+    text.push_str(".")?;
+    text.push_str(itoa::Buffer::new().format(place))?;
+    Ok(text)
+}
+
+/// Stores the text of a certificate under the name of its setup's place.
+fn store_cert<H: Shelf>(
+    alloc: Global,
+    name: &str,
+    place: u8,
+    job: &Job,
+    cert: &Cert,
+    shelf: &mut H,
+) -> Result<(), StoreFault>
+    requires { IsPlannedJob (record { job = job.now; cert = cert_data cert.now }) }
+    ensures ok { OnOk result (AreStored
+        (stored_at name.now place (Some (record { job = job.now; cert = cert_data cert.now })))
+        (H.state shelf.old) (H.state shelf.new)) }
+    ensures err { OnErr result ((H.state shelf.new ≡ H.state shelf.old) ⊎ AreStoredUpTo
+        (stored_at name.now place (Some (record { job = job.now; cert = cert_data cert.now })))
+        (H.state shelf.old) (H.state shelf.new)) }
+    ensures never_falls { NoCountFalls (H.state shelf.old) (H.state shelf.new) }
+    ensures faults { OnOk result ((H.state shelf.new).faults ≡ (H.state shelf.old).faults) }
+    ensures failed { IsErrOf result StoreFault.Failed →
+        Rose (H.state shelf.old).faults (H.state shelf.new).faults }
+    ensures cause { IsErrOf result StoreFault.Failed →
+        HasDueCall (H.state shelf.old) (H.state shelf.new) }
+{
+    let name = numbered_name(alloc, name, place)?;
+    let text = write_cert(alloc, job, cert)?;
+    store_all(&[StoredText { name, text }], shelf)
+}
+
+/// Plans a job, and stores the certificate.
+fn plan_job<H: Shelf>(
+    alloc: Global,
+    name: &str,
+    place: u8,
+    job: &Job,
+    shelf: &mut H,
+) -> Result<PlannedJob, StoreFault>
+    ensures ok { IfOk result (λ planned.
+        StoresPlanned name.now place (Ready job.now) (Some (planned_data planned))
+        (H.state shelf.old) (H.state shelf.new)) }
+    ensures err { OnErr result
+        (StoresPart name.now place (Ready job.now) (H.state shelf.old) (H.state shelf.new)) }
+    ensures never_falls { NoCountFalls (H.state shelf.old) (H.state shelf.new) }
+    ensures failed { IsErrOf result StoreFault.Failed →
+        Rose (H.state shelf.old).faults (H.state shelf.new).faults }
+    ensures cause { IsErrOf result StoreFault.Failed →
+        HasDueCall (H.state shelf.old) (H.state shelf.new) }
 {
     let job = job.copy();
     let cert = least_cert(alloc, &job)?;
-    Ok(PlannedJob { job, cert })
+    store_cert(alloc, name, place, &job, &cert, shelf)?;
+    let Cert { claim, steps, .. } = cert;
+    Ok(PlannedJob { job, claim, steps })
 }
 
-/// Plans the job of a setup, where the stock has a choice of pieces.
-fn plan_fit(alloc: Global, fit: &Fit) -> Result<Option<PlannedJob>, AllocError>
-    ensures { IfOk result (λ planned. IsPlannedAs fit.now (option_map planned_data planned)) }
+/// Plans the job of a setup, where the stock has a choice of pieces, and stores the certificate.
+fn plan_fit<H: Shelf>(
+    alloc: Global,
+    name: &str,
+    place: u8,
+    fit: &Fit,
+    shelf: &mut H,
+) -> Result<Option<PlannedJob>, StoreFault>
+    ensures ok { IfOk result (λ planned.
+        StoresPlanned name.now place fit.now (option_map planned_data planned)
+        (H.state shelf.old) (H.state shelf.new)) }
+    ensures err { OnErr result
+        (StoresPart name.now place fit.now (H.state shelf.old) (H.state shelf.new)) }
+    ensures never_falls { NoCountFalls (H.state shelf.old) (H.state shelf.new) }
+    ensures failed { IsErrOf result StoreFault.Failed →
+        Rose (H.state shelf.old).faults (H.state shelf.new).faults }
+    ensures cause { IsErrOf result StoreFault.Failed →
+        HasDueCall (H.state shelf.old) (H.state shelf.new) }
 {
     match fit {
-        Fit::Ready(job) => Ok(Some(plan_job(alloc, job)?)),
+        Fit::Ready(job) => Ok(Some(plan_job(alloc, name, place, job, shelf)?)),
         Fit::Short => Ok(None),
     }
 }
 
-/// Tries each of some setups, in order.
-pub fn try_all(alloc: Global, fits: &[FittedSetup]) -> Result<Vec<Attempt>, AllocError>
-    ensures { IfOk result (λ attempts. AllZip IsAttemptOf (map fitted_data fits.now)
-        (map attempt_data attempts.items)) }
+/// Appends what is kept of a tried setup.
+fn keep(
+    attempts: &mut Vec<Attempt>,
+    name: Name,
+    planned: Option<PlannedJob>,
+) -> Result<(), AllocError>
+    ensures { OnOk result (map attempt_data attempts.new.items ≡ map attempt_data attempts.old.items
+        ++ record { name = name.bytes; planned = option_map planned_data planned } ∷ []) }
+{
+    attempts.push(Attempt { name, planned })?;
+    Ok(())
+}
+
+/// Tries some setups in order. The certificate of each is stored, and then dropped, before the next
+/// is tried.
+pub fn try_all<H: Shelf>(
+    alloc: Global,
+    name: &str,
+    fits: &[FittedSetup],
+    shelf: &mut H,
+) -> Result<Vec<Attempt>, StoreFault>
+    requires { length fits.now ≤ 16 }
+    ensures ok { IfOk result (λ attempts.
+        StoresTried name.now (map fitted_data fits.now) (map attempt_data attempts.items)
+        (H.state shelf.old) (H.state shelf.new)) }
+    ensures err { OnErr result
+        (StoresBeginning (IsTriedBeginning name.now (map fitted_data fits.now))
+        (H.state shelf.old) (H.state shelf.new)) }
+    ensures never_falls { NoCountFalls (H.state shelf.old) (H.state shelf.new) }
+    ensures failed { IsErrOf result StoreFault.Failed →
+        Rose (H.state shelf.old).faults (H.state shelf.new).faults }
+    ensures cause { IsErrOf result StoreFault.Failed →
+        HasDueCall (H.state shelf.old) (H.state shelf.new) }
 {
     let mut attempts = Vec::new(alloc);
-    for fitted in fits {
-        let planned = plan_fit(alloc, &fitted.fit)?;
-        attempts.push(Attempt {
-            name: fitted.name,
-            planned,
-        })?;
+    for (place, fitted) in fits.iter().enumerate() {
+        let planned = plan_fit(alloc, name, place as u8, &fitted.fit, shelf)?;
+        keep(&mut attempts, fitted.name, planned)?;
     }
     Ok(attempts)
 }
@@ -69,7 +177,7 @@ impl Attempt {
         ensures { result ≡ tried_of (attempt_data self.now).planned }
     {
         match &self.planned {
-            Some(planned) => Tried::Planned(planned.cert.claim),
+            Some(planned) => Tried::Planned(planned.claim),
             None => Tried::Short,
         }
     }

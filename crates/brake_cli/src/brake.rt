@@ -2,13 +2,13 @@
 ghost use Rattle.std.specs.Prelude.{◌≡◌, List, ℕ, [], map, string_bytes};
 ghost use Rattle.command_runner.specs.Delivery.{Outside};
 ghost use Rattle.command_runner.specs.Ends.{Ends, IsOutcome, CountsFault, MayFault};
-ghost use Rattle.brake_cli.specs.Forms.{run_of};
-ghost use Rattle.brake_cli.specs.Run.{form_for, meaning_for, RunEnds, RunOutcome, TellsBlank};
+ghost use Rattle.brake_cli.specs.Forms.{command_of};
+ghost use Rattle.brake_cli.specs.Run.{form_for, meaning_for, begins_for, RunEnds, RunOutcome, TellsBlank};
 ghost use Rattle.brake_cli.specs.Headline.{HasHeadline};
 ghost use Rattle.brake_cli.specs.Complete.{IsComplete};
 ghost use Rattle.brake_cli.specs.Confirmed.{ConfirmsHeld};
 
-use crate::command::command_to_run;
+use crate::command::read_words;
 use crate::usage::usage;
 use brake_io::{Shelf, Sink};
 use command_runner::{Status, deliver, run};
@@ -16,7 +16,7 @@ use std::alloc::Global;
 
 /// Puts the usage text.
 fn put_usage<H: Shelf, K: Sink>(alloc: Global, shelf: &mut H, out: &mut K) -> Status
-    ensures ends { (words : List (List ℕ)) → Ends [] (meaning_for None) words
+    ensures ends { (words : List (List ℕ)) → Ends [] (meaning_for None) (begins_for None) words
         (record { shelf = H.state shelf.old; sink = K.state out.old })
         (record { shelf = H.state shelf.new; sink = K.state out.new }) result }
     ensures fault { result ≡ Status.Fault → CountsFault
@@ -35,15 +35,17 @@ fn put_usage<H: Shelf, K: Sink>(alloc: Global, shelf: &mut H, out: &mut K) -> St
 /// Runs the command whose words these are: `blank PART TOOLS` puts the blank sheet, and `plan PART
 /// TOOLS MACHINE CERT` stores the certificate of a plan of least cost and puts the sheets; `check
 /// CERT`, with the files of a job or without, puts what the certificate proves; `trial N` plans a
-/// generated job and checks the certificate. Words of no form, and those of a command that isn't
-/// built, are answered by the usage text before anything is fetched.
+/// generated job and checks the certificate; `why` and `setups` put what refuses a bend, and the
+/// cheapest setup; `settle`, `merge` and `prove` store and check tables. Words of no form are
+/// answered by the usage text before anything is fetched.
 pub fn brake<H: Shelf, K: Sink>(
     alloc: Global,
     words: &[String],
     shelf: &mut H,
     out: &mut K,
 ) -> Status
-    // The run stores and puts an answer that the words and the files have, or is cut short.
+    // The run stores and puts an answer that the words and the files have, or is cut short: without
+    // an answer only `setups` has stored anything, which is a beginning of its certificates.
     ensures ends { RunEnds (map string_bytes words.now)
         (record { shelf = H.state shelf.old; sink = K.state out.old })
         (record { shelf = H.state shelf.new; sink = K.state out.new }) result }
@@ -57,7 +59,7 @@ pub fn brake<H: Shelf, K: Sink>(
         (record { shelf = H.state shelf.old; sink = K.state out.old })
         (record { shelf = H.state shelf.new; sink = K.state out.new }) }
     ensures cause { result ≡ Status.Fault →
-        MayFault (form_for (run_of (map string_bytes words.now))) (map string_bytes words.now)
+        MayFault (form_for (command_of (map string_bytes words.now))) (map string_bytes words.now)
         (record { shelf = H.state shelf.old; sink = K.state out.old })
         (record { shelf = H.state shelf.new; sink = K.state out.new }) }
     // Where the shelf tells what it holds, that determines what `blank` answers.
@@ -77,7 +79,7 @@ pub fn brake<H: Shelf, K: Sink>(
         (record { shelf = H.state shelf.old; sink = K.state out.old })
         (record { shelf = H.state shelf.new; sink = K.state out.new }) result }
 {
-    match command_to_run(words) {
+    match read_words(words) {
         Some(command) => run(alloc, &command, words, shelf, out),
         None => put_usage(alloc, shelf, out),
     }

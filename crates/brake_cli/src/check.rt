@@ -1,5 +1,5 @@
 //! What `check` answers.
-ghost use Rattle.std.specs.Prelude.{◌≡◌, ◌↔◌, ◌≤◌, length, map, codes, Ok, IfOk, IsTrue};
+ghost use Rattle.std.specs.Prelude.{◌≡◌, ◌≤◌, length, map, codes, Ok, IfOk};
 ghost use Rattle.std.specs.Vec.{vec_items};
 ghost use Rattle.plan_cert.specs.Lines.{text_line};
 ghost use Rattle.cert_check.specs.FaultWords.{check_fault_words};
@@ -8,13 +8,13 @@ ghost use Rattle.command_runner.specs.Answers.{answer_data};
 ghost use Rattle.command_runner.specs.Delivery.{IsCutShort};
 ghost use Rattle.brake_cli.specs.CheckAnswer.{optimal_line, IsClaim, verdict_answer, IsCertRefusal, other_job, other_job_line, IsAnswerOf, IsTextAnswer, IsCheckAnswer, IsAnswerFor, IsCheckFilesAnswer};
 
-use crate::job_files::{content_at, job_at};
+use crate::job_files::{content_at, is_one_job, job_at};
 use crate::refusal::stopped;
 use brake_text::put_word;
 use cert_check::{CheckFault, Checked, Verdict, check};
 use command_runner::{Answer, Status};
 use job_setup::Job;
-use plan_cert::{put_count, write_job};
+use plan_cert::put_count;
 use std::alloc::{AllocError, Global};
 
 /// The line of a least cost.
@@ -100,16 +100,6 @@ pub fn answer(alloc: Global, contents: &[Vec<u8>]) -> Result<Answer, AllocError>
     ensures status { IfOk result (λ answer. ¬ IsCutShort answer.status) }
 {
     answer_of_text(alloc, content_at(contents, 0))
-}
-
-/// Whether two jobs are one, as they are where they have one text.
-fn is_one_job(alloc: Global, job: &Job, other: &Job) -> Result<bool, AllocError>
-    ensures { IfOk result (λ same. IsTrue same ↔ (job.now ≡ other.now)) }
-{
-    other.recall_valid();
-    let text = write_job(alloc, job)?;
-    let other_text = write_job(alloc, other)?;
-    Ok(text.as_slice() == other_text.as_slice())
 }
 
 /// The answer of an accepted certificate, which is to be of this job.

@@ -1,13 +1,19 @@
 //! The commands: what the words say, and what they answer.
-ghost use Rattle.std.specs.Prelude.{◌≡◌, IfOk, IfSome, IsTrue, map, string_bytes};
+ghost use Rattle.std.specs.Prelude.{◌≡◌, ◌↔◌, IfOk, IfSome, IsTrue, Some, length, map, string_bytes, false};
+ghost use Rattle.std.specs.Vec.{vec_items};
 ghost use Rattle.command_runner.specs.Answers.{answer_data};
+ghost use Rattle.command_runner.specs.Delivery.{IsCutShort};
+ghost use Rattle.command_runner.specs.Fetching.{file_words};
 ghost use Rattle.command_runner.specs.Kinds.{is_form};
-ghost use Rattle.brake_cli.specs.Forms.{kinds_of, form_of, read_by, command_of, is_built, run_of};
-ghost use Rattle.brake_cli.specs.Commands.{meaning_of};
+ghost use Rattle.brake_cli.specs.Forms.{kinds_of, form_of, read_by, command_of};
+ghost use Rattle.brake_cli.specs.Commands.{meaning_of, stores_in_turn};
+ghost use Rattle.brake_cli.specs.SetupsWords.{AreSetupsWords};
+ghost use Rattle.brake_cli.specs.declared.command.Command.TheVariants.{Setups};
 
 use crate::form::{FORMS, Form};
-use crate::usage::usage;
-use crate::{blank, check, plan, setups, trial, why};
+use crate::settle::Range;
+use crate::{blank, check, merge, plan, prove, settle, setups, trial, why};
+use brake_io::{Shelf, StoreFault};
 use command_runner::{Answer, WordKind, is_form, word_at};
 use std::alloc::{AllocError, Global};
 
@@ -93,42 +99,20 @@ impl Command {
         }
     }
 
-    /// Whether the command is built.
-    fn is_built(self) -> bool
-        ensures { result ≡ is_built self }
-    {
-        matches!(
-            self,
-            Command::Blank { .. }
-                | Command::Plan { .. }
-                | Command::Check { .. }
-                | Command::CheckFiles { .. }
-                | Command::Trial { .. }
-                | Command::Why { .. }
-                | Command::Setups { .. }
-        )
-    }
-}
-
-impl command_runner::Command for Command {
-    ghost use Rattle.brake_cli.specs.Forms.{kinds_of, form_of};
-    ghost use Rattle.brake_cli.specs.Commands.{meaning_of};
-
-    ghost form = { λ command. kinds_of (form_of command) };
-
-    ghost meaning = { meaning_of };
-
-    fn kinds(&self) -> &'static [WordKind] {
-        self.form().kinds()
-    }
-
-    fn answer(
-        &self,
+    /// The answer of a command that stores nothing before it has it.
+    fn answer_at_once(
+        self,
         alloc: Global,
         words: &[String],
         contents: &[Vec<u8>],
-    ) -> Result<Answer, AllocError> {
-        match *self {
+    ) -> Result<Answer, AllocError>
+        requires count { length contents.now ≡ length (file_words (kinds_of (form_of self))) }
+        requires at_once { stores_in_turn self ≡ false }
+        ensures answer { IfOk result (λ answer. meaning_of self (map string_bytes words.now)
+            (map vec_items contents.now) (answer_data answer)) }
+        ensures status { IfOk result (λ answer. ¬ IsCutShort answer.status) }
+    {
+        match self {
             Command::Blank { .. } => blank::answer(alloc, contents),
             Command::Plan { cert, budget, .. } => {
                 plan::answer(alloc, word_at(words, cert), budget, contents)
@@ -137,8 +121,58 @@ impl command_runner::Command for Command {
             Command::CheckFiles { .. } => check::answer_with_files(alloc, contents),
             Command::Trial { n } => trial::answer(alloc, n),
             Command::Why { .. } => why::answer(alloc, contents),
-            Command::Setups { cert, .. } => setups::answer(alloc, word_at(words, cert), contents),
-            _ => usage(alloc),
+            Command::Setups { .. } => unreachable!(),
+            Command::Settle {
+                out,
+                low,
+                high,
+                base: None,
+                ..
+            } => settle::answer(alloc, word_at(words, out), Range { low, high }, contents),
+            Command::Settle {
+                out,
+                low,
+                high,
+                base: Some(_),
+                ..
+            } => settle::answer_with_base(
+                alloc,
+                word_at(words, out),
+                Range { low, high },
+                contents,
+            ),
+            Command::Merge { out, .. } => merge::answer(alloc, word_at(words, out), contents),
+            Command::Prove { .. } => prove::answer(alloc, contents),
+        }
+    }
+}
+
+impl command_runner::Command for Command {
+    ghost use Rattle.brake_cli.specs.Forms.{kinds_of, form_of};
+    ghost use Rattle.brake_cli.specs.Commands.{meaning_of, begins_of};
+
+    ghost form = { λ command. kinds_of (form_of command) };
+
+    ghost meaning = { meaning_of };
+
+    ghost begins = { begins_of };
+
+    fn kinds(&self) -> &'static [WordKind] {
+        self.form().kinds()
+    }
+
+    fn answer<H: Shelf>(
+        &self,
+        alloc: Global,
+        words: &[String],
+        contents: &[Vec<u8>],
+        shelf: &mut H,
+    ) -> Result<Answer, StoreFault> {
+        match *self {
+            Command::Setups { cert, .. } => {
+                setups::answer(alloc, word_at(words, cert), contents, shelf)
+            }
+            _ => Ok(self.answer_at_once(alloc, words, contents)?),
         }
     }
 }
@@ -168,25 +202,8 @@ pub fn read_words(words: &[String]) -> Option<Command>
     ensures value { result ≡ command_of (map string_bytes words.now) }
     ensures form { IfSome result (λ command.
         IsTrue (is_form (kinds_of (form_of command)) (map string_bytes words.now))) }
+    ensures setups { result ≡ Some (Setups 1 2 3 4 5)
+        ↔ AreSetupsWords (map string_bytes words.now) }
 {
     read_by(&FORMS, words)
-}
-
-/// The command that is run for the words. None where they say none, or one that isn't built.
-#[tactic(auto, unfolding(crate::specs::Forms::run_of))]
-pub fn command_to_run(words: &[String]) -> Option<Command>
-    ensures value { result ≡ run_of (map string_bytes words.now) }
-    ensures form { IfSome result (λ command.
-        IsTrue (is_form (kinds_of (form_of command)) (map string_bytes words.now))) }
-{
-    match read_words(words) {
-        Some(command) => {
-            if command.is_built() {
-                Some(command)
-            } else {
-                None
-            }
-        }
-        None => None,
-    }
 }

@@ -1,5 +1,5 @@
-//! The job of three files.
-ghost use Rattle.std.specs.Prelude.{◌≡◌, ◌+◌, ◌<◌, ◌≤◌, length, map};
+//! The job of three files, and whether two jobs are one.
+ghost use Rattle.std.specs.Prelude.{◌≡◌, ◌↔◌, ◌+◌, ◌<◌, ◌≤◌, length, map, IfOk, IsTrue};
 ghost use Rattle.std.specs.Vec.{vec_items};
 ghost use Rattle.job_setup.specs.JobOf.{job_of};
 ghost use Rattle.command_runner.specs.Fetching.{word_at};
@@ -9,7 +9,8 @@ use crate::refusal::{ReadStop, Refusal};
 use job_setup::{Job, make_job};
 use machine_file::read_machine;
 use part_file::read_part;
-use std::alloc::Global;
+use plan_cert::write_job;
+use std::alloc::{AllocError, Global};
 use tool_library::read_tools;
 
 /// The job of a part's file, a tools file and a machine file, or the first refusal: of the part, of
@@ -44,4 +45,14 @@ pub fn job_at(alloc: Global, contents: &[Vec<u8>], place: usize) -> Result<Job, 
     let tools = content_at(contents, place + 1);
     let machine = content_at(contents, place + 2);
     read_job(alloc, part, tools, machine)
+}
+
+/// Whether two jobs are one, as they are where they have one text.
+pub fn is_one_job(alloc: Global, job: &Job, other: &Job) -> Result<bool, AllocError>
+    ensures { IfOk result (λ same. IsTrue same ↔ (job.now ≡ other.now)) }
+{
+    other.recall_valid();
+    let text = write_job(alloc, job)?;
+    let other_text = write_job(alloc, other)?;
+    Ok(text.as_slice() == other_text.as_slice())
 }

@@ -12,14 +12,21 @@ mod check_tests;
 mod command;
 mod form;
 mod job_files;
+mod merge;
 mod plan;
 #[cfg(test)]
 mod plan_tests;
+mod prove;
 mod refusal;
+mod settle;
 mod setup_list;
 mod setups;
 #[cfg(test)]
 mod setups_tests;
+mod table_answer;
+mod table_check;
+#[cfg(test)]
+mod tables_tests;
 #[cfg(test)]
 mod test_runs;
 mod trial;

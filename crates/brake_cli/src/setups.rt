@@ -1,78 +1,36 @@
 //! What `setups` answers.
-ghost use Rattle.std.specs.Prelude.{◌≡◌, ◌≤◌, ◌++◌, ◌∷◌, [], Ok, length, map, string_bytes, All, IfOk, OnOk};
+ghost use Rattle.std.specs.Prelude.{◌≡◌, ◌⊎◌, ◌≤◌, ◌++◌, ◌∷◌, [], Ok, length, map, All, IfOk, OnOk, OnErr, IsErrOf};
 ghost use Rattle.std.specs.List.{AllZip};
 ghost use Rattle.std.specs.Vec.{vec_items};
+ghost use Rattle.brake_io.specs.Rose.{Rose};
+ghost use Rattle.brake_io.specs.Meanings.{NoCountFalls};
+ghost use Rattle.handling_cost.specs.Plan.{start};
+ghost use Rattle.setup_sheet.specs.OrderSheet.{AreSteps};
 ghost use Rattle.plan_cert.specs.Lines.{spaced};
 ghost use Rattle.setup_choice.specs.Setups.{IsSetups};
 ghost use Rattle.setup_choice.specs.Fitting.{part_fits};
-ghost use Rattle.command_runner.specs.Answers.{stored_data, answer_data};
+ghost use Rattle.command_runner.specs.Answers.{answer_data};
+ghost use Rattle.command_runner.specs.Fetching.{HasDueCall};
 ghost use Rattle.command_runner.specs.Delivery.{IsCutShort};
+ghost use Rattle.command_runner.specs.Ends.{StoresFirst, StoresBeginning};
 ghost use Rattle.brake_cli.specs.PlanAnswer.{no_plan_line};
 ghost use Rattle.brake_cli.specs.SetupList.{IsJobFiles};
 ghost use Rattle.brake_cli.specs.SetupStops.{job_files_data, list_data, fitted_data, IsFitted};
-ghost use Rattle.brake_cli.specs.Attempts.{attempt_data, planned_data, IsPlannedJob, IsPlannedWell, HasPlan};
-ghost use Rattle.brake_cli.specs.SetupsAnswer.{numbered_name, stored_of, all_stored, cost_word, try_line, try_lines, best_line, best_texts, IsBlankSheetIn, AnswersTried, IsTriedAnswer, IsListAnswer, IsSetupsAnswer};
+ghost use Rattle.brake_cli.specs.Attempts.{attempt_data, planned_data, IsKept};
+ghost use Rattle.brake_cli.specs.SetupsAnswer.{cost_word, try_line, try_lines, best_line, best_texts, IsBlankSheetIn, AnswersTried, IsTriedAnswer, IsListAnswer, IsSetupsAnswer};
+ghost use Rattle.brake_cli.specs.Begun.{IsListBeginning, IsSetupsBeginning};
 
 use crate::attempts::{Attempt, PlannedJob, cheapest, planned_at, try_all};
-use crate::plan::last_text;
 use crate::setup_list::{FittedSetup, JobFiles, SetupList, fit_all, list_at, setups_stopped};
 use allowance::find;
 use brake_base::Name;
+use brake_io::{Shelf, StoreFault};
 use brake_text::put_word;
-use command_runner::{Answer, Status, StoredText};
-use plan_cert::{put_count, put_worth, write_cert};
-use setup_sheet::{blank_sheet, setup_sheet};
+use command_runner::{Answer, Status};
+use plan_cert::{put_count, put_worth};
+use setup_sheet::{blank_sheet, order_sheet, setup_sheet};
 use std::alloc::{AllocError, Global};
 use unfolder::unfold;
-
-/// NAME.I: the name, a full stop and a number.
-fn numbered_name(alloc: Global, name: &str, place: u8) -> Result<String, AllocError>
-    ensures { IfOk result (λ text. string_bytes text ≡ numbered_name name.now place) }
-{
-    let mut text = String::from_str(alloc, name)?;
-    text.push_str(".")?;
-    text.push_str(itoa::Buffer::new().format(place))?;
-    Ok(text)
-}
-
-/// Appends what is stored of a tried setup: the text of its certificate, if it has one.
-fn push_stored(
-    alloc: Global,
-    stored: &mut Vec<StoredText>,
-    name: &str,
-    place: u8,
-    attempt: &Attempt,
-) -> Result<(), AllocError>
-    requires { IsPlannedWell (attempt_data attempt.now) }
-    ensures { OnOk result (map stored_data stored.new.items ≡ map stored_data stored.old.items
-        ++ stored_of name.now (place, attempt_data attempt.now)) }
-{
-    if let Some(planned) = &attempt.planned {
-        stored.push(StoredText {
-            name: numbered_name(alloc, name, place)?,
-            text: write_cert(alloc, &planned.job, &planned.cert)?,
-        })?;
-    }
-    Ok(())
-}
-
-/// What is stored of all tried setups.
-fn all_stored(
-    alloc: Global,
-    name: &str,
-    attempts: &[Attempt],
-) -> Result<Vec<StoredText>, AllocError>
-    requires few { length attempts.now ≤ 16 }
-    requires proves { All IsPlannedWell (map attempt_data attempts.now) }
-    ensures { IfOk result (λ stored. map stored_data stored.items
-        ≡ all_stored name.now (map attempt_data attempts.now)) }
-{
-    let mut stored = Vec::new(alloc);
-    for (place, attempt) in attempts.iter().enumerate() {
-        push_stored(alloc, &mut stored, name, place as u8, attempt)?;
-    }
-    Ok(stored)
-}
 
 /// A name behind a space.
 #[tactic(auto, using(plan_cert::proofs::Texts::pieces))]
@@ -86,12 +44,12 @@ fn put_name(out: &mut Vec<u8>, name: &Name) -> Result<(), AllocError>
 /// The cost of a tried setup; `none` where it has no plan, `short` where it has no choice of
 /// pieces.
 fn put_cost(out: &mut Vec<u8>, attempt: &Attempt) -> Result<(), AllocError>
-    requires { IsPlannedWell (attempt_data attempt.now) }
+    requires { IsKept (attempt_data attempt.now) }
     ensures { OnOk result (out.new.items
         ≡ out.old.items ++ spaced (cost_word (attempt_data attempt.now).planned)) }
 {
     match &attempt.planned {
-        Some(planned) => put_worth(out, planned.cert.claim),
+        Some(planned) => put_worth(out, planned.claim),
         None => put_word(out, b" short"),
     }
 }
@@ -99,7 +57,7 @@ fn put_cost(out: &mut Vec<u8>, attempt: &Attempt) -> Result<(), AllocError>
 /// The line of a tried setup.
 #[tactic(auto, using(plan_cert::proofs::Texts::pieces), unfolding(crate::specs::SetupsAnswer::try_line))]
 fn put_try(out: &mut Vec<u8>, place: u8, attempt: &Attempt) -> Result<(), AllocError>
-    requires { IsPlannedWell (attempt_data attempt.now) }
+    requires { IsKept (attempt_data attempt.now) }
     ensures { OnOk result (out.new.items
         ≡ out.old.items ++ try_line (place, attempt_data attempt.now)) }
 {
@@ -113,7 +71,7 @@ fn put_try(out: &mut Vec<u8>, place: u8, attempt: &Attempt) -> Result<(), AllocE
 /// A line for each tried setup, in order.
 fn try_lines(alloc: Global, attempts: &[Attempt]) -> Result<Vec<u8>, AllocError>
     requires few { length attempts.now ≤ 16 }
-    requires proves { All IsPlannedWell (map attempt_data attempts.now) }
+    requires kept { All IsKept (map attempt_data attempts.now) }
     ensures { IfOk result (λ lines. lines.items ≡ try_lines (map attempt_data attempts.now)) }
 {
     let mut out = Vec::new(alloc);
@@ -143,8 +101,7 @@ fn texts_with_best(
     place: u8,
     planned: &PlannedJob,
 ) -> Result<Vec<Vec<u8>>, AllocError>
-    requires proves { IsPlannedJob (planned_data planned.now) }
-    requires has_plan { HasPlan (planned_data planned.now) }
+    requires { AreSteps planned.now.job start planned.now.steps.items }
     ensures { IfOk result (λ texts. map vec_items texts.items
         ≡ sheet.items ∷ tries.items ∷ best_texts place (planned_data planned.now)) }
 {
@@ -153,7 +110,7 @@ fn texts_with_best(
     texts.push(tries)?;
     texts.push(best_line(alloc, place)?)?;
     texts.push(setup_sheet(alloc, &planned.job)?)?;
-    texts.push(last_text(alloc, &planned.job, &planned.cert)?)?;
+    texts.push(order_sheet(alloc, &planned.job, planned.steps.as_slice())?)?;
     Ok(texts)
 }
 
@@ -190,80 +147,112 @@ fn blank_sheet_of(alloc: Global, files: &JobFiles) -> Result<Vec<u8>, AllocError
     }
 }
 
-/// The answer to the setups that were tried, with this as the first sheet.
-fn tried_answer(
-    alloc: Global,
-    name: &str,
-    sheet: Vec<u8>,
-    attempts: &[Attempt],
-) -> Result<Answer, AllocError>
+/// What is left to put once the setups are tried, with this as the first sheet.
+fn tried_answer(alloc: Global, sheet: Vec<u8>, attempts: &[Attempt]) -> Result<Answer, AllocError>
     requires few { length attempts.now ≤ 16 }
-    requires proves { All IsPlannedWell (map attempt_data attempts.now) }
+    requires kept { All IsKept (map attempt_data attempts.now) }
     ensures answer { IfOk result (λ answer.
-        AnswersTried name.now sheet.items (map attempt_data attempts.now) (answer_data answer)) }
+        AnswersTried sheet.items (map attempt_data attempts.now) (answer_data answer)) }
     ensures status { IfOk result (λ answer. ¬ IsCutShort answer.status) }
 {
-    let stored = all_stored(alloc, name, attempts)?;
     let tries = try_lines(alloc, attempts)?;
     let best = cheapest(alloc, attempts)?;
     match best {
         Some(place) => Ok(Answer {
-            stored,
+            stored: Vec::new(alloc),
             status: Status::Done,
             texts: texts_with_best(alloc, sheet, tries, place, planned_at(attempts, place))?,
         }),
         None => Ok(Answer {
-            stored,
+            stored: Vec::new(alloc),
             status: Status::NoPlan,
             texts: texts_without_plan(alloc, sheet, tries)?,
         }),
     }
 }
 
-/// The answer to a list whose setups fit so.
-fn fitted_answer(
+/// The answer to a list whose setups fit so. Each certificate is stored before the next is made.
+fn fitted_answer<H: Shelf>(
     alloc: Global,
     name: &str,
     list: &SetupList,
     fits: &[FittedSetup],
-) -> Result<Answer, AllocError>
+    shelf: &mut H,
+) -> Result<Answer, StoreFault>
     requires files { IsJobFiles (list_data list.now).files }
     requires setups { IsSetups (list_data list.now).setups }
     requires fits { AllZip (IsFitted (list_data list.now).files) (list_data list.now).setups
         (map fitted_data fits.now) }
     ensures answer { IfOk result (λ answer.
-        IsTriedAnswer name.now (list_data list.now) (answer_data answer)) }
+        StoresFirst (IsTriedAnswer name.now (list_data list.now)) (answer_data answer)
+        (H.state shelf.old) (H.state shelf.new)) }
     ensures status { IfOk result (λ answer. ¬ IsCutShort answer.status) }
+    ensures begins { OnErr result ((H.state shelf.new ≡ H.state shelf.old)
+        ⊎ StoresBeginning (IsListBeginning name.now (list_data list.now))
+        (H.state shelf.old) (H.state shelf.new)) }
+    ensures never_falls { NoCountFalls (H.state shelf.old) (H.state shelf.new) }
+    ensures failed { IsErrOf result StoreFault.Failed →
+        Rose (H.state shelf.old).faults (H.state shelf.new).faults }
+    ensures cause { IsErrOf result StoreFault.Failed →
+        HasDueCall (H.state shelf.old) (H.state shelf.new) }
 {
     let sheet = blank_sheet_of(alloc, &list.files)?;
-    let attempts = try_all(alloc, fits)?;
-    tried_answer(alloc, name, sheet, attempts.as_slice())
+    let attempts = try_all(alloc, name, fits, shelf)?;
+    Ok(tried_answer(alloc, sheet, attempts.as_slice())?)
 }
 
 /// The answer to a list of setups, which is that of these contents.
-fn list_answer(alloc: Global, name: &str, list: &SetupList) -> Result<Answer, AllocError>
+fn list_answer<H: Shelf>(
+    alloc: Global,
+    name: &str,
+    list: &SetupList,
+    shelf: &mut H,
+) -> Result<Answer, StoreFault>
     requires files { IsJobFiles (list_data list.now).files }
     requires setups { IsSetups (list_data list.now).setups }
     ensures answer { IfOk result (λ answer.
-        IsListAnswer name.now (list_data list.now) (answer_data answer)) }
+        StoresFirst (IsListAnswer name.now (list_data list.now)) (answer_data answer)
+        (H.state shelf.old) (H.state shelf.new)) }
     ensures status { IfOk result (λ answer. ¬ IsCutShort answer.status) }
+    ensures begins { OnErr result ((H.state shelf.new ≡ H.state shelf.old)
+        ⊎ StoresBeginning (IsListBeginning name.now (list_data list.now))
+        (H.state shelf.old) (H.state shelf.new)) }
+    ensures never_falls { NoCountFalls (H.state shelf.old) (H.state shelf.new) }
+    ensures failed { IsErrOf result StoreFault.Failed →
+        Rose (H.state shelf.old).faults (H.state shelf.new).faults }
+    ensures cause { IsErrOf result StoreFault.Failed →
+        HasDueCall (H.state shelf.old) (H.state shelf.new) }
 {
     match fit_all(alloc, &list.files, list.setups.list.as_slice()) {
-        Ok(fits) => fitted_answer(alloc, name, list, fits.as_slice()),
-        Err(stop) => setups_stopped(alloc, stop),
+        Ok(fits) => fitted_answer(alloc, name, list, fits.as_slice(), shelf),
+        Err(stop) => Ok(setups_stopped(alloc, stop)?),
     }
 }
 
 /// The answer to the contents of the part's file, the tools file, the machine file and the setups
-/// file.
-pub fn answer(alloc: Global, name: &str, contents: &[Vec<u8>]) -> Result<Answer, AllocError>
+/// file. Its certificates are stored here, each before the next setup is tried.
+pub fn answer<H: Shelf>(
+    alloc: Global,
+    name: &str,
+    contents: &[Vec<u8>],
+    shelf: &mut H,
+) -> Result<Answer, StoreFault>
     requires { length contents.now ≡ 4 }
     ensures answer { IfOk result (λ answer.
-        IsSetupsAnswer name.now (map vec_items contents.now) (answer_data answer)) }
+        StoresFirst (IsSetupsAnswer name.now (map vec_items contents.now)) (answer_data answer)
+        (H.state shelf.old) (H.state shelf.new)) }
     ensures status { IfOk result (λ answer. ¬ IsCutShort answer.status) }
+    ensures begins { OnErr result ((H.state shelf.new ≡ H.state shelf.old)
+        ⊎ StoresBeginning (IsSetupsBeginning name.now (map vec_items contents.now))
+        (H.state shelf.old) (H.state shelf.new)) }
+    ensures never_falls { NoCountFalls (H.state shelf.old) (H.state shelf.new) }
+    ensures failed { IsErrOf result StoreFault.Failed →
+        Rose (H.state shelf.old).faults (H.state shelf.new).faults }
+    ensures cause { IsErrOf result StoreFault.Failed →
+        HasDueCall (H.state shelf.old) (H.state shelf.new) }
 {
     match list_at(alloc, contents) {
-        Ok(list) => list_answer(alloc, name, &list),
-        Err(stop) => setups_stopped(alloc, stop),
+        Ok(list) => list_answer(alloc, name, &list, shelf),
+        Err(stop) => Ok(setups_stopped(alloc, stop)?),
     }
 }

@@ -50,7 +50,7 @@ fn usage_text(alloc: Global) -> Result<Vec<u8>, AllocError>
     Ok(text)
 }
 
-/// The answer to words that have no form, and to those of a command that isn't built.
+/// The answer to words that have no form.
 pub fn usage(alloc: Global) -> Result<Answer, AllocError>
     ensures answer { IfOk result (λ answer. answer_data answer ≡ usage) }
     ensures status { IfOk result (λ answer. answer.status ≡ Status.Usage) }

@@ -4,7 +4,7 @@ ghost use Rattle.std.specs.Process.{exit_status};
 ghost use Rattle.std.specs.Vec.Iter.{into_iter_items};
 ghost use Rattle.command_runner.specs.Delivery.{Outside};
 ghost use Rattle.command_runner.specs.Ends.{CountsFault, MayFault};
-ghost use Rattle.brake_cli.specs.Forms.{run_of};
+ghost use Rattle.brake_cli.specs.Forms.{command_of};
 ghost use Rattle.brake_cli.specs.Run.{form_for, RunEnds, RunOutcome, TellsBlank};
 ghost use Rattle.brake_cli.specs.Headline.{HasHeadline};
 ghost use Rattle.brake_cli.specs.Complete.{IsComplete};
@@ -73,7 +73,7 @@ pub fn run_program<H: Shelf, K: Sink>(
         (record { shelf = H.state shelf.old; sink = K.state out.old })
         (record { shelf = H.state shelf.new; sink = K.state out.new }) }
     ensures cause { result ≡ Status.Fault →
-        MayFault (form_for (run_of (words_of args))) (words_of args)
+        MayFault (form_for (command_of (words_of args))) (words_of args)
         (record { shelf = H.state shelf.old; sink = K.state out.old })
         (record { shelf = H.state shelf.new; sink = K.state out.new }) }
     ensures told { TellsBlank (words_of args)

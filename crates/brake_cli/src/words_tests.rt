@@ -1,4 +1,4 @@
-//! Words that have no form, words that have one, and commands that aren't built.
+//! Words that have no form, and words that have one.
 
 use crate::command::{Command, read_words};
 use crate::test_runs::{run, words_of};
@@ -165,17 +165,10 @@ fn words_without_and_with_a_form(rt: HostRuntime) -> Result<(), Fail> {
     Ok(())
 }
 
-/// Words of commands that aren't built.
-const NOT_BUILT: [&[&str]; 3] = [
-    &["settle", "part", "tools", "machine", "out", "0", "1"],
-    &["merge", "one", "two", "out"],
-    &["prove", "one"],
-];
-
 #[test]
 fn usage_before_anything_is_fetched(rt: HostRuntime) -> Result<(), Fail> {
     let alloc = rt.alloc();
-    for words in NO_FORM.iter().chain(NOT_BUILT.iter()) {
+    for words in NO_FORM {
         let mut shelf = MemShelf::new(alloc);
         shelf.fail_at(1)?;
         let mut out = MemSink::new(alloc);

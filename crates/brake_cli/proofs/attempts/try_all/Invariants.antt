@@ -1,9 +1,13 @@
 use Rattle.std.proofs.Common.{map, take}
-use Rattle.std.specs.List.{AllZip}
+use Rattle.brake_io.specs.Meanings.{NoCountFalls}
 use Rattle.brake_cli.specs.SetupStops.{fitted_data}
-use Rattle.brake_cli.specs.Attempts.{attempt_data, IsAttemptOf}
+use Rattle.brake_cli.specs.Attempts.{attempt_data}
+use Rattle.brake_cli.specs.Begun.{StoresTried}
 use Rattle.brake_cli.proofs.attempts.try_all.Given as goal
 
--- those so far
-abbrev pub invariant-loop-fitted : goal.invariant-loop-fitted
-invariant-loop-fitted l = AllZip IsAttemptOf (map fitted_data (take l.fitted-index l.fits)) (map attempt_data l.attempts.items)
+-- those so far are tried, and their certificates stored
+abbrev pub invariant-loop-place : goal.invariant-loop-place
+invariant-loop-place g l = record {
+  tried : StoresTried l.name (take l.place (map fitted_data l.fits)) (map attempt_data l.attempts.items) (g.H.Shelf.state l.initial.shelf) (g.H.Shelf.state l.shelf);
+  falls : NoCountFalls (g.H.Shelf.state l.initial.shelf) (g.H.Shelf.state l.shelf);
+}

@@ -1,6 +1,6 @@
 use Rattle.std.proofs.Common.{◌≡◌, Some, None, sym, map, string_bytes}
 use Rattle.command_runner.proofs.Outcomes.{outcome_of}
-use Rattle.brake_cli.specs.Forms.{run_of}
+use Rattle.brake_cli.specs.Forms.{command_of}
 use Rattle.brake_cli.proofs.Answering.{run_tells}
 use Rattle.brake_cli.proofs.Headlines.{run_headline}
 use Rattle.brake_cli.proofs.Complete.{run_complete}
@@ -9,11 +9,11 @@ use Rattle.brake_cli.proofs.brake.brake.Goals as goal
 
 pub returns-in-Some-clause-ends : goal.returns-in-Some-clause-ends
 returns-in-Some-clause-ends g c =
-    let some : run_of (map string_bytes c.args.words.now) ≡ Some c.in-Some.command = sym c.in-Some.ensures.value in
+    let some : command_of (map string_bytes c.args.words.now) ≡ Some c.in-Some.command = sym c.in-Some.ensures.value in
     rw some c.run.ensures.ends
 
 pub returns-in-Some-clause-outcome : goal.returns-in-Some-clause-outcome
-returns-in-Some-clause-outcome g c = outcome_of _ _ _ _ _ _ (returns-in-Some-clause-ends g c)
+returns-in-Some-clause-outcome g c = outcome_of _ _ _ _ _ _ _ (returns-in-Some-clause-ends g c)
 
 pub returns-in-Some-clause-told : goal.returns-in-Some-clause-told
 returns-in-Some-clause-told g c = run_tells _ _ _ _ _ (returns-in-Some-clause-outcome g c)
@@ -29,16 +29,16 @@ returns-in-Some-clause-confirms g c = run_confirms _ _ _ _ _ (returns-in-Some-cl
 
 pub returns-in-None-clause-ends : goal.returns-in-None-clause-ends
 returns-in-None-clause-ends g c =
-    let none : run_of (map string_bytes c.args.words.now) ≡ None = sym c.in-None.ensures.value in
+    let none : command_of (map string_bytes c.args.words.now) ≡ None = sym c.in-None.ensures.value in
     rw none (c.put_usage.ensures.ends (map string_bytes c.args.words.now))
 
 pub returns-in-None-clause-cause : goal.returns-in-None-clause-cause
 returns-in-None-clause-cause g c = λ fault.
-    let none : run_of (map string_bytes c.args.words.now) ≡ None = sym c.in-None.ensures.value in
+    let none : command_of (map string_bytes c.args.words.now) ≡ None = sym c.in-None.ensures.value in
     rw none (c.put_usage.ensures.cause (map string_bytes c.args.words.now) fault)
 
 pub returns-in-None-clause-outcome : goal.returns-in-None-clause-outcome
-returns-in-None-clause-outcome g c = outcome_of _ _ _ _ _ _ (returns-in-None-clause-ends g c)
+returns-in-None-clause-outcome g c = outcome_of _ _ _ _ _ _ _ (returns-in-None-clause-ends g c)
 
 pub returns-in-None-clause-told : goal.returns-in-None-clause-told
 returns-in-None-clause-told g c = run_tells _ _ _ _ _ (returns-in-None-clause-outcome g c)

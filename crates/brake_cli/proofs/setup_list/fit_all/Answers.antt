@@ -1,8 +1,7 @@
-use Rattle.std.proofs.Common.{refl, map, take, sym, subst, List}
-use Rattle.std.specs.Prelude.{All}
+use Rattle.std.proofs.Common.{refl, map, take}
 use Rattle.std.proofs.lemmas.List.{take-map}
 use Rattle.job_setup.proofs.Lists.{all_at}
-use Rattle.setup_choice.specs.Setups.{one_setup_data, OneSetupData, IsOneSetup}
+use Rattle.setup_choice.specs.Setups.{one_setup_data, IsOneSetup}
 use Rattle.brake_cli.specs.SetupStops.{job_files_data, fitted_data, IsFitted}
 use Rattle.brake_cli.proofs.NumberedLists.{zipped_next, seen_in}
 use Rattle.brake_cli.proofs.Trying.{all_stand}

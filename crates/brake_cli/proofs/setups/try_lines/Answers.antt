@@ -1,12 +1,12 @@
 use Rattle.std.proofs.Common.{add-one}
 use Rattle.job_setup.proofs.Lists.{all_at}
-use Rattle.brake_cli.specs.Attempts.{attempt_data, IsPlannedWell}
+use Rattle.brake_cli.specs.Attempts.{attempt_data, IsKept}
 use Rattle.brake_cli.specs.SetupsAnswer.{try_line}
 use Rattle.brake_cli.proofs.NumberedLists.{placed_next}
 use Rattle.brake_cli.proofs.setups.try_lines.Goals as goal
 
 pub put_try-requires : goal.put_try-requires
-put_try-requires c = all_at IsPlannedWell attempt_data c.args.attempts.now c.loop-place.place c.index-attempts-place.result c.requires.proves c.loop-place-test.true c.index-attempts-place.is
+put_try-requires c = all_at IsKept attempt_data c.args.attempts.now c.loop-place.place c.index-attempts-place.result c.requires.kept c.loop-place-test.true c.index-attempts-place.is
 
 pub loop-place-preserved : goal.loop-place-preserved
 loop-place-preserved c =

@@ -22,7 +22,7 @@ pub returns-in-Err-clause-ends : goal.returns-in-Err-clause-ends
 returns-in-Err-clause-ends g c = stops (inr refl) (record { content = refl; calls = omega arith }) refl
 
 pub returns-in-Ok-clause-outcome : goal.returns-in-Ok-clause-outcome
-returns-in-Ok-clause-outcome g c = outcome_of _ _ _ _ _ _ (returns-in-Ok-clause-ends g c)
+returns-in-Ok-clause-outcome g c = outcome_of _ _ _ _ _ _ _ (returns-in-Ok-clause-ends g c)
 
 pub returns-in-Ok-clause-told : goal.returns-in-Ok-clause-told
 returns-in-Ok-clause-told g c = run_tells _ _ _ _ _ (returns-in-Ok-clause-outcome g c)
@@ -37,7 +37,7 @@ pub returns-in-Ok-clause-confirms : goal.returns-in-Ok-clause-confirms
 returns-in-Ok-clause-confirms g c = run_confirms _ _ _ _ _ (returns-in-Ok-clause-outcome g c)
 
 pub returns-in-Err-clause-outcome : goal.returns-in-Err-clause-outcome
-returns-in-Err-clause-outcome g c = outcome_of _ _ _ _ _ _ (returns-in-Err-clause-ends g c)
+returns-in-Err-clause-outcome g c = outcome_of _ _ _ _ _ _ _ (returns-in-Err-clause-ends g c)
 
 pub returns-in-Err-clause-told : goal.returns-in-Err-clause-told
 returns-in-Err-clause-told g c = run_tells _ _ _ _ _ (returns-in-Err-clause-outcome g c)

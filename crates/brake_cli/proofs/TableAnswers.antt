@@ -1,0 +1,121 @@
+-- From what the calls on tables say to what the commands answer.
+use Rattle.std.proofs.Common.{◌≡◌, ◌⊎◌, inl, inr, ℕ, List, [], Ok, Err, arith, sym, subst}
+use Rattle.std.specs.Prelude.{codes}
+use Rattle.brake_base.specs.Keys.{KeyIsBefore}
+use Rattle.job_setup.specs.Setup.{JobData}
+use Rattle.job_setup.specs.ValidJob.{IsJob}
+use Rattle.sweep_check.proofs.Ascending.{pairs_nil}
+use Rattle.plan_cert.specs.WellFormed.{NoteIsBefore}
+use Rattle.plan_cert.specs.declared.item.CertFault.{CertFault}
+use Rattle.plan_cert.specs.declared.item.CertFault.TheVariants as cert
+use Rattle.cert_merge.specs.declared.checked.TableFault.{TableFault}
+use Rattle.cert_merge.specs.Table.{TableData, TableFileData, IsTable, IsClosedTable}
+use Rattle.cert_merge.specs.TableTexts.{table_file_of, empty_table, IsTextOfTable}
+use Rattle.cert_merge.specs.TableChecks.{IsTableFault}
+use Rattle.cert_merge.specs.Merged.{IsMerged, KeepsForm, KeepsClosed}
+use Rattle.cert_merge.specs.Settled.{IsSettled, StaysClosed, ProvesLeast}
+use Rattle.cert_merge.proofs.TableChecking.{closed_is_true}
+use Rattle.command_runner.specs.declared.status.Status.TheVariants as status
+use Rattle.command_runner.specs.Answers.{AnswerData, one_text, refusal}
+use Rattle.brake_cli.specs.declared.table_check.TableStop.{TableStop}
+use Rattle.brake_cli.specs.declared.table_check.TableStop.TheVariants as stop
+use Rattle.brake_cli.specs.TableCheck.{TableChecksTo, table_refused_line, AnswersTable}
+use Rattle.brake_cli.specs.TableStops.{of_cert_fault, of_table_fault, ChecksTable, IsTableRefusalAnd}
+use Rattle.brake_cli.specs.TableAnswer.{IsTrueTable, stored_table_answer, AnswersOneJob}
+use Rattle.brake_cli.specs.MergeAnswer.{IsMergedAnswer}
+use Rattle.brake_cli.specs.SettleAnswer.{IsRange, AnswersRange, IsSettledAnswer}
+
+-- a table's text is that of a table of its job
+pub table_of_text : (file : TableFileData) (text : List ℕ) → IsTextOfTable file text → IsTable file.job file.table
+table_of_text file text is = record { valid = is.valid; rows = is.rows }
+
+-- a table without rows
+pub empty_is_table : (job : JobData) → IsJob job → IsTable job empty_table
+empty_is_table job valid = record {
+  valid = valid;
+  rows = record {
+    each_row = λ k d within. absurd (omega (arith, within));
+    row_order = pairs_nil KeyIsBefore;
+    each_note = λ k d within. absurd (omega (arith, within));
+    note_order = pairs_nil NoteIsBefore;
+  };
+}
+
+pub empty_is_closed : (job : JobData) → IsClosedTable job empty_table
+empty_is_closed job key worth (i, at) action here = absurd cc
+
+-- the stop at a text that is no table's, unless memory ran out
+abbrev NoTable : List ℕ → CertFault → Type 0
+NoTable text fault = (file : TableFileData) → IsTextOfTable file text → ⊥
+
+-- of two, the one that there is
+other_than : {A B : Type 0} → (A → ⊥) → A ⊎ B → B
+other_than never (inl a) = absurd (never a)
+other_than never (inr b) = b
+
+pub text_stopped : (text : List ℕ) (fault : CertFault) → (fault ≡ cert.NoMemory) ⊎ NoTable text fault → (fault ≡ cert.NoMemory) ⊎ (table_file_of text ≡ Err fault) → ChecksTable text (Err (of_cert_fault fault))
+text_stopped text (cert.BadLine line) none first = record { none = other_than (λ e. cc) none; first = other_than (λ e. cc) first }
+text_stopped text cert.Unended none first = record { none = other_than (λ e. cc) none; first = other_than (λ e. cc) first }
+text_stopped text cert.Trailing none first = record { none = other_than (λ e. cc) none; first = other_than (λ e. cc) first }
+text_stopped text cert.BadJob none first = record { none = other_than (λ e. cc) none; first = other_than (λ e. cc) first }
+text_stopped text cert.NoMemory none first = tt
+
+-- the stop at a table that isn't closed
+pub rows_stopped : (file : TableFileData) (text : List ℕ) (fault : TableFault) → IsTextOfTable file text → IsTableFault file.job file.table fault → (IsClosedTable file.job file.table → ⊥) → ChecksTable text (Err (of_table_fault fault))
+rows_stopped file text fault written first not_closed = record { file = file; written = written; not_closed = not_closed; first = first }
+
+-- the answer to a table that is accepted
+pub table_accepted : (place : ℕ) (P : TableFileData → AnswerData → Type 0) (text : List ℕ) (file : TableFileData) (answer : AnswerData) → TableChecksTo text (Ok file) → P file answer → AnswersTable place P text answer
+table_accepted place P text file answer checks is = (Ok file, checks, is)
+
+-- and to one that is refused
+pub table_refused : (place : ℕ) (P : TableFileData → AnswerData → Type 0) (text : List ℕ) (why : TableStop) (answer : AnswerData) → ChecksTable text (Err why)
+    → IsTableRefusalAnd why (λ refusal. answer ≡ one_text status.CertRefused (table_refused_line place refusal)) → AnswersTable place P text answer
+table_refused place P text (stop.Refused refusal) answer checks told = (Err refusal, checks, told)
+table_refused place P text stop.NoMemory answer checks told = absurd told
+
+-- what is told of a closed table is true
+pub true_table : (job : JobData) (table : TableData) → IsTable job table → IsClosedTable job table → IsTrueTable job table
+true_table job table form closed = record { form = form; closed = closed; truth = closed_is_true job table form closed }
+
+-- the answer to two tables of one job
+pub one_job_answers : (job other : JobData) (P : AnswerData → Type 0) (answer : AnswerData) → job ≡ other → P answer → AnswersOneJob job other P answer
+one_job_answers job other P answer same is = inl (same, is)
+
+-- and to two of different jobs
+pub other_job_answers : (job other : JobData) (P : AnswerData → Type 0) (answer : AnswerData) → (job ≡ other → ⊥) → answer ≡ refusal status.CertRefused (codes "table refused job") [] → AnswersOneJob job other P answer
+other_job_answers job other P answer differ is = inr (differ, is)
+
+-- the merge of two true tables of one job is one too
+pub merged_true : (job : JobData) (a b merged : TableData) → IsTrueTable job a → IsTrueTable job b → KeepsForm a b merged → KeepsClosed a b merged → IsTrueTable job merged
+merged_true job a b merged first second form closed =
+    true_table job merged (form job first.form second.form) (closed job first.form second.form first.closed second.closed)
+
+-- the answer by the merge of two tables of one job
+pub merged_answers : (name : List ℕ) (a b : TableFileData) (merged : TableData) (answer : AnswerData) → a.job ≡ b.job → IsTrueTable a.job a.table → IsTrueTable b.job b.table → IsMerged a.table b.table merged
+    → KeepsForm a.table b.table merged → KeepsClosed a.table b.table merged → answer ≡ stored_table_answer name a.job merged → IsMergedAnswer name a b answer
+merged_answers name a b merged answer same first second is_merged form closed is = record {
+  merged = merged;
+  is_merged = is_merged;
+  tells = merged_true a.job a.table b.table merged first (subst (λ (j : JobData). IsTrueTable j b.table) (sym same) second) form closed;
+  is_answer = is;
+}
+
+-- the answer by what is settled over a closed base
+pub settled_answers : (name : List ℕ) (low high : ℕ) (base : TableData) (job : JobData) (settled : TableData) (answer : AnswerData) → IsClosedTable job base → IsSettled job base low high settled → IsTable job settled
+    → StaysClosed job base settled → ProvesLeast job base low high settled → answer ≡ stored_table_answer name job settled → IsSettledAnswer name low high base job answer
+settled_answers name low high base job settled answer base_closed is_settled form closed least is = record {
+  settled = settled;
+  is_settled = is_settled;
+  tells = true_table job settled form (closed base_closed);
+  least = least;
+  is_answer = is;
+}
+
+-- the answer to a range of the job's sets
+pub range_answers : (low high : ℕ) (P : JobData → AnswerData → Type 0) (job : JobData) (answer : AnswerData) → IsRange low high job → P job answer → AnswersRange low high P job answer
+range_answers low high P job answer range is = inl (range, is)
+
+-- and to one that isn't
+pub no_range_answers : (low high : ℕ) (P : JobData → AnswerData → Type 0) (job : JobData) (answer : AnswerData) → (IsRange low high job → ⊥) → answer ≡ refusal status.Refused (codes "refused range") [] → AnswersRange low high P job answer
+no_range_answers low high P job answer none is = inr (none, is)

@@ -1,0 +1,31 @@
+-- Why the check of a table's file stops early.
+use Rattle.std.specs.Prelude.{ℕ, List, Result, Ok, Err}
+use Rattle.plan_cert.specs.declared.item.CertFault.{CertFault}
+use Rattle.plan_cert.specs.declared.item.CertFault.TheVariants as cert
+use Rattle.cert_merge.specs.declared.checked.TableFault.{TableFault}
+use Rattle.cert_merge.specs.declared.table.TableFile.{TableFile}
+use Rattle.cert_merge.specs.Table.{table_file_data}
+use Rattle.brake_cli.specs.declared.table_check.TableRefusal.{TableRefusal}
+use Rattle.brake_cli.specs.declared.table_check.TableRefusal.TheVariants.{Text, Rows}
+use Rattle.brake_cli.specs.declared.table_check.TableStop.{TableStop}
+use Rattle.brake_cli.specs.declared.table_check.TableStop.TheVariants.{Refused, NoMemory}
+use Rattle.brake_cli.specs.TableCheck.{TableChecksTo}
+
+-- the stop that a refusal of each step is
+abbrev pub of_cert_fault : CertFault → TableStop
+of_cert_fault cert.NoMemory = NoMemory
+of_cert_fault fault = Refused (Text fault)
+
+abbrev pub of_table_fault : TableFault → TableStop
+of_table_fault fault = Refused (Rows fault)
+
+-- a job and its table, or a refusal, is what the check of the text comes to, unless memory ran out
+abbrev pub ChecksTable : List ℕ → Result TableFile TableStop → Type 0
+ChecksTable text (Ok file) = TableChecksTo text (Ok (table_file_data file))
+ChecksTable text (Err (Refused refusal)) = TableChecksTo text (Err refusal)
+ChecksTable text (Err NoMemory) = Unit {0}
+
+-- it is a refusal, and this holds of it
+abbrev pub IsTableRefusalAnd : TableStop → (TableRefusal → Type 0) → Type 0
+IsTableRefusalAnd (Refused refusal) P = P refusal
+IsTableRefusalAnd NoMemory P = ⊥

@@ -1,0 +1,188 @@
+//! What `settle` answers.
+ghost use Rattle.std.specs.Prelude.{◌≡◌, ◌↔◌, ◌+◌, ◌^◌, ◌<◌, ◌≤◌, [], codes, length, map, IfOk, IsTrue};
+ghost use Rattle.std.specs.Vec.{vec_items};
+ghost use Rattle.job_setup.specs.Setup.{bend_count};
+ghost use Rattle.cert_merge.specs.Table.{table_data, table_file_data, IsTable, IsClosedTable};
+ghost use Rattle.cert_merge.specs.TableTexts.{empty_table};
+ghost use Rattle.command_runner.specs.declared.status.Status.TheVariants as status;
+ghost use Rattle.command_runner.specs.Answers.{answer_data, refusal};
+ghost use Rattle.command_runner.specs.Fetching.{word_at};
+ghost use Rattle.command_runner.specs.Delivery.{IsCutShort};
+ghost use Rattle.brake_cli.specs.TableCheck.{AnswersTable};
+ghost use Rattle.brake_cli.specs.TableAnswer.{IsTrueTable};
+ghost use Rattle.brake_cli.specs.SettleAnswer.{IsRange, AnswersRange, IsSettledAnswer, AnswersBase, IsSettleAnswer, IsSettleOverAnswer};
+
+use crate::job_files::{content_at, is_one_job, job_at};
+use crate::refusal::stopped;
+use crate::table_answer::{other_job, stored_table_answer};
+use crate::table_check::{checked_table, table_stopped};
+use cert_merge::{Table, TableFile, settle};
+use command_runner::{Answer, Status, refusal};
+use job_setup::Job;
+use std::alloc::{AllocError, Global};
+
+/// A range of sets of bends, as numbers.
+#[derive(Clone, Copy, Debug, PartialEq, Eq)]
+pub struct Range {
+    pub low: u16,
+    pub high: u16,
+}
+
+impl Range {
+    /// Whether it is in order, and each set leaves a bend of the job unfolded.
+    fn is_of(self, job: &Job) -> bool
+        ensures { IsTrue result ↔ IsRange self.low self.high job.now }
+    {
+        self.low <= self.high && u32::from(self.high) + 1 < 1 << job.bends()
+    }
+}
+
+/// The answer that the range isn't one of the job's sets.
+fn range_refused(alloc: Global) -> Result<Answer, AllocError>
+    ensures answer { IfOk result (λ answer. answer_data answer
+        ≡ refusal status.Refused (codes "refused range") []) }
+    ensures status { IfOk result (λ answer. ¬ IsCutShort answer.status) }
+{
+    refusal(alloc, Status::Refused, b"refused range", &[])
+}
+
+/// A table without rows.
+fn no_rows(alloc: Global) -> Table
+    ensures { table_data result ≡ empty_table }
+{
+    Table {
+        rows: Vec::new(alloc),
+        notes: Vec::new(alloc),
+    }
+}
+
+/// The answer to a range of a job over a closed base.
+fn settled_answer(
+    alloc: Global,
+    name: &str,
+    range: Range,
+    base: &Table,
+    job: &Job,
+) -> Result<Answer, AllocError>
+    requires range { IsRange range.low range.high job.now }
+    requires base { IsTable job.now (table_data base.now) }
+    requires closed { IsClosedTable job.now (table_data base.now) }
+    ensures answer { IfOk result (λ answer. IsSettledAnswer name.now range.low range.high
+        (table_data base.now) job.now (answer_data answer)) }
+    ensures status { IfOk result (λ answer. ¬ IsCutShort answer.status) }
+{
+    let settled = settle(alloc, job, base, range.low, range.high)?;
+    stored_table_answer(alloc, name, job, &settled)
+}
+
+/// The answer to a range of a job over a closed table, which is to be of this job.
+fn answer_to_base(
+    alloc: Global,
+    name: &str,
+    range: Range,
+    job: &Job,
+    base: &TableFile,
+) -> Result<Answer, AllocError>
+    requires range { IsRange range.low range.high job.now }
+    requires base { IsTrueTable base.now.job (table_data base.now.table) }
+    ensures answer { IfOk result (λ answer. AnswersBase name.now range.low range.high job.now
+        (table_file_data base.now) (answer_data answer)) }
+    ensures status { IfOk result (λ answer. ¬ IsCutShort answer.status) }
+{
+    let same = is_one_job(alloc, &base.job, job)?;
+    if same {
+        settled_answer(alloc, name, range, &base.table, job)
+    } else {
+        other_job(alloc)
+    }
+}
+
+/// The answer to a range of a job over the table of a text.
+fn answer_over(
+    alloc: Global,
+    name: &str,
+    range: Range,
+    text: &[u8],
+    job: &Job,
+) -> Result<Answer, AllocError>
+    requires { IsRange range.low range.high job.now }
+    ensures answer { IfOk result (λ answer. AnswersTable 5
+        (AnswersBase name.now range.low range.high job.now) text.now (answer_data answer)) }
+    ensures status { IfOk result (λ answer. ¬ IsCutShort answer.status) }
+{
+    match checked_table(alloc, text) {
+        Ok(base) => answer_to_base(alloc, name, range, job, &base),
+        Err(stop) => table_stopped(alloc, 5, stop),
+    }
+}
+
+/// The answer to a job, over no base.
+fn answer_to_job(alloc: Global, name: &str, range: Range, job: &Job) -> Result<Answer, AllocError>
+    ensures answer { IfOk result (λ answer. AnswersRange range.low range.high
+        (IsSettledAnswer name.now range.low range.high empty_table) job.now
+        (answer_data answer)) }
+    ensures status { IfOk result (λ answer. ¬ IsCutShort answer.status) }
+{
+    job.recall_valid();
+    if range.is_of(job) {
+        settled_answer(alloc, name, range, &no_rows(alloc), job)
+    } else {
+        range_refused(alloc)
+    }
+}
+
+/// The answer to the contents of the part's file, the tools file and the machine file.
+pub fn answer(
+    alloc: Global,
+    name: &str,
+    range: Range,
+    contents: &[Vec<u8>],
+) -> Result<Answer, AllocError>
+    requires { length contents.now ≡ 3 }
+    ensures answer { IfOk result (λ answer. IsSettleAnswer name.now range.low range.high
+        (map vec_items contents.now) (answer_data answer)) }
+    ensures status { IfOk result (λ answer. ¬ IsCutShort answer.status) }
+{
+    match job_at(alloc, contents, 0) {
+        Ok(job) => answer_to_job(alloc, name, range, &job),
+        Err(stop) => stopped(alloc, stop),
+    }
+}
+
+/// The answer to a job and the text of the base's file.
+fn answer_to_job_over(
+    alloc: Global,
+    name: &str,
+    range: Range,
+    text: &[u8],
+    job: &Job,
+) -> Result<Answer, AllocError>
+    ensures answer { IfOk result (λ answer. AnswersRange range.low range.high
+        (λ job. AnswersTable 5 (AnswersBase name.now range.low range.high job) text.now) job.now
+        (answer_data answer)) }
+    ensures status { IfOk result (λ answer. ¬ IsCutShort answer.status) }
+{
+    if range.is_of(job) {
+        answer_over(alloc, name, range, text, job)
+    } else {
+        range_refused(alloc)
+    }
+}
+
+/// The answer to these and to the content of the base's file.
+pub fn answer_with_base(
+    alloc: Global,
+    name: &str,
+    range: Range,
+    contents: &[Vec<u8>],
+) -> Result<Answer, AllocError>
+    requires { length contents.now ≡ 4 }
+    ensures answer { IfOk result (λ answer. IsSettleOverAnswer name.now range.low range.high
+        (map vec_items contents.now) (answer_data answer)) }
+    ensures status { IfOk result (λ answer. ¬ IsCutShort answer.status) }
+{
+    match job_at(alloc, contents, 0) {
+        Ok(job) => answer_to_job_over(alloc, name, range, content_at(contents, 3), &job),
+        Err(stop) => stopped(alloc, stop),
+    }
+}

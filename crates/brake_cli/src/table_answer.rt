@@ -1,0 +1,108 @@
+//! What is told of a table.
+ghost use Rattle.std.specs.Prelude.{◌≡◌, ◌<◌, ◌≤◌, ◌^◌, [], codes, map, IfOk};
+ghost use Rattle.plan_cert.specs.WellFormed.{IsWorth};
+ghost use Rattle.cert_merge.specs.Table.{table_data, IsTable};
+ghost use Rattle.command_runner.specs.declared.status.Status.TheVariants as status;
+ghost use Rattle.command_runner.specs.Answers.{answer_data, stored_data, refusal};
+ghost use Rattle.command_runner.specs.Delivery.{IsCutShort};
+ghost use Rattle.brake_cli.specs.TableAnswer.{rows_line, at_least_line, proved_line, table_answer, stored_table_answer};
+
+use crate::plan::claim_status;
+use brake_base::Worth;
+use brake_text::put_word;
+use cert_merge::{Table, proved_at_start, write_table};
+use command_runner::{Answer, Status, StoredText, refusal};
+use job_setup::Job;
+use plan_cert::put_count;
+use std::alloc::{AllocError, Global};
+
+/// The line of a table's number of rows.
+#[tactic(auto, using(plan_cert::proofs::Texts::pieces), unfolding(crate::specs::TableAnswer::rows_line))]
+fn rows_line(alloc: Global, count: usize) -> Result<Vec<u8>, AllocError>
+    requires { count < 2 ^ 63 }
+    ensures { IfOk result (λ line. line.items ≡ rows_line count) }
+{
+    let mut out = Vec::new(alloc);
+    put_word(&mut out, b"rows")?;
+    put_count(&mut out, count as u64)?;
+    put_word(&mut out, b"\n")?;
+    Ok(out)
+}
+
+/// The line of what every plan costs at least.
+#[tactic(auto, using(plan_cert::proofs::Texts::pieces), unfolding(crate::specs::TableAnswer::at_least_line))]
+fn at_least_line(alloc: Global, cost: u64) -> Result<Vec<u8>, AllocError>
+    requires { cost ≤ 1000000000 }
+    ensures { IfOk result (λ line. line.items ≡ at_least_line cost) }
+{
+    let mut out = Vec::new(alloc);
+    put_word(&mut out, b"at least")?;
+    put_count(&mut out, cost)?;
+    put_word(&mut out, b"\n")?;
+    Ok(out)
+}
+
+/// The line of a worth that is proved of the start.
+#[tactic(auto, unfolding(crate::specs::PlanAnswer::no_plan_line))]
+fn proved_line(alloc: Global, worth: Worth) -> Result<Vec<u8>, AllocError>
+    requires { IsWorth worth }
+    ensures { IfOk result (λ line. line.items ≡ proved_line worth) }
+{
+    match worth {
+        Worth::Cost(cost) => at_least_line(alloc, cost),
+        Worth::Blocked => Vec::from_slice(alloc, b"no plan\n"),
+    }
+}
+
+/// The answer that tells a table's number of rows and what they prove of the start, and stores these
+/// texts.
+pub fn table_answer(
+    alloc: Global,
+    stored: Vec<StoredText>,
+    job: &Job,
+    table: &Table,
+) -> Result<Answer, AllocError>
+    requires { IsTable job.now (table_data table.now) }
+    ensures answer { IfOk result (λ answer. answer_data answer
+        ≡ table_answer (map stored_data stored.items) job.now (table_data table.now)) }
+    ensures status { IfOk result (λ answer. ¬ IsCutShort answer.status) }
+{
+    let worth = proved_at_start(job, table);
+    let mut texts = Vec::new(alloc);
+    texts.push(rows_line(alloc, table.rows.len())?)?;
+    texts.push(proved_line(alloc, worth)?)?;
+    Ok(Answer {
+        stored,
+        status: claim_status(worth),
+        texts,
+    })
+}
+
+/// The answer that also stores the table's text under this name.
+pub fn stored_table_answer(
+    alloc: Global,
+    name: &str,
+    job: &Job,
+    table: &Table,
+) -> Result<Answer, AllocError>
+    requires { IsTable job.now (table_data table.now) }
+    ensures answer { IfOk result (λ answer. answer_data answer
+        ≡ stored_table_answer name.now job.now (table_data table.now)) }
+    ensures status { IfOk result (λ answer. ¬ IsCutShort answer.status) }
+{
+    let mut stored = Vec::new(alloc);
+    stored.push(StoredText {
+        name: String::from_str(alloc, name)?,
+        text: write_table(alloc, job, table)?,
+    })?;
+    table_answer(alloc, stored, job, table)
+}
+
+/// The answer that a table is of another job.
+pub fn other_job(alloc: Global) -> Result<Answer, AllocError>
+    ensures answer { IfOk result (λ answer. answer_data answer
+        ≡ refusal status.CertRefused (codes "table refused job") []) }
+    ensures status { IfOk result (λ answer. ¬ IsCutShort answer.status) }
+{
+    refusal(alloc, Status::CertRefused, b"table refused job", &[])
+}
