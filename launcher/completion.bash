@@ -8,6 +8,8 @@ _brake() {
     mapfile -t COMPREPLY < <(compgen -W "$commands --help --version --path" -- "$word")
   elif [[ ${COMP_WORDS[1]} == plan && $COMP_CWORD == 6 ]]; then
     mapfile -t COMPREPLY < <(compgen -W '--budget' -- "$word")
+  elif [[ ${COMP_WORDS[1]} == settle && ($COMP_CWORD == 6 || $COMP_CWORD == 7) ]]; then
+    return
   else
     mapfile -t COMPREPLY < <(compgen -f -- "$word")
     compopt -o filenames 2>/dev/null

@@ -9,9 +9,9 @@ what_it_does() {
     trial) printf 'plans and checks the generated job of a number' ;;
     why) printf 'prints the reasons for refusing a bend that hold in many states' ;;
     setups) printf 'finds the cheapest setup of a list' ;;
-    settle) printf 'settles a range of states, and stores them as a table' ;;
-    merge) printf 'joins two tables' ;;
-    prove) printf 'prints what a table proves' ;;
+    settle) printf 'settles the states of a range of sets of bends, over the table BASE if one is given, and stores them as a table' ;;
+    merge) printf 'joins two tables of one job into one, which is the same in either order' ;;
+    prove) printf 'confirms or refuses a table, and prints what it proves of every plan' ;;
   esac
 }
 
@@ -24,6 +24,7 @@ built_commands() {
 what_the_words_are() {
   printf '\nPART, TOOLS and MACHINE are TOML files; CERT is stored by plan and read by check. All lengths are whole micrometres.\n'
   printf 'SETUPS is a TOML file too: a list of setups, whose certificates are stored as CERT.0 to CERT.15.\n'
+  printf 'OUT is a table that settle or merge stores, TABLE and BASE are such tables; LOW and HIGH are sets of bends as numbers.\n'
 }
 
 # A line for each command that is built.
@@ -36,7 +37,7 @@ print_help() {
   done < <(built_commands)
   what_the_words_are
   printf 'The exit status: 0 done, 1 no plan, 2 faulty words, 3 a file is refused, 4 the budget is used up, 5 a certificate\n'
-  printf 'is refused, 6 a file could not be read or stored, 7 no memory, 70 the launcher could not start the program.\n'
+  printf 'or a table is refused, 6 a file could not be read or stored, 7 no memory, 70 the launcher could not start the program.\n'
 }
 
 # The man page on standard input, with the commands that are built in the places that it keeps for them.

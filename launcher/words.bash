@@ -354,6 +354,21 @@ job_refusal() {
   esac
 }
 
+# `refused range`: the sets of bends are those of the part.
+range_refusal() {
+  local bends=-1 low=${words[5]} high=${words[6]}
+  [ -f "$part" ] && bends=$(($(count_tables "$part" face) - 1))
+  if ((low > high)); then
+    why="LOW = $low is above HIGH = $high"
+  elif ((bends > 0)); then
+    why="HIGH = $high isn't below $((2 ** bends - 1)), the set of all $bends bends of $part"
+  elif ((bends == 0)); then
+    why="$part has no bend, and so no set of bends to settle"
+  else
+    why="HIGH = $high isn't below the set of all bends"
+  fi
+}
+
 # `refused long K`.
 long_refusal() {
   local place=${files[$1 - 1]} limit=1,048,576
@@ -430,7 +445,7 @@ tell_file_refusal() {
   esac
   case "$kind $1" in
     'long '*) long_refusal "$1" ;;
-    range\ *) why="LOW is above HIGH, or HIGH isn't below the set of all bends" ;;
+    range\ *) range_refusal ;;
     job\ *) job_refusal "$@" ;;
     setups\ 6) setup=$2 && job_refusal "${@:3}" ;;
     *\ 1)
@@ -481,31 +496,66 @@ step_fault() {
   esac
 }
 
-row_fault() {
+# The row's index and the action's number, of a reason that doesn't hold and of an action that isn't closed.
+wrong_note() {
   local line
-  line=$(nth_line row $(($2 + 1)))
-  if [ "$1" = 4 ]; then
-    why="the note of $(action_words "$3") at line ${line%%:*} \"${line#*:}\": its reason doesn't hold"
-  else
-    why="line ${line%%:*} \"${line#*:}\": $(action_words "$3") has no note there, and would cost less than the row says"
-  fi
+  line=$(nth_line row $(($1 + 1)))
+  why="the note of $(action_words "$2") at line ${line%%:*} \"${line#*:}\": its reason doesn't hold"
+}
+
+not_closed() {
+  local line
+  line=$(nth_line row $(($1 + 1)))
+  why="line ${line%%:*} \"${line#*:}\": $(action_words "$2") has no note there, and would cost less than the row says"
+}
+
+# What the reader refuses of a certificate or a table.
+reader_refusal() {
+  case "$1" in
+    1) why="line $2 may not stand there, or is spelled otherwise: \"$(sed -n "$2{p;q}" -- "$cert")\"" ;;
+    2) why='it ends before its line "end"' ;;
+    3) why='something follows its line "end"' ;;
+    4) why='the lines of its job are no valid job' ;;
+  esac
 }
 
 tell_cert_refusal() {
   local why='' line
-  case "$1 ${2-}" in
-    'job '*) say "$cert is accepted, but the job that it holds isn't that of the three files"; return ;;
-    '1 1') why="line $3 may not stand there, or is spelled otherwise: \"$(sed -n "$3{p;q}" -- "$cert")\"" ;;
-    '1 2') why='it ends before its line "end"' ;;
-    '1 3') why='something follows its line "end"' ;;
-    '1 4') why='the lines of its job are no valid job' ;;
-    '2 '*) line=$(nth_line step $(($2 + 1))); why="line ${line%%:*} \"${line#*:}\", step $(($2 + 1)): $(step_fault "${@:3}")" ;;
-    '8 '*) why='its steps leave a bend unfolded' ;;
-    '3 '*) why='the costs of its steps do not sum up to its claim' ;;
-    '4 '* | '5 '*) row_fault "$@" ;;
-    '6 '*) why='its rows prove less than its claim' ;;
+  case "$1" in
+    job) say "$cert is accepted, but the job that it holds isn't that of the three files"; return ;;
+    1) reader_refusal "${@:2}" ;;
+    2) line=$(nth_line step $(($2 + 1))); why="line ${line%%:*} \"${line#*:}\", step $(($2 + 1)): $(step_fault "${@:3}")" ;;
+    8) why='its steps leave a bend unfolded' ;;
+    3) why='the costs of its steps do not sum up to its claim' ;;
+    4) wrong_note "${@:2}" ;;
+    5) not_closed "${@:2}" ;;
+    6) why='its rows prove less than its claim' ;;
   esac
   [ -n "$why" ] && say "$cert: $why ($docs/certificate.md, What a checker does)"
+}
+
+tell_other_job() {
+  if [ "${words[0]}" = settle ]; then
+    say "${words[7]} is accepted, but the job that it holds isn't that of the three files"
+  else
+    say "${words[1]} and ${words[2]} are accepted, but the jobs that they hold differ: tables of one job alone are merged"
+  fi
+}
+
+# A table by the number of its word among the file words, and what is wrong with it.
+tell_table_refusal() {
+  local why='' cert
+  if [ "$1" = job ]; then
+    tell_other_job
+    return
+  fi
+  cert=${words[files[$1 - 1]]}
+  case "$2" in
+    1) reader_refusal "${@:3}" ;;
+    2) wrong_note "${@:3}" ;;
+    3) not_closed "${@:3}" ;;
+  esac
+  [ -n "$why" ] && say "$cert: $why ($docs/certificate.md, Table files)"
 }
 
 # A line of standard output with the status 3 or 5, in words.
@@ -519,11 +569,12 @@ tell_refusal() {
   case "$1" in
     'refused '*) tell_file_refusal "${line[@]:1}" ;;
     'certificate refused '*) tell_cert_refusal "${line[@]:2}" ;;
-    'table refused '*) say "$docs/certificate.md, What a checker does, tells what the numbers say" ;;
+    'table refused '*) tell_table_refusal "${line[@]:2}" ;;
   esac
 }
 
-# The certificate's text up to the end of its first row: the tools, the groups of bends, and the notes at the start.
+# The text of a certificate or a table up to the end of its first row: the tools, the groups of bends, and the notes at
+# the start.
 read_start() {
   local line at='' stage=-1 tool='' boxes=()
   upper=() lower=() stages=() dies=() notes=() groups=() is_gang=0
@@ -544,7 +595,7 @@ read_start() {
           lower+=("die ${dies[stage]} of stage $stage")
         fi
         ;;
-      'row 0 '*) at=start ;;
+      'row 0 0 0 '*) at=start ;;
       'row '* | end) break ;;
       'x '*) [ -n "$at" ] && notes+=("${line#x }") ;;
     esac
@@ -594,22 +645,25 @@ tell_useless_punches() {
   done
 }
 
-# Where the certificate says that there is no plan: what refuses the strokes at the start, and in all states.
+# Where a certificate or a table says that there is no plan: what refuses the strokes at the start, and in all states.
 tell_no_plan() {
   local cert more start='' where='all states' most=1000000
   local -a upper lower stages dies notes groups
   case "${words[0]}" in
     plan) cert=${words[4]} ;;
+    settle) cert=${words[4]} where='all rows' ;;
+    merge) cert=${words[3]} where='all rows' ;;
     check) cert=${words[1]} ;;
+    prove) cert=${words[1]} where='all rows' ;;
     setups) say "no setup of the list has a plan: 'brake check ${words[5]}.I' confirms it of setup I, and tells what refuses its strokes"; return ;;
     *) return ;;
   esac
   more="$docs/certificate.md says how to read them in $cert"
   is_command why && is_built why && more="'brake why PART TOOLS MACHINE' tells the rest"
-  if [ ! -f "$cert" ]; then say "no plan: with the certificate in a file it can be told what refuses the strokes"; return; fi
+  if [ ! -f "$cert" ]; then say "no plan: with its proof in a file it can be told what refuses the strokes"; return; fi
   read_start
   [ "${#notes[@]}" = 0 ] || start=" ($(printf '%s\n' "${notes[@]}" | reasons | counted))"
-  [ "$(stat -Lc %s -- "$cert")" -gt "$most" ] && where="the first states ($most bytes of them)"
+  [ "$(stat -Lc %s -- "$cert")" -gt "$most" ] && where="the first ${where#all } ($most bytes of them)"
   say "no plan: of the $((2 * ${#groups[@]} * ${#stages[@]})) strokes at the start ${#notes[@]} are refused$start; of those in $where $(head -c "$most" -- "$cert" | reasons | counted); $more"
   tell_useless_punches
 }

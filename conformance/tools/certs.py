@@ -2,6 +2,7 @@
 import checker
 
 CASES = []  # (section, name, text, folder of files or None, what it decides)
+TABLES = []  # (section, name, texts of one table or of two that are merged, what it decides)
 SECTION = [""]
 
 U = ("web 100000 60000", "north 0 N 0 100000 30000 up", "south 0 S 0 100000 30000 up")
@@ -58,6 +59,11 @@ def text(lines, claim, steps=(), rows=(), version=2):
     return "".join(f"{line}\n" for line in [*told, "end"]).encode()
 
 
+def table(lines, *rows):
+    """A table. A row is its words, and the words of its notes."""
+    return text(lines, 0, rows=rows).replace(b"brake-cert 2", b"brake-table 1").replace(b"claim 0\n", b"")
+
+
 def read(lines):
     return checker.Job(checker.Lines("".join(f"{line}\n" for line in lines).encode() + b"\n"), 2)
 
@@ -95,6 +101,11 @@ def section(title):
 def case(name, certificate, what, files=None):
     assert all(name != other for _, other, _, _, _ in CASES), name
     CASES.append((SECTION[0], name, certificate, files, what))
+
+
+def table_case(name, what, *tables):
+    assert all(name != other for _, other, _, _ in TABLES), name
+    TABLES.append((SECTION[0], name, tables, what))
 
 
 def last_where(holds, low, high):

@@ -1,9 +1,11 @@
 #!/usr/bin/env python3
 """checker.py check CERT: confirms or refuses a certificate by the rules of docs/.
+checker.py prove TABLE: confirms or refuses a table, and says what it proves.
+checker.py merge TABLE TABLE OUT: joins two tables.
 
 A checker outside the proof, slow and short, that follows docs/certificate.md, docs/geometry.md and docs/planning.md rule by
-rule. It prints the line that `brake check CERT` prints, and ends with its status. The tool `mutants` beside it changes one
-rule of it at a time.
+rule. It prints the lines that `brake` prints for the same words, and ends with its status. The tool `mutants` beside it
+changes one rule of it at a time.
 """
 import re
 import sys
@@ -12,7 +14,7 @@ NONE = float("inf")  # the worth `none`, above every number
 
 
 class Refused(Exception):
-    """A certificate is refused; its words are those behind `certificate refused`."""
+    """A certificate or a table is refused; its words are those behind `certificate refused`, or behind a table's number."""
 
 
 # ---- docs/certificate.md: words ----
@@ -147,6 +149,15 @@ class Job:
         self.depth = self.fine or 0
 
 
+def action_words(bends, stages):
+    action = (below(bends + 1, 1), BACK, below(stages))
+    return action
+
+
+def take_row(lines, job, stages):
+    return lines.take(b"row", below(job.full), below(24), below(stages), worth)
+
+
 class Certificate:
     """A text that is well formed: its job, claim, steps, and rows, each with its notes by the actions' numbers."""
 
@@ -162,14 +173,18 @@ class Certificate:
         if not is_valid(job):
             raise Refused("1 4")
         bends, stages = len(job.bends), len(job.stages)
-        action = (below(bends + 1, 1), BACK, below(stages))
+        action = action_words(bends, stages)
         face = below(bends + 1)
         self.steps = lines.take_up_to(bends if self.claim < NONE else 0, b"step", *action, face, face)
         if version == 1 and self.claim < NONE and len(self.steps) < bends:
             raise lines.bad()
+        self.read_rows(lines, action)
+
+    def read_rows(self, lines, action):
+        job, stages = self.job, len(self.job.stages)
         self.rows = []
         while lines.is_next(b"row"):
-            *key, value = lines.take(b"row", below(job.full), below(24), below(stages), worth)
+            *key, value = take_row(lines, job, stages)
             if self.rows and key <= self.rows[-1][0]:
                 lines.at -= 1
                 raise lines.bad()
@@ -193,6 +208,38 @@ class Certificate:
                 raise lines.bad()
             notes[number], last = (kind, *others), number
         return notes
+
+
+class Table(Certificate):
+    """A table's text that is well formed: its job and rows. It claims nothing."""
+
+    def __init__(self, text):
+        lines = Lines(text)
+        lines.words()
+        if lines.lines[0] != b"brake-table 1":
+            raise lines.bad()
+        lines.at = 1
+        self.job = job = Job(lines, 2)
+        self.job_lines = lines.lines[1:lines.at]
+        bends, stages, self.claim = len(job.bends), len(job.stages), 0
+        if lines.is_next(b"row"):
+            take_row(lines, job, stages)
+        else:
+            lines.take(b"end")
+        lines.at -= 1
+        is_sound = is_valid(job)
+        if not is_sound:
+            raise Refused("1 4")
+        self.read_rows(lines, action_words(bends, stages))
+
+    def text(self):
+        lines = [b"brake-table 1", *self.job_lines]
+        for key, value, notes in self.rows:
+            lines.append(b"row %d %d %d %s" % (*key, b"none" if value == NONE else b"%d" % value))
+            for action, reason in sorted(notes.items()):
+                bend, back, stage = action_of(self.job, action)
+                lines.append(f"x {bend} {'PC'[back]} {stage} {' '.join(map(str, reason))}".encode())
+        return b"\n".join([*lines, b"end", b""])
 
 
 # the words behind the number of a reason; None is a stage of the job
@@ -777,6 +824,11 @@ def action_number(job, bend, back, stage):
     return ((bend - 1) * 2 + back) * len(job.stages) + stage
 
 
+def action_of(job, number):
+    stages = len(job.stages)
+    return number // stages // 2 + 1, number // stages % 2, number % stages
+
+
 def turn_price(job, old, new):
     _, quarter, half, flip, roll, _ = job.cost
     x, _, z = product(ATTITUDES[new], inverse(ATTITUDES[old]))
@@ -869,15 +921,92 @@ def check_rows(cert):
                         raise Refused(f"5 {row} {action}")
     if proved([0, 0, 0]) < cert.claim:
         raise Refused("6")
+    return proved([0, 0, 0])
+
+
+# ---- docs/certificate.md: table files; docs/planning.md: tables of settled states ----
+
+class TableRefused(Exception):
+    """A table is refused; its words are those behind `table refused`."""
+
+
+def checked(text, word):
+    """A table that is closed, and what is proved of the start key; `word` is its number among the file words."""
+    try:
+        table = Table(text)
+        return table, check_rows(table)
+    except Refused as refused:
+        number, words = str(refused).split(" ", 1)
+        raise TableRefused(f"{word} {({'1': 1, '4': 2, '5': 3})[number]} {words}") from None
+
+
+def proved_lines(table, at_least):
+    claim = "no plan" if at_least == NONE else f"at least {at_least}"
+    return f"rows {len(table.rows)}\n{claim}", 1 if at_least == NONE else 0
+
+
+def prove(text):
+    """The lines and the status that `prove` gives."""
+    try:
+        return proved_lines(*checked(text, 1))
+    except TableRefused as refused:
+        return f"table refused {refused}", 5
+
+
+def place_of_reason(reason):
+    """The place of a reason in the order of reasons."""
+    return "12345679".find(str(reason[0])) if reason[0] != 8 else 8, *(str(word).rjust(2) for word in reason[1:])
+
+
+def united(first, second):
+    """The notes of two rows of one worth; of two reasons for one action the first in the order of reasons stays."""
+    return {action: min((notes[action] for notes in (first, second) if action in notes), key=place_of_reason) for action in {*first, *second}}
+
+
+def merged_rows(first, second):
+    rows = {tuple(key): (value, notes) for key, value, notes in first}
+    for key, value, notes in second:
+        old_value, old_notes = rows.get(tuple(key), (-1, {}))
+        if value > old_value:
+            rows[tuple(key)] = value, notes
+        elif value == old_value:
+            rows[tuple(key)] = value, united(old_notes, notes)
+    return [(list(key), *rows[key]) for key in sorted(rows)]
+
+
+def merge(first, second):
+    """The lines and the status that `merge` gives, and the text that it stores, or None."""
+    try:
+        table, _ = checked(first, 1)
+        other, _ = checked(second, 2)
+        if table.job_lines != other.job_lines:
+            raise TableRefused("job")
+    except TableRefused as refused:
+        return f"table refused {refused}", 5, None
+    table.rows = merged_rows(table.rows, other.rows)
+    return *proved_lines(table, check_rows(table)), table.text()
+
+
+
+def contents(name):
+    with open(name, "rb") as file:
+        return file.read()
 
 
 def main():
-    if len(sys.argv) != 3 or sys.argv[1] != "check":
+    words = sys.argv[1:]
+    if len(words) == 2 and words[0] == "check":
+        answer, status = check(contents(words[1]))
+    elif len(words) == 2 and words[0] == "prove":
+        answer, status = prove(contents(words[1]))
+    elif len(words) == 4 and words[0] == "merge":
+        answer, status, stored = merge(contents(words[1]), contents(words[2]))
+        if stored is not None:
+            with open(words[3], "wb") as file:
+                file.write(stored)
+    else:
         print(__doc__)
         return 2
-    with open(sys.argv[2], "rb") as file:
-        text = file.read()
-    answer, status = check(text)
     print(answer)
     return status
 

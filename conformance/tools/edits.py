@@ -25,6 +25,8 @@ GROUPS = "planning.md, Keys, strokes and steps"
 PRICES = "planning.md, What a step costs"
 BOUND = "planning.md, The bound"
 ROWS = "planning.md, What a list of rows proves"
+TABLE = "certificate.md, Table files"
+MERGED = "planning.md, Tables of settled states"
 
 EDITS = (
     (WORDS, "takes a number with zeros before it", 'NUMBER = re.compile(rb"0|[1-9][0-9]{0,17}")', 'NUMBER = re.compile(rb"[0-9]{1,18}")'),
@@ -498,4 +500,44 @@ EDITS = (
     (CHECK, "wants more than the claim to be proved", 'if proved([0, 0, 0]) < cert.claim:', 'if proved([0, 0, 0]) <= cert.claim:'),
     (CHECK, "counts rows from 1", 'enumerate(cert.rows):\n        for bend', 'enumerate(cert.rows, 1):\n        for bend'),
     (CHECK, "ends with 0 for `no plan`", 'else ("no plan", 1)', 'else ("no plan", 0)'),
+    (TABLE, "takes a certificate's first line", 'if lines.lines[0] != b"brake-table 1":', 'if lines.lines[0] not in (b"brake-table 1", b"brake-cert 2"):'),
+    (TABLE, "takes another number of the version", 'if lines.lines[0] != b"brake-table 1":', 'if not lines.lines[0].startswith(b"brake-table "):'),
+    (TABLE, "reads a job of version 1", 'self.job = job = Job(lines, 2)', 'self.job = job = Job(lines, 1 if b"\\ngang" not in text else 2)'),
+    (TABLE, "passes over a claim", '        self.job_lines = lines.lines[1:lines.at]\n', '        self.job_lines = lines.lines[1:lines.at]\n        lines.at += lines.is_next(b"claim")\n'),
+    (TABLE, "passes over a step", '        self.job_lines = lines.lines[1:lines.at]\n', '        self.job_lines = lines.lines[1:lines.at]\n        lines.at += lines.is_next(b"step")\n'),
+    (TABLE, "wants a row", '        else:\n            lines.take(b"end")\n        lines.at -= 1', '        else:\n            raise lines.bad()\n        lines.at -= 1'),
+    (TABLE, "doesn't ask whether the job is valid", 'if not is_sound:', 'if False:'),
+    (TABLE, "tells an invalid job before it reads the next line", '        if lines.is_next(b"row"):\n            take_row(lines, job, stages)\n        else:\n            lines.take(b"end")\n        lines.at -= 1\n', ''),
+    (TABLE, "tells an invalid job at a note too", '        else:\n            lines.take(b"end")\n        lines.at -= 1', '        else:\n            lines.at += 1\n        lines.at -= 1'),
+    (TABLE, "tells an invalid job behind the rows", 'if not is_sound:', 'self.read_rows(lines, action_words(bends, stages))\n        lines.at = 1 + len(self.job_lines)\n        if not is_sound:'),
+    (TABLE, "doesn't ask for the rows", 'return table, check_rows(table)', 'return table, max(bound(table.job, [0, 0, 0]), next((value for key, value, _ in table.rows if key == [0, 0, 0]), 0))'),
+    (TABLE, "skips the last row", 'for row, (key, value, notes) in enumerate(cert.rows):', 'for row, (key, value, notes) in enumerate(cert.rows if type(cert) is Certificate else cert.rows[:-1]):'),
+    (TABLE, "tells of a fault of a row by a certificate's number", "{'1': 1, '4': 2, '5': 3}", "{'1': 1, '4': 4, '5': 5}"),
+    (TABLE, "exchanges 2 and 3", "{'1': 1, '4': 2, '5': 3}", "{'1': 1, '4': 3, '5': 2}"),
+    (TABLE, "prints the start's worth, whatever the bound", 'return table, check_rows(table)', 'return table, check_rows(table) and next((value for key, value, _ in table.rows if key == [0, 0, 0]), 0)'),
+    (TABLE, "prints the bound", 'return table, check_rows(table)', 'return table, check_rows(table) and bound(table.job, [0, 0, 0])'),
+    (TABLE, "prints a greatest worth", 'return table, check_rows(table)', 'return table, max([check_rows(table), *(value for _, value, _ in table.rows)])'),
+    (TABLE, "counts a row less", 'rows {len(table.rows)}', 'rows {len(table.rows) - 1}'),
+    (TABLE, "ends with 0 for `no plan`", '1 if at_least == NONE else 0', '0'),
+    (MERGED, "drops the keys of the second table", 'if value > old_value:', 'if value > old_value >= 0:'),
+    (MERGED, "drops the keys of the first table", 'rows = {tuple(key): (value, notes) for key, value, notes in first}', 'rows = {tuple(key): (value, notes) for key, value, notes in first if key in [other[0] for other in second]}'),
+    (MERGED, "keeps the lesser worth", 'if value > old_value:', 'if value < old_value or old_value < 0:'),
+    (MERGED, "keeps the first table's row", 'if value > old_value:', 'if old_value < 0:'),
+    (MERGED, "keeps the second table's row", 'if value > old_value:', 'if value != old_value:'),
+    (MERGED, "keeps the first table's notes", 'rows[tuple(key)] = value, united(old_notes, notes)', 'rows[tuple(key)] = value, old_notes'),
+    (MERGED, "keeps the second table's notes", 'rows[tuple(key)] = value, united(old_notes, notes)', 'rows[tuple(key)] = value, notes'),
+    (MERGED, "puts the lesser worth's notes to the greater one's", '            rows[tuple(key)] = value, notes\n', '            rows[tuple(key)] = value, united(old_notes, notes)\n'),
+    (MERGED, "keeps the later of two reasons", 'min((notes[action] for', 'max((notes[action] for'),
+    (MERGED, "keeps the first table's reason", 'key=place_of_reason)', 'key=lambda _: 0)'),
+    (MERGED, "takes 8 before 9", 'if reason[0] != 8 else 8', 'if reason[0] != 8 else 6.5'),
+    (MERGED, "takes `F` before `B`", 'str(word).rjust(2) for word', '{"B": " F", "F": " B"}.get(word, str(word).rjust(2)) for word'),
+    (MERGED, "looks at the numbers of two reasons alone", ', *(str(word).rjust(2) for word in reason[1:])', ','),
+    (MERGED, "orders numbers by their digits", 'str(word).rjust(2)', 'str(word)'),
+    (MERGED, "lists keys as they come", 'for key in sorted(rows)]', 'for key in rows]'),
+    (MERGED, "compares no jobs", 'if table.job_lines != other.job_lines:', 'if False:'),
+    (MERGED, "doesn't compare the lines of the part", 'if table.job_lines != other.job_lines:', 'if table.job_lines[1:] != other.job_lines[1:]:'),
+    (MERGED, "compares the jobs before it checks the second table", 'other, _ = checked(second, 2)\n', 'if table.job_lines != second.split(b"\\n")[1:1 + len(table.job_lines)]:\n            raise TableRefused("job")\n        other, _ = checked(second, 2)\n'),
+    (MERGED, "checks the second table first", 'table, _ = checked(first, 1)\n        other, _ = checked(second, 2)\n', 'other, _ = checked(second, 2)\n        table, _ = checked(first, 1)\n'),
+    (MERGED, "names the second table as the first", 'checked(second, 2)', 'checked(second, 1)'),
+    (MERGED, "doesn't check the second table", 'other, _ = checked(second, 2)', 'other = Table(second)'),
 )
