@@ -1,9 +1,7 @@
-//! Tables of the U channel: merged, written, read, checked and altered.
+//! Tables of the U channel: written, read, checked and altered.
 
 use brake_base::Worth;
-use cert_merge::{
-    TableFault, TableFile, check_table, merge, proved_at_start, read_table, write_table,
-};
+use cert_merge::{TableFault, check_table, read_table, write_table};
 use certificate_texts::{ROWS, VERSION_2_JOB};
 use plan_cert::CertFault;
 use std::alloc::{AllocError, Global};
@@ -40,71 +38,6 @@ fn text_of(alloc: Global, rows: &str) -> Result<String, AllocError> {
     format!(in alloc; "{head}{rows}end\n")
 }
 
-/// The table with these lines.
-fn table_of(alloc: Global, rows: &str) -> Result<TableFile, CertFault> {
-    let text = text_of(alloc, rows)?;
-    read_table(alloc, text.as_bytes())
-}
-
-/// The text of the merge of two tables.
-fn merged(alloc: Global, first: &str, second: &str) -> Result<Vec<u8>, CertFault> {
-    let first = table_of(alloc, first)?;
-    let second = table_of(alloc, second)?;
-    let both = merge(alloc, &first.table, &second.table)?;
-    let text = write_table(alloc, &first.job, &both)?;
-    Ok(text)
-}
-
-/// Two tables and the rows and notes of their merge.
-const MERGES: [(&str, &str, &str); 5] = [
-    (FIRST, "", FIRST),
-    (FIRST, FIRST, FIRST),
-    (
-        FIRST,
-        SECOND,
-        "row 0 0 0 200\nrow 1 0 0 130\nx 2 P 0 1\nx 2 C 0 8\nrow 2 0 0 100\n",
-    ),
-    (
-        FIRST,
-        THIRD,
-        "row 0 0 0 none\nx 1 P 0 8\nrow 1 0 0 130\nx 2 P 0 8\n",
-    ),
-    (
-        SECOND,
-        THIRD,
-        "row 0 0 0 none\nx 1 P 0 8\nrow 1 0 0 130\nx 2 P 0 1\nx 2 C 0 8\nrow 2 0 0 100\n",
-    ),
-];
-
-#[test]
-fn tables_are_merged_by_their_keys_in_either_order(rt: HostRuntime) -> Result<(), Fail> {
-    let alloc = rt.alloc();
-    for (first, second, both) in MERGES {
-        let wanted = text_of(alloc, both)?;
-        assert_eq!(rt; merged(alloc, first, second)?.as_slice(), wanted.as_bytes());
-        assert_eq!(rt; merged(alloc, second, first)?.as_slice(), wanted.as_bytes());
-    }
-    Ok(())
-}
-
-#[test]
-fn three_tables_are_merged_in_any_grouping(rt: HostRuntime) -> Result<(), Fail> {
-    let alloc = rt.alloc();
-    let (first, second, third) = (
-        table_of(alloc, FIRST)?,
-        table_of(alloc, SECOND)?,
-        table_of(alloc, THIRD)?,
-    );
-    let left = merge(alloc, &first.table, &second.table)?;
-    let left = merge(alloc, &left, &third.table)?;
-    let right = merge(alloc, &second.table, &third.table)?;
-    let right = merge(alloc, &first.table, &right)?;
-    let text = write_table(alloc, &first.job, &left)?;
-    let other = write_table(alloc, &first.job, &right)?;
-    assert_eq!(rt; text.as_slice(), other.as_slice());
-    Ok(())
-}
-
 #[test]
 fn a_table_is_written_as_it_was_read(rt: HostRuntime) -> Result<(), Fail> {
     let alloc = rt.alloc();
@@ -133,31 +66,28 @@ fn a_beginning_of_a_table_is_unended(rt: HostRuntime) -> Result<(), Fail> {
     Ok(())
 }
 
-/// Lines of rows and notes, and the first that isn't allowed, counted from 1 behind the job.
+/// Lines of rows and notes, and the number of the first that isn't allowed: 22 lines stand before.
 const REFUSED: [(&str, u32); 12] = [
-    ("row 0 0 0 0200\n", 1),
-    ("row 0 0 0  200\n", 1),
-    ("row 0 0 0 200 \n", 1),
-    ("row 0 24 0 200\n", 1),
-    ("row 3 0 0 200\n", 1),
-    ("row 0 0 0 1000000001\n", 1),
-    ("row 1 0 0 130\nrow 0 0 0 200\n", 2),
-    ("row 1 0 0 130\nrow 1 0 0 130\n", 2),
-    ("x 1 P 0 8\n", 1),
-    ("row 1 0 0 130\nx 1 P 0 8\n", 2),
-    ("row 0 0 0 200\nx 2 P 0 8\nx 1 P 0 8\n", 3),
-    ("row 0 0 0 200\nx 1 P 0 8\nx 1 P 0 8\n", 3),
+    ("row 0 0 0 0200\n", 23),
+    ("row 0 0 0  200\n", 23),
+    ("row 0 0 0 200 \n", 23),
+    ("row 0 24 0 200\n", 23),
+    ("row 3 0 0 200\n", 23),
+    ("row 0 0 0 1000000001\n", 23),
+    ("row 1 0 0 130\nrow 0 0 0 200\n", 24),
+    ("row 1 0 0 130\nrow 1 0 0 130\n", 24),
+    ("x 1 P 0 8\n", 23),
+    ("row 1 0 0 130\nx 1 P 0 8\n", 24),
+    ("row 0 0 0 200\nx 2 P 0 8\nx 1 P 0 8\n", 25),
+    ("row 0 0 0 200\nx 1 P 0 8\nx 1 P 0 8\n", 25),
 ];
 
 #[test]
 fn altered_tables_are_refused_at_their_line(rt: HostRuntime) -> Result<(), Fail> {
     let alloc = rt.alloc();
-    let before = text_of(alloc, "")?.lines().count() as u32 - 1;
     for (rows, line) in REFUSED {
         let text = text_of(alloc, rows)?;
-        let wanted = CertFault::BadLine {
-            line: before + line,
-        };
+        let wanted = CertFault::BadLine { line };
         assert_eq!(rt; fault_of(alloc, text.as_bytes()), Some(wanted));
     }
     let behind = format!(in alloc; "{}x", text_of(alloc, FIRST)?)?;
@@ -196,11 +126,6 @@ fn the_worked_table_proves_the_least_cost(rt: HostRuntime) -> Result<(), Fail> {
         let text = format!(in alloc; "{head}{rows}")?;
         assert_eq!(rt; answer_of(alloc, &text), Ok(Worth::Cost(200)));
     }
-    // What a table proves is the greater of the bound and the start's row, closed or not.
-    let open = table_of(alloc, "row 0 0 0 none\n")?;
-    assert_eq!(rt; proved_at_start(&open.job, &open.table), Worth::Blocked);
-    let low = table_of(alloc, "row 0 0 0 100\n")?;
-    assert_eq!(rt; proved_at_start(&low.job, &low.table), Worth::Cost(200));
     Ok(())
 }
 

@@ -19,6 +19,4 @@ mod plan_cert_tests;
 #[cfg(test)]
 mod row_pool_tests;
 #[cfg(test)]
-mod settled_tests;
-#[cfg(test)]
 mod setup_sheet_tests;
