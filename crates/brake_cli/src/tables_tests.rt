@@ -181,7 +181,7 @@ fn refused_tables(rt: HostRuntime) -> Result<(), Fail> {
             "x",
             "row 0 1 0 ",
             "row 0 1 0 0",
-            "table refused 1 1 1 23\n",
+            "table refused 1 1 1 24\n",
         ),
         (PROVE, "x", "gang 0", "gang 2", "table refused 1 1 4\n"),
         (
@@ -189,7 +189,7 @@ fn refused_tables(rt: HostRuntime) -> Result<(), Fail> {
             "x",
             "row 0 0 0 200",
             "row 0 0 0 201",
-            "table refused 1 3 0 0\n",
+            "table refused 1 3 0 1\n",
         ),
         (
             PROVE,
