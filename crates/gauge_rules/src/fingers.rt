@@ -146,7 +146,7 @@ pub fn right_finger(rule: &GaugeRule, face: &PoseBox) -> (i64, i64)
 }
 
 /// The box that a finger with this range fills behind the far edge of the face.
-fn finger_box(job: &Job, face: &PoseBox, range: (i64, i64)) -> Box3
+pub fn finger_box(job: &Job, face: &PoseBox, range: (i64, i64)) -> Box3
     requires face { IsNearPoseBox face.now }
     ensures { result ≡ finger_box job.now.setup.gauge job.now.part.thickness
         (far_edge face.now) range }

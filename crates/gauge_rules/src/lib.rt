@@ -5,5 +5,5 @@ mod fingers;
 mod flat_faces;
 mod pairs;
 
-pub use fingers::{left_finger, right_finger};
+pub use fingers::{finger_box, left_finger, right_finger};
 pub use pairs::{first_legal, legal};

@@ -19,7 +19,9 @@ pub use fault::JobFault;
 pub use job::Job;
 pub use loads::check_loads;
 pub use making::make_job;
-pub use obstacle::{Group, Obstacle, ObstacleIter, lower_group, obstacles, upper_group};
+pub use obstacle::{
+    Group, Obstacle, ObstacleIter, lower_boxes, lower_group, obstacles, upper_boxes, upper_group,
+};
 pub use places::check_places;
 pub use setup::{Setup, Stage};
 pub use stage_reasons::{is_overloaded_at, is_uncovered_at, lacks_rest_at};

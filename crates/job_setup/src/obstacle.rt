@@ -224,8 +224,8 @@ fn is_past(end: i64, half_opening: i64) -> bool
     end <= -half_opening
 }
 
-/// The beam and the punches.
-fn upper_boxes(job: &Job) -> ArrayVec<Fixed, 64>
+/// The boxes of the upper group, which is the same at each stage: the beam and the punches.
+pub fn upper_boxes(job: &Job) -> ArrayVec<Fixed, 64>
     requires some { 0 < length job.now.setup.stages }
     ensures value { result.items ≡ upper_boxes job.now }
     ensures valid { IsJob job.now }
@@ -242,8 +242,8 @@ fn upper_boxes(job: &Job) -> ArrayVec<Fixed, 64>
     boxes
 }
 
-/// The bed and the dies.
-fn lower_boxes(job: &Job) -> ArrayVec<Fixed, 64>
+/// The boxes of the lower group: the bed and the dies of all stages.
+pub fn lower_boxes(job: &Job) -> ArrayVec<Fixed, 64>
     requires some { 0 < length job.now.setup.stages }
     ensures value { result.items ≡ lower_boxes job.now }
     ensures valid { IsJob job.now }
