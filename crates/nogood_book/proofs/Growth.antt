@@ -26,7 +26,7 @@ use Rattle.stroke_table.specs.Strokes.{IsFirstAt}
 use Rattle.nogood_book.specs.declared.nogood.Nogood.{Nogood}
 use Rattle.nogood_book.specs.Nogood.{IsSetOf, key_at, IsVerified, learned}
 use Rattle.nogood_book.specs.Book.{Refutes, IsRefuted, IsOpposed, IsFirstOpposing, Grows, learns, stays, IsNumbered, GrowsBelow, IsBookBelow, IsBook, IsNogoodLaw}
-use Rattle.nogood_book.proofs.Elements.{any_here, any_before, any_after}
+use Rattle.box_support.proofs.Elements.{any_here, any_before, any_after}
 use Rattle.nogood_book.proofs.Truth.{verified_is_true, learned_is_verified, learned_matches}
 
 -- ---- what is refuted stays so

@@ -1,6 +1,3 @@
-pub mod Paths
-pub mod PathBends
-pub mod Elements
 pub mod Supports
 pub mod ReasonSupport
 pub mod NamedBoxes

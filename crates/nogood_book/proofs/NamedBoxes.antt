@@ -15,11 +15,12 @@ use Rattle.job_setup.specs.ValidJob.{IsJob}
 use Rattle.job_setup.specs.Reasons.{SomeBox, IsReason, pose_at}
 use Rattle.handling_cost.specs.Plan.{IsReasonFor}
 use Rattle.nogood_book.specs.Support.{NamesBoxes}
-use Rattle.nogood_book.proofs.Elements.{any_unmapped}
-use Rattle.nogood_book.proofs.ReasonSupport.{IsBoxOf, ids_are, face_number, corner_number}
+use Rattle.box_support.proofs.Elements.{any_unmapped}
+use Rattle.box_support.specs.Deciding.{IsNumberOfBox}
+use Rattle.box_support.proofs.Boxes.{ids_are, face_number, corner_number}
 
 -- the number of a box of the part is a face's or a corner's
-number_fits : (job : JobData) → IsJob job → (mask : Mask) (id : ℕ) → IsBoxOf (shape_of job) mask id → face_of_box id ≤ bend_count job
+number_fits : (job : JobData) → IsJob job → (mask : Mask) (id : ℕ) → IsNumberOfBox (shape_of job) mask id → face_of_box id ≤ bend_count job
 number_fits job fit mask id (inl inside) =
     let few : length job.part.faces ≤ 13 = fit.part.few_faces in
     let same = face_number id (omega (arith, inside, few)) in
@@ -35,7 +36,7 @@ module _ (job : JobData) (fit : IsJob job) (mask group : Mask) (back : Back) (st
       let make = pose_box (shape_of job) mask group back (stage_of job stage).x0 (stage_of job stage).x1 in
       let found = any_unmapped (λ box. (box.id ≡ number) × P box) make 0 (box_ids (shape_of job) mask) some in
       let id = found.1 in
-      let is : IsBoxOf (shape_of job) mask id = subst (IsBoxOf (shape_of job) mask) found.3 (ids_are (shape_of job) mask found.0 id found.2) in
+      let is : IsNumberOfBox (shape_of job) mask id = subst (IsNumberOfBox (shape_of job) mask) found.3 (ids_are (shape_of job) mask found.0 id found.2) in
       let same : id ≡ number = found.4.0 in
       subst (λ n. face_of_box n ≤ bend_count job) same (number_fits job fit mask id is)
 

@@ -4,7 +4,6 @@ use Rattle.std.specs.Int.Bits.{bit_and}
 use Rattle.std.proofs.Math.Pow.{pow_pos}
 use Rattle.std.proofs.lemmas.Bool.{cases_lt, le-leb, leb-true, and_from, and_parts, or_left, false_from_ne_true}
 use Rattle.std.proofs.lemmas.Nat.{and_le_r}
-use Rattle.std.proofs.lemmas.Nat.Bits.{bit_at_above}
 use Rattle.brake_base.specs.declared.mask.Mask.{Mask}
 use Rattle.brake_base.specs.declared.reason.Reason.{Reason}
 use Rattle.brake_base.specs.Masks.{has, mask_of}
@@ -13,19 +12,11 @@ use Rattle.brake_base.proofs.MaskNumbers.{has_mask_of, mask_of_fits, has_none_ab
 use Rattle.job_setup.specs.Setup.{JobData, bend_count}
 use Rattle.job_setup.specs.StrokeGroup.{in_group}
 use Rattle.handling_cost.proofs.Mates.{grouped_self}
+use Rattle.box_support.proofs.Sets.{none_at_zero, none_past}
 use Rattle.nogood_book.specs.Support.{is_bend, is_in_support, support_of, AgreeOnSupport}
 use Rattle.nogood_book.specs.Nogood.{IsSetOf}
 
 -- ---- bends past the last
-none_at_zero : (mask : Mask) → has mask 0 ≡ false
-unfolding has
-none_at_zero mask = refl
-
-none_past : (mask : Mask) (n c : ℕ) → mask.0 < 2 ^ n → n < c → has mask c ≡ false
-unfolding has
-none_past mask n zero fits past = refl
-none_past mask n (suc k) fits past = ap (λ (m : ℕ). m == 1) (bit_at_above mask.0 n k fits (omega arith))
-
 -- each bend of a set is one of the job's, or none
 is_bend_or_none : (job : JobData) (mask : Mask) → IsSetOf job mask → (bend : ℕ) → IsTrue (is_bend job bend) ⊎ (has mask bend ≡ false)
 is_bend_or_none job mask set zero = inr (none_at_zero mask)

@@ -14,7 +14,7 @@ use Rattle.nogood_book.specs.declared.nogood.Nogood.{Nogood}
 use Rattle.nogood_book.specs.Nogood.{Matches, learned}
 use Rattle.nogood_book.specs.Book.{Refutes, IsRefuted, Grows, learns, stays, IsNumbered}
 use Rattle.nogood_book.specs.Refuted.{AreNumbered, AreTold}
-use Rattle.nogood_book.proofs.Elements.{any_here, any_before, any_after, any_split}
+use Rattle.box_support.proofs.Elements.{any_here, any_before, any_after, any_split}
 use Rattle.nogood_book.proofs.Growth.{among, number_low}
 
 pub none_set : (n k : ℕ) → get_or (replicate n false) k false ≡ false

@@ -17,7 +17,8 @@ use Rattle.nogood_book.specs.declared.nogood.Nogood.{Nogood}
 use Rattle.nogood_book.specs.Support.{support_of, is_bend, is_in_support, AgreeOnSupport}
 use Rattle.nogood_book.specs.Nogood.{IsSetOf, key_at, Matches, IsTrueNogood, IsCovered, IsVerified, learned}
 use Rattle.nogood_book.proofs.Supports.{has_support, bend_is, own_supports, agree_by_set, has_part, part_is}
-use Rattle.nogood_book.proofs.ReasonSupport.{IsStrokeOf, lead_alike, support_decides}
+use Rattle.box_support.proofs.Groups.{lead_alike}
+use Rattle.nogood_book.proofs.ReasonSupport.{IsStrokeOf, support_decides}
 use Rattle.nogood_book.proofs.NamedBoxes.{names_boxes}
 
 stroke_of : (job : JobData) → IsJob job → (mask : Mask) (action : Action) → IsActionAt job (key_at mask) action → IsStrokeOf job mask action.bend

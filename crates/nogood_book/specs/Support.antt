@@ -1,28 +1,15 @@
 -- The support of a reason: the bends on which it depends.
-use Rattle.std.specs.Prelude.{◌≡◌, ℕ, ◌≤◌, ◌==◌, nat_le, nat_lt, Bool, false, not, ◌&&◌, ◌||◌}
-use Rattle.std.specs.Prelude.{IsTrue, List, [], ◌∷◌, All}
+use Rattle.std.specs.Prelude.{◌≡◌, ℕ, ◌≤◌, nat_le, Bool, false, ◌&&◌, ◌||◌, IsTrue, List, [], ◌∷◌, All}
 use Rattle.std.specs.List.{list_any}
 use Rattle.brake_base.specs.declared.mask.Mask.{Mask}
 use Rattle.brake_base.specs.declared.reason.Reason.{Reason}
 use Rattle.brake_base.specs.declared.reason.Reason.TheVariants.{Frame, Upper, Nose, Lower, SelfHit}
 use Rattle.brake_base.specs.Masks.{has, mask_of}
-use Rattle.part_file.specs.Part.{FaceData}
 use Rattle.unfolder.specs.Cores.{joint_of}
-use Rattle.fold_boxes.specs.Pose.{is_beyond_some, face_of_box}
+use Rattle.fold_boxes.specs.Pose.{face_of_box}
 use Rattle.job_setup.specs.Setup.{JobData, bend_count}
 use Rattle.job_setup.specs.StrokeGroup.{in_group}
-
--- the bend is on the path between two faces: the one lies beyond it and the other doesn't
-abbrev pub is_on_path : List FaceData → ℕ → ℕ → ℕ → Bool
-is_on_path faces f g bend =
-    let is_beyond = is_beyond_some faces (λ c. c == bend) in
-    (is_beyond f && not (is_beyond g)) || (is_beyond g && not (is_beyond f))
-
--- The bend decides where the box of a number lies as seen from a face: it is on the path to the
--- box's face, or the box is its corner.
-abbrev pub is_deciding : List FaceData → ℕ → ℕ → ℕ → Bool
-is_deciding faces from box bend =
-    is_on_path faces from (face_of_box box) bend || (nat_lt 12 box && (face_of_box box == bend))
+use Rattle.box_support.specs.Deciding.{is_deciding}
 
 -- the boxes that a reason names
 abbrev pub named_boxes : Reason → List ℕ

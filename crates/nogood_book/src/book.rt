@@ -192,7 +192,7 @@ fn first_opposing(
     ensures first { IsFirstBeforeNoGauge job.now mask (group_of job.now mask action.bend)
         action.back action.stage result }
 {
-    match strokes.stroke_at(job, places, mask, action).reason {
+    match strokes.reason_at(job, places, mask, action) {
         Some(reason) => {
             if is_no_gauge(reason) {
                 None

@@ -5,16 +5,18 @@ ghost use Rattle.brake_base.specs.declared.reason.Reason.TheVariants.{NoGauge};
 ghost use Rattle.brake_base.specs.Masks.{has};
 ghost use Rattle.part_file.specs.Part.{part_data, IsPart, IsPath};
 ghost use Rattle.unfolder.specs.Cores.{joint_of};
-ghost use Rattle.fold_boxes.specs.Pose.{is_beyond_some, face_of_box};
+ghost use Rattle.fold_boxes.specs.Pose.{face_of_box};
 ghost use Rattle.job_setup.specs.Setup.{bend_count};
 ghost use Rattle.job_setup.specs.StrokeGroup.{in_group};
 ghost use Rattle.handling_cost.specs.StepCost.{IsActionOf};
-ghost use Rattle.nogood_book.specs.Support.{is_on_path, is_deciding, named_boxes, is_bend, is_in_support, support_of, NamesBoxes};
+ghost use Rattle.box_support.specs.Deciding.{is_on_path, is_deciding};
+ghost use Rattle.nogood_book.specs.Support.{named_boxes, is_bend, is_in_support, support_of, NamesBoxes};
 
 use arrayvec::ArrayVec;
+use box_support::{face_of_box, is_deciding};
 use brake_base::{Action, Mask, Reason};
 use job_setup::{Job, group};
-use part_file::{Part, side_of};
+use part_file::Part;
 use unfolder::cores::joint_of;
 
 /// The support of a reason against the strokes of an action's bend: the bends that may be bent in
@@ -82,38 +84,6 @@ fn is_some_deciding(part: &Part, from: u8, numbers: &[u8], bend: u8) -> bool
     numbers
         .iter()
         .any(|number| is_deciding(part, from, *number, bend))
-}
-
-/// Whether a bend decides where the box of a number lies as seen from a face.
-fn is_deciding(part: &Part, from: u8, number: u8, bend: u8) -> bool
-    requires fit { IsPart (part_data part.now) }
-    requires from { from < length part.now.faces.items }
-    requires number { face_of_box number < length part.now.faces.items }
-    requires first { 0 < bend }
-    requires last { bend < length part.now.faces.items }
-    ensures { result ≡ is_deciding (part_data part.now).faces from number bend }
-{
-    let face = face_of_box(number);
-    is_on_path(part, from, face, bend) || (number > 12 && face == bend)
-}
-
-/// Whether a bend is on the path between two faces.
-fn is_on_path(part: &Part, from: u8, to: u8, bend: u8) -> bool
-    requires fit { IsPart (part_data part.now) }
-    requires from { from < length part.now.faces.items }
-    requires to { to < length part.now.faces.items }
-    requires first { 0 < bend }
-    requires last { bend < length part.now.faces.items }
-    ensures { result ≡ is_on_path (part_data part.now).faces from to bend }
-{
-    side_of(part, bend, from) != side_of(part, bend, to)
-}
-
-/// The face whose core the box is, or the child of the bend whose corner it is.
-fn face_of_box(number: u8) -> u8
-    ensures { result ≡ face_of_box number }
-{
-    if number <= 12 { number } else { number - 12 }
 }
 
 /// The boxes that a reason names.

@@ -2,5 +2,5 @@ mod LaneLemmas
 mod StageLemmas
 mod PlaceLemmas
 mod SetLemmas
-mod CodeLemmas
+pub mod CodeLemmas
 mod BendLemmas

@@ -3,10 +3,11 @@ mod SameGauge
 mod StrokeGroups
 mod Places
 mod Firsts
-mod ReasonOrder
-mod Merged
 mod MovedReasons
-mod StageReasons
 mod BoxSteps
-mod Records
-mod StageStrokes
+mod TrueRecords
+mod LeastCodes
+mod FirstCodes
+mod BoxCodes
+mod StageBoxes
+mod DecidingBends

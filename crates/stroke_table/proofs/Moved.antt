@@ -60,7 +60,7 @@ module _ (shape : ShapeData) (mask group : Mask) (back : Back) (x0 x1 y0 y1 by :
       let parent = inverse_of (parent_place shape mask (lead_of shape group)) in
       ap (λ (m : Map). after m parent) frame_moved ∙ after_moved by (posed_frame shape group back x0 x1) parent
 
-  pose_box_moved : (id : ℕ) → pose_box shape mask group back y0 y1 id ≡ moved_box by (pose_box shape mask group back x0 x1 id)
+  pub pose_box_moved : (id : ℕ) → pose_box shape mask group back y0 y1 id ≡ moved_box by (pose_box shape mask group back x0 x1 id)
   pose_box_moved id =
       let body = ap (λ (m : Map). image m (part_body shape mask id)) map_moved ∙ image_moved by (pose_map shape mask group back x0 x1) (part_body shape mask id) in
       λ i. record { id = id; half = half_of shape group back id; body = body i }

@@ -109,7 +109,7 @@ load_alike job pose other back stage same NoGauge low high = absurd (omega (arit
 load_alike job pose other back stage same Load low high = (subst (λ (g : Mask). IsTrue (is_overloaded job (has g) (stage_of job stage))) same, subst (λ (g : Mask). IsTrue (is_overloaded job (has g) (stage_of job stage))) (sym same))
 
 -- ---- the boxes
-from_to : (s t : ℤ) → t ≡ s +ℤ (t -ℤ s)
+pub from_to : (s t : ℤ) → t ≡ s +ℤ (t -ℤ s)
 from_to s t = omega (arith, ints)
 
 pub boxes_at : (job : JobData) (mask group : Mask) (back : Back) (stage : ℕ) → map (box_at job group stage) (pose_at job mask group back 0).boxes ≡ (pose_at job mask group back stage).boxes

@@ -1,61 +1,50 @@
-//! The first reasons that boxes of a pose give at each stage.
-ghost use Rattle.std.specs.Prelude.{◌≡◌, ◌∷◌, [], ◌<◌, length, All, unsigned_abs, ◌≤◌, ◌^◌};
+//! The first reasons that a box gives by itself at each stage.
+ghost use Rattle.std.specs.Prelude.{◌≡◌, ℕ, ◌<◌, length, unsigned_abs, ◌≤◌, ◌^◌};
+ghost use Rattle.brake_base.specs.declared.reason.Reason.{Reason};
 ghost use Rattle.fold_boxes.specs.Posing.{IsNearPoseBox};
 ghost use Rattle.fold_boxes.specs.Spans.{IsNearRange};
 ghost use Rattle.fold_boxes.specs.Pose.{start_of_span};
+ghost use Rattle.job_setup.specs.Setup.{stage_count};
 ghost use Rattle.job_setup.specs.StageOf.{stage_of};
 ghost use Rattle.unfolder.specs.Near.{IsWithin as IsNear};
+ghost use Rattle.stage_lanes.specs.Codes.{IsCoded};
 ghost use Rattle.stroke_table.specs.Moved.{moved_point, moved_box};
-ghost use Rattle.stroke_table.specs.BoxReasons.{shift_of, IsBoxOf, AreFirstOf, AreAround, AreKept, IsEarlier, AreEarlier};
+ghost use Rattle.stroke_table.specs.BoxReasons.{shift_of, box_at, IsBoxOf, AreAround};
+ghost use Rattle.stroke_table.specs.Codes.{IsGiven, AreLeastCodes};
 
-use crate::box_records::BoxRecords;
-use brake_base::{Box3, Mask, Reason, V3};
-use fold_boxes::{Pose, PoseBox, span, start_of_span};
+use crate::codes::code_for;
+use crate::keys::GroupKey;
+use brake_base::{Box3, Mask, V3};
+use fold_boxes::{PoseBox, span, start_of_span};
 use job_setup::Job;
+use stage_lanes::{FREE, StageCodes};
 use sweep_check::{Surroundings, first_of_boxes};
 
-/// The first reasons of the kinds Frame, Upper, Nose and Lower that the boxes of a pose at stage 0 give
-/// at each stage.
-pub(crate) fn find_reasons_of_boxes(
-    job: &Job,
-    kept: &mut BoxRecords,
-    group: Mask,
-    boxes: &[PoseBox],
-) -> [Option<Reason>; 6]
-    requires kept { AreKept job.now kept.old }
-    requires boxes { All (IsBoxOf job.now group) boxes.now }
-    ensures kept { AreKept job.now kept.new }
-    ensures reasons { AreFirstOf job.now group boxes.now (length job.now.setup.stages) result }
-    ensures count { length result ≡ 6 }
-{
-    let mut firsts = [None; 6];
-    for body in boxes {
-        let reasons = kept.reasons(job, group, body);
-        firsts = earlier_of(&firsts, &reasons);
-    }
-    firsts
-}
-
-/// The first reasons of the kinds Frame, Upper, Nose and Lower that a box gives at each stage, where
-/// it lies like this in the pose of the group at stage 0.
-pub(crate) fn find_box_reasons(
+/// The codes of the first reasons of the kinds Frame, Upper, Nose and Lower that a box gives by itself
+/// at each stage, where it lies like this in the pose of the group at stage 0.
+pub(crate) fn box_codes(
     job: &Job,
     around: &[Surroundings],
-    group: Mask,
+    of: &GroupKey,
     body: &PoseBox,
-) -> [Option<Reason>; 6]
+) -> StageCodes
     requires around { AreAround job.now around.now }
-    requires body { IsBoxOf job.now group body.now }
-    ensures reasons { AreFirstOf job.now group (body.now ∷ []) (length job.now.setup.stages) result }
-    ensures count { length result ≡ 6 }
+    requires body { IsBoxOf job.now of.now.group body.now }
+    requires coded { (stage : ℕ) (reason : Reason) → stage < stage_count job.now
+        → IsGiven job.now (box_at job.now of.now.group stage body.now) of.now.back stage reason
+        → IsCoded reason }
+    ensures { AreLeastCodes (stage_count job.now)
+        (λ stage. IsGiven job.now (box_at job.now of.now.group stage body.now) of.now.back stage)
+        result.0 }
 {
-    let mut reasons = [None; 6];
+    let mut codes = StageCodes::all(FREE);
     for stage in 0..job.stages() {
         let place = usize::from(stage);
-        let moved = moved_box(body, shift(job, group, stage));
-        reasons[place] = first_of_boxes(job, &around[place], &[moved]);
+        let moved = moved_box(body, shift(job, of.group, stage));
+        let first = first_of_boxes(job, &around[place], &[moved]);
+        codes = codes.with(stage, code_for(first));
     }
-    reasons
+    codes
 }
 
 /// The box so much farther along the bed.
@@ -104,30 +93,4 @@ fn start_at(job: &Job, lines: (i64, i64), stage: u8) -> i64
 {
     let (x0, x1) = job.stage_range(stage);
     start_of_span(lines, x0, x1)
-}
-
-/// The earlier of two reasons at each stage.
-fn earlier_of(first: &[Option<Reason>; 6], second: &[Option<Reason>; 6]) -> [Option<Reason>; 6]
-    ensures reasons { AreEarlier first.now second.now result }
-    ensures count { length result ≡ 6 }
-{
-    [
-        earlier(first[0], second[0]),
-        earlier(first[1], second[1]),
-        earlier(first[2], second[2]),
-        earlier(first[3], second[3]),
-        earlier(first[4], second[4]),
-        earlier(first[5], second[5]),
-    ]
-}
-
-/// The earlier of two reasons, or the only one.
-fn earlier(first: Option<Reason>, second: Option<Reason>) -> Option<Reason>
-    ensures { IsEarlier first second result }
-{
-    match (first, second) {
-        (None, _) => second,
-        (Some(_), None) => first,
-        (Some(one), Some(other)) => { if other.is_before(one) { second } else { first } }
-    }
 }

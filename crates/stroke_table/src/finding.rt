@@ -1,55 +1,203 @@
-//! A stroke is found: the part is moved onto the machine, and the rules are asked.
-ghost use Rattle.std.specs.Prelude.{false, ◌≡◌, ◌<◌, ◌≤◌, length, All};
+//! A stroke is found: from what is kept of its group and its boxes, and where none of this refuses it
+//! at some stage, by the part on the machine.
+ghost use Rattle.std.specs.Prelude.{false, ◌≡◌, ◌<◌, ◌≤◌, ◌^◌, length, All};
 ghost use Rattle.brake_base.specs.Masks.{has};
 ghost use Rattle.fold_boxes.specs.Places.{ArePlaces};
-ghost use Rattle.fold_boxes.specs.Pose.{PoseData, IsGroup, pose_data};
+ghost use Rattle.fold_boxes.specs.Pose.{IsGroup, pose_data};
 ghost use Rattle.fold_boxes.specs.Posing.{IsNearPoseBox};
-ghost use Rattle.job_setup.specs.Setup.{shape_of};
+ghost use Rattle.job_setup.specs.Setup.{shape_of, bend_count, stage_count};
 ghost use Rattle.job_setup.specs.StrokeGroup.{group_of};
-ghost use Rattle.job_setup.specs.Reasons.{pose_at, IsPoseAt};
-ghost use Rattle.gauge_rules.specs.Pairs.{IsFirstLegal};
-ghost use Rattle.stroke_table.specs.Strokes.{IsStrokeOf};
-ghost use Rattle.sweep_check.specs.FirstReasons.{IsFirstAmong};
-ghost use Rattle.stroke_table.specs.Finding.{AreFirst, with_gauge};
-ghost use Rattle.stroke_table.specs.BoxReasons.{AreKept};
+ghost use Rattle.job_setup.specs.ValidJob.{IsJob};
+ghost use Rattle.job_setup.specs.Reasons.{pose_at};
+ghost use Rattle.stroke_table.specs.Codes.{AreLeastCodes, HoldsAmong, gauge_reason};
+ghost use Rattle.stroke_table.specs.Finding.{IsFound, IsGaugeOf};
+ghost use Rattle.stroke_table.specs.Records.{AreKept, IsGroupRecord};
 
-use crate::box_reasons::find_reasons_of_boxes;
-use crate::box_records::BoxRecords;
-use crate::stroke::Stroke;
+use crate::codes::{at_stages, code_for, is_free_somewhere};
+use crate::gathering::{gather_boxes, gathered_pose};
+use crate::keys::{GroupKey, StrokeKey};
+use crate::known::{FoundGauge, KnownStroke};
+use crate::records::{GroupRecord, StrokeRecords};
 use brake_base::{Back, Gauge, Mask, Place, Reason};
-use fold_boxes::{Pose, attitude, pose_from};
+use fold_boxes::{Pose, pose_from};
 use gauge_rules::first_legal;
 use job_setup::{Job, group};
+use stage_lanes::{FREE, StageCodes};
 use sweep_check::{first_at_lines, first_of_halves, load_reason};
 
-/// What there is to know of a stroke, from the places of the faces and what is kept of boxes. The part
-/// is moved onto the machine once, at stage 0: at the other stages it lies farther along the bed.
-pub(crate) fn find_stroke(
+/// The codes of the first reasons against a stroke at all stages, from the places of the faces and
+/// what is kept.
+pub(crate) fn find_codes(
     job: &Job,
-    kept: &mut BoxRecords,
+    kept: &mut StrokeRecords,
+    places: &[Place],
+    stroke: &StrokeKey,
+) -> KnownStroke
+    requires kept { AreKept job.now kept.old }
+    requires count { length places.now ≡ length job.now.part.faces }
+    requires places { ArePlaces (shape_of job.now) stroke.now.mask places.now }
+    requires mask { stroke.now.mask.0 < 2 ^ bend_count job.now }
+    requires group { IsGroup (shape_of job.now) stroke.now.mask stroke.now.of.group }
+    ensures kept { AreKept job.now kept.new }
+    ensures found { IsFound job.now stroke.now result }
+    ensures valid { IsJob job.now }
+{
+    let of_group = group_record(job, kept, places, stroke);
+    let gathered = gather_boxes(job, kept, places, stroke);
+    let before = of_group.lines.lesser(gathered.codes);
+    let stages = job.stages();
+    let pose = gathered_pose(job, stroke, gathered);
+    if is_free_somewhere(before, stages) {
+        find_rest(job, stroke, &pose, before, of_group.load)
+    } else {
+        KnownStroke {
+            codes: before,
+            gauge: FoundGauge::Unsought,
+        }
+    }
+}
+
+/// The codes of the first reasons of all kinds, from those of the kinds Cover to Lower, the part on the
+/// machine at stage 0 and the codes of Load.
+fn find_rest(
+    job: &Job,
+    stroke: &StrokeKey,
+    pose: &Pose,
+    before: StageCodes,
+    load: StageCodes,
+) -> KnownStroke
+    requires group { IsGroup (shape_of job.now) stroke.now.mask stroke.now.of.group }
+    requires pose { pose_data pose.now ≡ pose_at job.now stroke.now.mask stroke.now.of.group
+        stroke.now.of.back 0 }
+    requires near { All IsNearPoseBox pose.now.boxes.items }
+    requires before { AreLeastCodes (stage_count job.now)
+        (HoldsAmong job.now stroke.now.mask stroke.now.of 1 6) before.0 }
+    requires load { AreLeastCodes (stage_count job.now)
+        (HoldsAmong job.now stroke.now.mask stroke.now.of 8 8) load.0 }
+    ensures { IsFound job.now stroke.now result }
+{
+    let stages = job.stages();
+    let boxes = pose.boxes.as_slice();
+    let hit = first_of_halves(job, boxes);
+    let hit_code = code_for(hit);
+    let hits = at_stages(hit_code, stages);
+    let with_hits = before.lesser(hits);
+    let others = with_hits.lesser(load);
+    if is_free_somewhere(others, stages) {
+        let gauge = first_legal(job, pose);
+        let lack = gauge_reason(gauge);
+        let lack_code = code_for(lack);
+        let last = at_stages(lack_code, stages);
+        KnownStroke {
+            codes: others.lesser(last),
+            gauge: FoundGauge::Sought(gauge),
+        }
+    } else {
+        KnownStroke {
+            codes: others,
+            gauge: FoundGauge::Unsought,
+        }
+    }
+}
+
+/// NoGauge, where there is no first legal pair.
+fn gauge_reason(gauge: Option<Gauge>) -> Option<Reason>
+    ensures { result ≡ gauge_reason gauge }
+{
+    match gauge {
+        Some(_) => None,
+        None => Some(Reason::NoGauge),
+    }
+}
+
+/// What is kept of the group of a stroke, found where it isn't kept yet.
+fn group_record(
+    job: &Job,
+    kept: &mut StrokeRecords,
+    places: &[Place],
+    stroke: &StrokeKey,
+) -> GroupRecord
+    requires kept { AreKept job.now kept.old }
+    requires count { length places.now ≡ length job.now.part.faces }
+    requires places { ArePlaces (shape_of job.now) stroke.now.mask places.now }
+    requires group { IsGroup (shape_of job.now) stroke.now.mask stroke.now.of.group }
+    ensures kept { AreKept job.now kept.new }
+    ensures key { result.key ≡ stroke.now.of }
+    ensures record_ { IsGroupRecord job.now result }
+{
+    match kept.known_group(&stroke.of) {
+        Some(known) => known,
+        None => {
+            let found = find_group(job, places, stroke);
+            kept.keep_group(found);
+            found
+        }
+    }
+}
+
+/// What the strokes of the group of a stroke have at each stage.
+fn find_group(job: &Job, places: &[Place], stroke: &StrokeKey) -> GroupRecord
+    requires count { length places.now ≡ length job.now.part.faces }
+    requires places { ArePlaces (shape_of job.now) stroke.now.mask places.now }
+    requires group { IsGroup (shape_of job.now) stroke.now.mask stroke.now.of.group }
+    ensures key { result.key ≡ stroke.now.of }
+    ensures record_ { IsGroupRecord job.now result }
+{
+    job.recall_valid();
+    let pose = pose_at(job, places, stroke.mask, stroke.of.group, stroke.of.back, 0);
+    GroupRecord {
+        key: stroke.of,
+        lines: line_codes(job, &pose, stroke.of.back),
+        load: load_codes(job, &pose),
+    }
+}
+
+/// The codes of the first of Cover and Rest at each stage, with this side at the back. Of the pose
+/// only the group counts.
+fn line_codes(job: &Job, pose: &Pose, back: Back) -> StageCodes
+    ensures { (mask : Mask) → AreLeastCodes (stage_count job.now)
+        (HoldsAmong job.now mask (record { group = pose.now.group; back = back }) 1 2) result.0 }
+{
+    let mut codes = StageCodes::all(FREE);
+    for stage in 0..job.stages() {
+        let first = first_at_lines(job, pose, back, stage);
+        codes = codes.with(stage, code_for(first));
+    }
+    codes
+}
+
+/// The code of Load at each stage where it holds. Of the pose only the group counts.
+fn load_codes(job: &Job, pose: &Pose) -> StageCodes
+    ensures { (mask : Mask) (back : Back) → AreLeastCodes (stage_count job.now)
+        (HoldsAmong job.now mask (record { group = pose.now.group; back = back }) 8 8) result.0 }
+{
+    let mut codes = StageCodes::all(FREE);
+    for stage in 0..job.stages() {
+        let first = load_reason(job, pose, stage);
+        codes = codes.with(stage, code_for(first));
+    }
+    codes
+}
+
+/// The first legal pair of the stroke of an unfolded bend, which is the same at each stage, by the part
+/// on the machine.
+pub(crate) fn find_gauge(
+    job: &Job,
     places: &[Place],
     mask: Mask,
     lead: u8,
     back: Back,
-) -> Stroke
-    requires kept { AreKept job.now kept.old }
+) -> Option<Gauge>
     requires count { length places.now ≡ length job.now.part.faces }
     requires places { ArePlaces (shape_of job.now) mask places.now }
     requires first { 1 ≤ lead }
     requires last { lead < length job.now.part.faces }
     requires flat { has mask lead ≡ false }
-    ensures kept { AreKept job.now kept.new }
-    ensures stroke { IsStrokeOf job.now mask lead back result }
+    ensures { IsGaugeOf job.now mask (group_of job.now mask lead) back result }
 {
-    let shape = job.shape();
+    job.recall_valid();
     let group = stroke_group(job, mask, lead);
-    let pose = pose_at(job, places, mask, group, back, 0);
-    let gauge = first_legal(job, &pose);
-    Stroke {
-        attitude: attitude(shape, mask, lead, back),
-        gauge,
-        reasons: find_reasons(job, kept, &pose, back, gauge),
-    }
+    first_legal(job, &pose_at(job, places, mask, group, back, 0))
 }
 
 /// The bends of the stroke of an unfolded bend.
@@ -75,75 +223,4 @@ pub fn pose_at(job: &Job, places: &[Place], mask: Mask, group: Mask, back: Back,
 {
     let (x0, x1) = job.stage_range(stage);
     pose_from(job.shape(), places, mask, group, back, x0, x1)
-}
-
-/// The first reason at each stage, in a pose at stage 0 with this side at the back and this first
-/// legal pair.
-fn find_reasons(
-    job: &Job,
-    kept: &mut BoxRecords,
-    pose: &Pose,
-    back: Back,
-    gauge: Option<Gauge>,
-) -> [Option<Reason>; 6]
-    requires kept { AreKept job.now kept.old }
-    requires pose { IsPoseAt job.now 0 (pose_data pose.now) }
-    requires near { All IsNearPoseBox pose.now.boxes.items }
-    requires gauge { IsFirstLegal job.now (pose_data pose.now) gauge }
-    ensures kept { AreKept job.now kept.new }
-    ensures reasons { (stroke : IsPoseAt job.now 0 (pose_data pose.now)) → (stroke.back ≡ back)
-        → AreFirst job.now stroke.mask stroke.group back (length job.now.setup.stages) result }
-{
-    let stages = job.stages();
-    let boxes = pose.boxes.as_slice();
-    let of_boxes = find_reasons_of_boxes(job, kept, pose.group, boxes);
-    let of_halves = first_of_halves(job, boxes);
-    let mut reasons = [None; 6];
-    for stage in 0..stages {
-        let place = usize::from(stage);
-        let first = first_of_kinds(job, pose, back, stage, of_boxes[place], of_halves);
-        reasons[place] = with_gauge(first, gauge);
-    }
-    reasons
-}
-
-/// The first reason of a kind other than NoGauge at a stage, from that which the boxes give and that
-/// which the halves give. Of the pose only the group counts.
-fn first_of_kinds(
-    job: &Job,
-    pose: &Pose,
-    back: Back,
-    stage: u8,
-    of_boxes: Option<Reason>,
-    of_halves: Option<Reason>,
-) -> Option<Reason>
-    requires stage { stage < length job.now.setup.stages }
-    ensures { (other : PoseData) → (other.group ≡ pose.now.group)
-        → IsFirstAmong job.now other back stage 3 6 of_boxes
-        → IsFirstAmong job.now other back stage 7 7 of_halves
-        → IsFirstAmong job.now other back stage 1 8 result }
-{
-    if let Some(reason) = first_at_lines(job, pose, back, stage) {
-        return Some(reason);
-    }
-    if let Some(reason) = of_boxes {
-        return Some(reason);
-    }
-    if let Some(reason) = of_halves {
-        return Some(reason);
-    }
-    load_reason(job, pose, stage)
-}
-
-/// The first reason of all kinds, from the first of the others and the first legal pair.
-fn with_gauge(first: Option<Reason>, gauge: Option<Gauge>) -> Option<Reason>
-    ensures { result ≡ with_gauge first gauge }
-{
-    match first {
-        Some(reason) => Some(reason),
-        None => match gauge {
-            Some(_) => None,
-            None => Some(Reason::NoGauge),
-        },
-    }
 }

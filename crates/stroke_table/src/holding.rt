@@ -1,29 +1,27 @@
 //! Whether a reason that is stated holds against an action.
-ghost use Rattle.std.specs.Prelude.{false, ◌≡◌, ◌≢◌, ◌↔◌, ◌<◌, ◌≤◌, length, IsTrue};
+ghost use Rattle.std.specs.Prelude.{false, ◌≡◌, ◌≢◌, ◌↔◌, ◌<◌, ◌≤◌, length, IsTrue, Some};
 ghost use Rattle.brake_base.specs.declared.reason.Reason.TheVariants.{NoGauge};
 ghost use Rattle.brake_base.specs.Masks.{has};
 ghost use Rattle.fold_boxes.specs.Places.{ArePlaces};
 ghost use Rattle.job_setup.specs.Setup.{shape_of};
 ghost use Rattle.job_setup.specs.StrokeGroup.{group_of};
 ghost use Rattle.handling_cost.specs.Plan.{IsReasonFor};
-ghost use Rattle.stroke_table.specs.Strokes.{IsStrokeOf};
-ghost use Rattle.stroke_table.specs.Finding.{IsGaugeOf};
+ghost use Rattle.stroke_table.specs.Strokes.{IsFirstAt};
 
-use crate::finding::{pose_at, stroke_group};
-use crate::stroke::Stroke;
-use brake_base::{Action, Gauge, Mask, Place, Reason};
+use crate::finding::{find_gauge, pose_at, stroke_group};
+use brake_base::{Action, Mask, Place, Reason};
 use job_setup::Job;
 use sweep_check::holds;
 
-/// Whether a reason of any kind holds against an action, whose stroke is known. The first reason of
-/// the stroke holds; none before it does.
+/// Whether a reason of any kind holds against an action, whose first reason is known: that holds, and
+/// none before it does.
 pub(crate) fn holds_by(
     job: &Job,
     places: &[Place],
     mask: Mask,
     action: Action,
     reason: Reason,
-    stroke: &Stroke,
+    first: Reason,
 ) -> bool
     requires count { length places.now ≡ length job.now.part.faces }
     requires places { ArePlaces (shape_of job.now) mask places.now }
@@ -31,20 +29,16 @@ pub(crate) fn holds_by(
     requires last { action.bend < length job.now.part.faces }
     requires flat { has mask action.bend ≡ false }
     requires stage { action.stage < length job.now.setup.stages }
-    requires stroke { IsStrokeOf job.now mask action.bend action.back stroke.now }
+    requires reason { IsFirstAt job.now mask (group_of job.now mask action.bend) action.back
+        action.stage (Some first) }
     ensures { IsTrue result ↔ IsReasonFor job.now mask action reason }
 {
-    match stroke.reason(action.stage) {
-        Some(first) => {
-            if is_same(first, reason) {
-                true
-            } else if reason.is_before(first) {
-                false
-            } else {
-                holds_anew(job, places, mask, action, reason, stroke.gauge)
-            }
-        }
-        None => false,
+    if is_same(first, reason) {
+        true
+    } else if reason.is_before(first) {
+        false
+    } else {
+        holds_anew(job, places, mask, action, reason)
     }
 }
 
@@ -55,28 +49,33 @@ fn is_same(first: Reason, second: Reason) -> bool
     first == second
 }
 
-/// Whether a reason of any kind holds against an action, where the first legal pair is known.
-fn holds_anew(
-    job: &Job,
-    places: &[Place],
-    mask: Mask,
-    action: Action,
-    reason: Reason,
-    gauge: Option<Gauge>,
-) -> bool
+/// Whether a reason of any kind holds against an action.
+fn holds_anew(job: &Job, places: &[Place], mask: Mask, action: Action, reason: Reason) -> bool
     requires count { length places.now ≡ length job.now.part.faces }
     requires places { ArePlaces (shape_of job.now) mask places.now }
     requires first { 1 ≤ action.bend }
     requires last { action.bend < length job.now.part.faces }
     requires flat { has mask action.bend ≡ false }
     requires stage { action.stage < length job.now.setup.stages }
-    requires gauge { IsGaugeOf job.now mask (group_of job.now mask action.bend) action.back gauge }
     ensures { IsTrue result ↔ IsReasonFor job.now mask action reason }
 {
     match reason {
-        Reason::NoGauge => gauge.is_none(),
+        Reason::NoGauge => lacks_gauge(job, places, mask, action),
         other => holds_at(job, places, mask, action, other),
     }
+}
+
+/// Whether no pair of faces is legal in the stroke of an action.
+fn lacks_gauge(job: &Job, places: &[Place], mask: Mask, action: Action) -> bool
+    requires count { length places.now ≡ length job.now.part.faces }
+    requires places { ArePlaces (shape_of job.now) mask places.now }
+    requires first { 1 ≤ action.bend }
+    requires last { action.bend < length job.now.part.faces }
+    requires flat { has mask action.bend ≡ false }
+    requires stage { action.stage < length job.now.setup.stages }
+    ensures { IsTrue result ↔ IsReasonFor job.now mask action NoGauge }
+{
+    find_gauge(job, places, mask, action.bend, action.back).is_none()
 }
 
 /// Whether a reason other than NoGauge holds against an action.

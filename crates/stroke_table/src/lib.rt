@@ -3,9 +3,14 @@
 #![tactic(auto)]
 
 mod box_reasons;
-mod box_records;
+mod codes;
+mod deciding;
 mod finding;
+mod gathering;
 mod holding;
+mod keys;
+mod known;
+mod records;
 mod stroke;
 mod table;
 

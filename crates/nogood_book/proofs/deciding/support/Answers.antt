@@ -6,7 +6,7 @@ use Rattle.job_setup.specs.Setup.{bend_count}
 use Rattle.fold_boxes.proofs.MatesSoFar.{one_more, none_more}
 use Rattle.fold_boxes.proofs.Beyond.{none_yet, found_earlier, none_later}
 use Rattle.nogood_book.specs.Support.{is_bend, is_in_support}
-use Rattle.nogood_book.proofs.PathBends.{path_exact}
+use Rattle.box_support.proofs.PathBends.{path_exact}
 use Rattle.nogood_book.proofs.Supports.{bend_is, no_bend_0, no_bend_past, is_support}
 use Rattle.nogood_book.proofs.deciding.support.Goals.{then-is_in_support, else-is_in_support}
 use Rattle.nogood_book.proofs.deciding.support.Goals as goal

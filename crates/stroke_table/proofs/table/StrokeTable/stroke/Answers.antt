@@ -1,36 +1,23 @@
-use Rattle.std.proofs.Common.{◌≡◌, ◌∙◌, ◌≤◌, ℕ, ap, sym, subst, arith, List, Option, Some, None}
-use Rattle.std.specs.Prelude.{slice_index_or, slice_set}
-use Rattle.job_setup.specs.Setup.{JobData}
-use Rattle.stroke_table.specs.declared.stroke.Stroke.{Stroke}
-use Rattle.stroke_table.specs.Table.{IsTable}
-use Rattle.stroke_table.specs.BoxReasons.{AreKept}
-use Rattle.stroke_table.proofs.Places.{one_more}
+use Rattle.std.proofs.Common.{slice_index, arith}
+use Rattle.job_setup.specs.StrokeGroup.{group_of}
+use Rattle.stroke_table.specs.Strokes.{reason_at}
+use Rattle.stroke_table.proofs.FirstCodes.{is_code, first_told}
 use Rattle.stroke_table.proofs.table.StrokeTable.stroke.Goals as goal
 
-pub invariant_of-self : goal.invariant_of-self
-invariant_of-self c =
-    let inside = c.self.inside in
-    let strokes = inside.strokes.items in
-    let job : c.args.job.now ≡ inside.job = c.requires.job ∙ sym c.self.view_is in
-    let table : IsTable c.args.job.now strokes = subst (λ (j : JobData). IsTable j strokes) (sym job) c.self.invariant.0 in
-    let last : c.args.lead ≤ 12 = omega (arith, c.requires.last, table.few) in
-    let more = one_more c.args.job.now strokes c.args.mask c.args.lead c.args.back c.find_stroke-stroke.result c.requires.mask c.requires.first last c.find_stroke-stroke.ensures.stroke table in (
-      subst (λ (j : JobData). IsTable j (slice_set strokes c.place_of-place.result (Some c.find_stroke-stroke.result))) job
-          (subst (λ (place : ℕ). IsTable c.args.job.now (slice_set strokes place (Some c.find_stroke-stroke.result))) (sym c.place_of-place.ensures) more),
-      subst (λ (j : JobData). AreKept j c.find_stroke-stroke.new.kept) job c.find_stroke-stroke.ensures.kept,
-    )
+pub reasons_of-requires-clause-codes : goal.reasons_of-requires-clause-codes
+reasons_of-requires-clause-codes c = λ stage low.
+    is_code c.args.job.now c.args.mask (group_of c.args.job.now c.args.mask c.args.lead) c.args.back stage (slice_index c.codes-codes.result.0 stage)
+    (c.codes-codes.ensures.codes.each stage (omega (arith, low, c.stages.ensures.value)))
 
-pub find_stroke-stroke-requires-clause-kept : goal.find_stroke-stroke-requires-clause-kept
-find_stroke-stroke-requires-clause-kept c =
-    let job : c.args.job.now ≡ c.self.inside.job = c.requires.job ∙ sym c.self.view_is in
-    subst (λ (j : JobData). AreKept j c.self.inside.kept) (sym job) c.self.invariant.1
-
-pub returns-in-Some-clause-stroke : goal.returns-in-Some-clause-stroke
-returns-in-Some-clause-stroke c =
-    let inside = c.self.inside in
-    let strokes = inside.strokes.items in
-    let job : c.args.job.now ≡ inside.job = c.requires.job ∙ sym c.self.view_is in
-    let table : IsTable c.args.job.now strokes = subst (λ (j : JobData). IsTable j strokes) (sym job) c.self.invariant.0 in
-    let last : c.args.lead ≤ 12 = omega (arith, c.requires.last, table.few) in
-    let at_place = ap (λ (xs : List (Option Stroke)). slice_index_or xs c.place_of-place.result None) c.deref.ensures.value ∙ ap (λ (place : ℕ). slice_index_or strokes place None) c.place_of-place.ensures in
-    table.each c.args.mask c.args.lead c.args.back c.in-Some.stroke c.requires.first last (sym at_place ∙ sym c.known_at.ensures ∙ c.in-Some.is)
+pub returns-clause-stroke : goal.returns-clause-stroke
+returns-clause-stroke c =
+    let job = c.args.job.now in
+    let codes = c.codes-codes.result.0 in
+    record {
+      attitude = c.held-hold.ensures.hold.attitude;
+      gauge = c.held-hold.ensures.hold.gauge;
+      few = c.stages.ensures.valid.setup.stages.few_stages;
+      reasons = λ stage within.
+          first_told job c.args.mask (group_of job c.args.mask c.args.lead) c.args.back stage (slice_index codes stage) (reason_at c.reasons_of.result stage) (c.codes-codes.ensures.codes.each stage within)
+          (c.reasons_of.ensures.reasons stage (omega (arith, within, c.stages.ensures.value)));
+    }

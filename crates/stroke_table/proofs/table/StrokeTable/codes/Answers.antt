@@ -1,0 +1,26 @@
+use Rattle.std.proofs.Common.{◌≡◌, ◌∙◌, ◌≤◌, ℕ, sym, subst, arith, List, Option}
+use Rattle.job_setup.specs.Setup.{JobData}
+use Rattle.stroke_table.specs.declared.known.KeptStroke.{KeptStroke}
+use Rattle.stroke_table.specs.Table.{IsTable, AreCodesAt}
+use Rattle.stroke_table.proofs.Places.{place_within, kept_codes}
+use Rattle.stroke_table.proofs.table.StrokeTable.codes.Goals as goal
+
+pub known_codes-requires : goal.known_codes-requires
+known_codes-requires c =
+    let strokes = c.self.inside.strokes.items in
+    let job : c.args.job.now ≡ c.self.inside.job = c.requires.job ∙ sym c.self.view_is in
+    let table : IsTable c.args.job.now strokes = subst (λ (j : JobData). IsTable j strokes) (sym job) c.self.invariant.0 in
+    let last : c.args.lead ≤ 12 = omega (arith, c.requires.last, table.few) in
+    let within = place_within c.args.job.now c.args.mask c.args.lead c.args.back c.requires.mask c.requires.first last in
+    rw (c.deref.ensures.value, c.place_of-place.ensures, table.count) within
+
+pub returns-in-Some-clause-codes : goal.returns-in-Some-clause-codes
+returns-in-Some-clause-codes c =
+    let strokes = c.self.inside.strokes.items in
+    let job : c.args.job.now ≡ c.self.inside.job = c.requires.job ∙ sym c.self.view_is in
+    let table : IsTable c.args.job.now strokes = subst (λ (j : JobData). IsTable j strokes) (sym job) c.self.invariant.0 in
+    let at = subst (λ (xs : List (Option KeptStroke)). AreCodesAt xs c.place_of-place.result c.in-Some.codes) c.deref.ensures.value c.in-Some.ensures in
+    kept_codes c.args.job.now strokes c.args.mask c.args.lead c.args.back c.in-Some.codes table c.requires.first c.requires.last (subst (λ (place : ℕ). AreCodesAt strokes place c.in-Some.codes) c.place_of-place.ensures at)
+
+pub returns-in-None-clause-codes : goal.returns-in-None-clause-codes
+returns-in-None-clause-codes c = c.kept_stroke-kept.ensures.kept.codes
