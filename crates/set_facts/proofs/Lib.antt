@@ -1,3 +1,6 @@
 mod Places
 mod Leads
 mod Attitudes
+mod LeadSteps
+mod SetLaneSteps
+mod LaneTables

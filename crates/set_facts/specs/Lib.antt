@@ -1,2 +1,4 @@
 pub mod Facts
 pub mod Table
+pub mod FirstLeft
+pub mod LaneFacts

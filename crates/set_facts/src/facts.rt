@@ -1,5 +1,5 @@
 //! What belongs to a set of folded bends, and how it is found.
-ghost use Rattle.std.specs.Prelude.{◌≡◌, ◌<◌, ◌≤◌, slice_index_or};
+ghost use Rattle.std.specs.Prelude.{◌≡◌, ◌*◌, ◌<◌, ◌≤◌, slice_index_or};
 ghost use Rattle.set_facts.specs.Facts.{AreLeads, HasNoneBeyond, AreBounds, AreAttitudes, IsFacts, side_place};
 
 use brake_base::{Back, Mask, Turn};
@@ -45,12 +45,21 @@ impl SetFacts {
         requires last { bend ≤ 12 }
         ensures { result ≡ slice_index_or self.now.attitudes (side_place bend back) 0 }
     {
-        let side = match back {
-            Back::Parent => 0,
-            Back::Child => 1,
-        };
-        self.attitudes[usize::from(bend - 1) * 2 + side]
+        self.attitudes[side_place(bend, back)]
     }
+}
+
+/// Where what belongs to a bend and a side stands.
+pub(crate) fn side_place(bend: u8, back: Back) -> usize
+    requires { 1 ≤ bend }
+    ensures value { result ≡ side_place bend back }
+    ensures below { result < 2 * bend }
+{
+    let side = match back {
+        Back::Parent => 0,
+        Back::Child => 1,
+    };
+    usize::from(bend - 1) * 2 + side
 }
 
 /// The leads where the bends of the mask are folded.
@@ -82,7 +91,7 @@ fn bounds_of(job: &Job, mask: Mask) -> [u32; 6]
 }
 
 /// How the part is held in the strokes of each bend where the bends of the mask are folded.
-fn attitudes_of(job: &Job, mask: Mask) -> [Turn; 24]
+pub(crate) fn attitudes_of(job: &Job, mask: Mask) -> [Turn; 24]
     ensures { AreAttitudes job.now mask result }
 {
     let shape = job.shape();

@@ -3,7 +3,10 @@
 #![tactic(auto)]
 
 mod facts;
+mod lane_facts;
+mod set_lanes;
 mod table;
 
 pub use facts::SetFacts;
+pub use lane_facts::LaneFacts;
 pub use table::FactTable;

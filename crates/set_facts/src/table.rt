@@ -1,5 +1,5 @@
 //! The table of what belongs to each set of folded bends.
-ghost use Rattle.std.specs.Prelude.{◌≡◌, ◌<◌, ◌^◌, IfOk, None, length, slice_index_or};
+ghost use Rattle.std.specs.Prelude.{◌≡◌, ◌<◌, ◌≤◌, ◌^◌, IfOk, None, length, slice_index_or};
 ghost use Rattle.job_setup.specs.Setup.{bend_count};
 ghost use Rattle.set_facts.specs.Facts.{IsFacts};
 
@@ -61,8 +61,9 @@ impl FactTable {
 }
 
 /// The number of the sets of a job's bends.
-fn set_count(job: &Job) -> usize
-    ensures { result ≡ 2 ^ bend_count job.now }
+pub(crate) fn set_count(job: &Job) -> usize
+    ensures value { result ≡ 2 ^ bend_count job.now }
+    ensures few { result ≤ 4096 }
 {
     1 << job.bends()
 }

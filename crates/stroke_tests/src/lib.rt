@@ -1,6 +1,7 @@
 //! Tests of the crates that tell whether a stroke is possible and what it costs: swept sectors, the
-//! folding of bends and its undoing, gauges, costs, the reasons against a stroke, the table of strokes
-//! and the nogoods of a job. They stand above what they test, on public calls.
+//! folding of bends and its undoing, gauges, costs, what belongs to a set of bends, the reasons against
+//! a stroke, the table of strokes and the nogoods of a job. They stand above what they test, on public
+//! calls.
 #![tactic(auto)]
 
 #[cfg(test)]
@@ -13,6 +14,8 @@ mod handling_cost_tests;
 mod nogood_book_tests;
 #[cfg(test)]
 mod sector_geom_tests;
+#[cfg(test)]
+mod set_facts_tests;
 #[cfg(test)]
 mod stroke_table_tests;
 #[cfg(test)]

@@ -13,5 +13,5 @@ pub invariant_of-result : goal.invariant_of-result
 invariant_of-result c =
     let job = c.args.job.now in
     let none = c.in_ok-facts.ensures.items_if_clones_equal (none_alone _ (λ found of. of)) in
-    let empty = subst (λ (facts : List (Option SetFacts)). IsFactTable job facts) (sym none) (table_starts job c.set_count.result c.set_count.ensures) in
+    let empty = subst (λ (facts : List (Option SetFacts)). IsFactTable job facts) (sym none) (table_starts job c.set_count.result c.set_count.ensures.value) in
     subst (λ (j : JobData). IsFactTable j c.in_ok-facts.facts.items) (sym c.copy.ensures.value) empty
