@@ -90,9 +90,6 @@ module _ (job : JobData) (pool : Pool) (empty : pool ≡ empty_pool pool.limit (
   no_row : (i : ℕ) (row : PoolRow) → slice_get pool.rows i ≡ Some row → ⊥
   no_row i row at = none-some row (rw no_rows at at)
 
-  pub empty_actions : pool.actions ≡ 24 * stage_count job
-  empty_actions = ap (λ (p : Pool). p.actions) empty
-
   pub empty_sound : IsSound job pool.rows
   empty_sound = record { settled = λ i row worth at is. absurd (no_row i row at); nodes = λ i row at. absurd (no_row i row at) }
 

@@ -1,8 +1,10 @@
 pub mod Table
 pub mod Orders
-pub mod Candidates
 pub mod Tested
 pub mod Settling
+pub mod LaneSums
+pub mod KnownActions
+pub mod OpenRows
 pub mod Onward
 pub mod Outcomes
 pub mod Searches

@@ -7,6 +7,7 @@ use Rattle.job_setup.specs.Setup.{JobData, stage_count}
 use Rattle.handling_cost.specs.Reach.{nodes}
 use Rattle.row_pool.specs.Rows.{Pool, empty_pool}
 use Rattle.bb_search.specs.declared.outcome.Outcome.{Outcome}
+use Rattle.bb_search.specs.KnownActions.{TableData, AreKnown}
 
 -- the job for which it was opened, the pool of rows, how many keys may be settled, what the run
 -- answered, and the kept steps
@@ -32,9 +33,12 @@ abbrev pub opened : JobData → ℕ → SearchData
 opened job budget =
     search_data job (empty_pool (min budget (nodes job)) (24 * stage_count job)) budget None []
 
--- before the run it is as it was opened, and the trail has room for the folds of all bends
-pub record IsSearch (search : SearchData) (trail : ListWithRoom Place) : Type 0 where
+-- before the run it is as it was opened, and its table knows nothing that isn't so; the trail has
+-- room for the folds of all bends
+pub record IsSearch (search : SearchData) (trail : ListWithRoom Place) (table : TableData)
+    : Type 0 where
   pub fresh : search.outcome ≡ None → search ≡ opened search.job search.budget
+  pub known : search.outcome ≡ None → AreKnown search.job search.pool table
   pub actions : search.pool.actions ≡ 24 * stage_count search.job
   pub limit : search.pool.limit ≡ min search.budget (nodes search.job)
   pub room : trail ≡ list_with_room [] 156

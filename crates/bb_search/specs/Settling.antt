@@ -14,7 +14,6 @@ use Rattle.handling_cost.specs.Bound.{sum_of}
 use Rattle.handling_cost.specs.Good.{IsClosed}
 use Rattle.handling_cost.specs.Reach.{IsNode}
 use Rattle.row_pool.specs.Rows.{Pool, PoolRow, keys}
-use Rattle.bb_search.specs.Orders.{order_of}
 use Rattle.bb_search.specs.Table.{HasRow, noted_for, AreNoted, Grows}
 
 -- a rest from the key has this cost
@@ -33,17 +32,6 @@ LeadsOn job rows key (Cost n) =
     × IsKnown job rows (key_after job key step.action) (Cost rest)
     × (cost_of job key step.action + rest ≡ n)
 LeadsOn job rows key Blocked = Unit {0}
-
--- each action before this place in the order that has no reason is closed, and the worth is
--- attained
-pub record IsWork (job : JobData) (rows : List PoolRow) (row : PoolRow) (from : ℕ)
-    (worth : Worth) : Type 0 where
-  pub noted : AreNoted job row
-  pub closed : (action : Action) → IsActionAt job row.key action
-      → order_of job row.key action < from → noted_for job action row ≡ None
-      → IsClosed job (HasRow rows) row.key action worth
-  pub attained : IsAttained job row.key worth
-  pub leads_on : LeadsOn job rows row.key worth
 
 -- a row is done with this worth
 pub record IsSettled (job : JobData) (rows : List PoolRow) (row : PoolRow)
@@ -81,11 +69,6 @@ HasSource job rows key =
     (i : ℕ) × (row : PoolRow) × (worth : Worth) × (action : Action) × (slice_get rows i ≡ Some row)
     × (row.worth ≡ Some worth) × IsSource job row action worth key
 
--- the row that is open is the key's source, by an action before this place in the order
-abbrev pub IsPending : JobData → PoolRow → ℕ → Worth → Key → Type 0
-IsPending job row from worth key =
-    (action : Action) × (order_of job row.key action < from) × IsSource job row action worth key
-
 -- what a pool has after a key's worth was found
 pub record IsKnownAfter (job : JobData) (before after : Pool) (key : Key)
     (worth : Worth) : Type 0 where
@@ -109,44 +92,3 @@ pub record IsSpent (job : JobData) (before after : Pool) : Type 0 where
 abbrev pub IsFound : JobData → Pool → Pool → Key → Option Worth → Type 0
 IsFound job before after key None = IsSpent job before after
 IsFound job before after key (Some worth) = IsKnownAfter job before after key worth
-
--- a further row: it has a worth, and a source
-abbrev pub IsFurther : JobData → List PoolRow → PoolRow → ℕ → Worth → PoolRow → Type 0
-IsFurther job rows unsettled from best row =
-    IsSome row.worth × (HasSource job rows row.key ⊎ IsPending job unsettled from best row.key)
-
--- the pool while the key is settled: its row is the first after those from before
-pub record IsSettlingAt (job : JobData) (before now : Pool) (key : Key) (row : PoolRow) (from : ℕ)
-    (best : Worth) : Type 0 where
-  pub sound : IsSound job now.rows
-  pub longer : length before.rows < length now.rows
-  pub keeps : (i : ℕ) (other : PoolRow) → slice_get before.rows i ≡ Some other
-      → slice_get now.rows i ≡ Some other
-  pub here : slice_get now.rows (length before.rows) ≡ Some row
-  pub its : row.key ≡ key
-  pub unsettled : row.worth ≡ None
-  pub places : length row.reasons ≡ now.actions
-  pub work : IsWork job now.rows row from best
-  pub late : (action : Action) → IsActionAt job row.key action → from ≤ order_of job row.key action
-      → noted_for job action row ≡ None
-  pub others : (i : ℕ) (other : PoolRow) → slice_get now.rows i ≡ Some other →
-      (slice_get before.rows i ≡ Some other) ⊎ (i ≡ length before.rows)
-      ⊎ ((length before.rows < i) × IsFurther job now.rows row from best other)
-  pub limit : now.limit ≡ before.limit
-  pub actions : now.actions ≡ before.actions
-
-abbrev pub IsSettling : JobData → Pool → Pool → Key → ℕ → Worth → Type 0
-IsSettling job before now key from best =
-    (row : PoolRow) × IsSettlingAt job before now key row from best
-
--- the row of this number is open for the key, and at the other rows without a worth more bends are
--- left
-abbrev pub IsOpenRow : JobData → Pool → ℕ → Key → ℕ → Worth → Type 0
-IsOpenRow job now number key from best =
-    (before : Pool) × IsSettling job before now key from best × (number ≡ length before.rows)
-    × OpenAbove job before.rows (left job key)
-
--- the best worth after an action was tried, or that all rows are used
-abbrev pub IsTriedTo : JobData → Pool → Pool → Key → ℕ → Option Worth → Type 0
-IsTriedTo job before after key from None = IsSpent job before after
-IsTriedTo job before after key from (Some worth) = IsSettling job before after key from worth

@@ -3,6 +3,7 @@
 #![tactic(auto)]
 
 mod certificate;
+mod known;
 mod orders;
 mod outcome;
 mod plan;
@@ -10,7 +11,6 @@ mod reach;
 mod search;
 mod search_table;
 mod settle;
-mod worths;
 
 pub use outcome::Outcome;
 pub use reach::nodes;

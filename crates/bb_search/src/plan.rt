@@ -16,7 +16,6 @@ ghost use Rattle.bb_search.specs.Table.{HasRow};
 use crate::orders::{action_in, push_sorted_orders};
 use crate::search_table::{SearchTable, Tested};
 use crate::settle::key_with;
-use crate::worths::MOST_COST;
 use arrayvec::ArrayVec;
 use bend_state::BendState;
 use brake_base::{Action, Gauge, Key, Mask, Place, Step, Turn, Worth};
@@ -24,6 +23,9 @@ use handling_cost::{cost_to, is_full, start_key};
 use job_setup::{Job, group};
 use row_pool::RowPool;
 use undo_region::Region;
+
+/// The most that a plan costs, in tenths of a second.
+const MOST_COST: u64 = 1_000_000_000;
 
 /// A step of the kept plan, the key to which it leads, and the cost of what comes after it.
 #[derive(Clone, Copy, Debug)]
@@ -111,7 +113,7 @@ fn step_by(
 ) -> Option<Onward>
     requires job { IsJob job.now }
     requires sound { IsSound job.now pool.now.rows }
-    requires table { job.now ≡ table.old }
+    requires table { job.now ≡ table.old.job }
     requires shape { state.now.shape ≡ shape_of job.now }
     requires mask { state.now.mask ≡ key.now.mask }
     requires key { IsKeyOf job.now key.now }
@@ -145,7 +147,7 @@ fn next_step(
 ) -> Onward
     requires job { IsJob job.now }
     requires sound { IsSound job.now pool.now.rows }
-    requires table { job.now ≡ table.old }
+    requires table { job.now ≡ table.old.job }
     requires shape { state.now.shape ≡ shape_of job.now }
     requires mask { state.now.mask ≡ key.now.mask }
     requires key { IsKeyOf job.now key.now }
@@ -172,7 +174,7 @@ fn first_onward(
 ) -> Onward
     requires job { IsJob job.now }
     requires sound { IsSound job.now pool.now.rows }
-    requires table { job.now ≡ table.old }
+    requires table { job.now ≡ table.old.job }
     requires shape { state.now.shape ≡ shape_of job.now }
     requires mask { state.now.mask ≡ key.now.mask }
     requires key { IsKeyOf job.now key.now }
@@ -204,7 +206,7 @@ pub(crate) fn kept_plan(
 ) -> ArrayVec<Step, 12>
     requires job { IsJob job.now }
     requires sound { IsSound job.now pool.now.rows }
-    requires table { job.now ≡ table.old }
+    requires table { job.now ≡ table.old.job }
     requires shape { state.old.shape ≡ shape_of job.now }
     requires mask { state.old.mask ≡ start.mask }
     requires known { IsKnown job.now pool.now.rows start (Worth.Cost cost) }

@@ -6,6 +6,7 @@ ghost use Rattle.job_setup.specs.ValidJob.{IsJob};
 ghost use Rattle.handling_cost.specs.Plan.{start};
 ghost use Rattle.row_pool.specs.Rows.{Pool, empty_pool};
 ghost use Rattle.bb_search.specs.Settling.{IsFound};
+ghost use Rattle.bb_search.specs.KnownActions.{AreKnown};
 ghost use Rattle.bb_search.specs.Outcomes.{AreSteps, outcome_of, outcome_with, IsAnswer, AreWithinBudget};
 ghost use Rattle.bb_search.specs.Searches.{opened};
 ghost use Rattle.bb_search.specs.Certificates.{HasAnswer, IsCertificateOf};
@@ -48,10 +49,10 @@ impl Model for Search {
 
     ghost Value = { SearchData };
 
-    ghost view = { λ s. search_data s.table s.pool s.budget s.outcome s.steps.items };
+    ghost view = { λ s. search_data s.table.job s.pool s.budget s.outcome s.steps.items };
 
     ghost invariant = { λ s.
-        IsSearch (search_data s.table s.pool s.budget s.outcome s.steps.items) s.trail };
+        IsSearch (search_data s.table.job s.pool s.budget s.outcome s.steps.items) s.trail s.table };
 }
 
 /// The worth of the start key: 0 where there is no bend, else the one that is found by settling it.
@@ -64,12 +65,12 @@ fn start_worth(
     trail: &mut Region<Place>,
 ) -> Option<Worth>
     requires empty { pool.old ≡ empty_pool pool.old.limit (24 * stage_count job.now) }
-    requires table { job.now ≡ table.old }
+    requires known { AreKnown job.now pool.old table.old }
     requires shape { state.old.shape ≡ shape_of job.now }
     requires mask { state.old.mask ≡ start.mask }
     requires room { trail.old ≡ list_with_room [] 156 }
     ensures found { IsFound job.now pool.old pool.new start result }
-    ensures table { table.new ≡ table.old }
+    ensures job { table.new.job ≡ table.old.job }
     ensures state { state.new ≡ state.old }
     ensures trail { trail.new ≡ trail.old }
     ensures valid { IsJob job.now }
@@ -90,7 +91,7 @@ fn steps_of(
     worth: Option<Worth>,
 ) -> ArrayVec<Step, 12>
     requires job { IsJob job.now }
-    requires table { job.now ≡ table.old }
+    requires table { job.now ≡ table.old.job }
     requires shape { state.old.shape ≡ shape_of job.now }
     requires mask { state.old.mask ≡ start.mask }
     requires found { (before : Pool) × IsFound job.now before pool.now start worth }

@@ -1,19 +1,27 @@
 //! What is kept of each set of folded bends, and what a test of an action tells.
-ghost use Rattle.std.specs.Prelude.{◌≡◌, ◌≢◌, ◌<◌, ◌≤◌, ◌^◌, IfOk, IfSome, IsTrue, MatchOption, Contains, None, Some, length, slice_get};
-ghost use Rattle.row_pool.specs.Rows.{keys, IsPool};
-ghost use Rattle.job_setup.specs.Setup.{shape_of, bend_count};
+ghost use Rattle.std.specs.Prelude.{◌≡◌, ◌≢◌, ℕ, ◌*◌, ◌<◌, ◌≤◌, ◌^◌, IfOk, IsTrue, None, Some, length, slice_get, slice_index};
+ghost use Rattle.row_pool.specs.Rows.{empty_pool};
+ghost use Rattle.job_setup.specs.Setup.{shape_of, bend_count, stage_count};
 ghost use Rattle.job_setup.specs.ValidJob.{IsJob};
 ghost use Rattle.brake_base.specs.declared.stroke.Gauge.{Gauge};
 ghost use Rattle.handling_cost.specs.StepCost.{IsKeyOf, IsActionAt};
 ghost use Rattle.set_facts.specs.Facts.{IsFacts};
+ghost use Rattle.handling_cost.specs.Bound.{bound_of};
 ghost use Rattle.bb_search.specs.Tested.{IsTested};
+ghost use Rattle.set_facts.specs.Facts.{AreLeads, HasNoneBeyond};
+ghost use Rattle.set_facts.specs.LaneFacts.{HasWays};
+ghost use Rattle.job_setup.specs.StrokeGroup.{is_lead};
+ghost use Rattle.bb_search.specs.KnownActions.{TableData, AreKnown, IsRefusal, IsLearnt, IsChangedAt};
+ghost use Rattle.bb_search.specs.LaneSums.{AreSums, AreBendSums, AreStillSums, AreSideSums};
+ghost use Rattle.brake_base.specs.Actions.{IsActionAmong};
 
-use crate::orders::MOST_ACTIONS;
+use crate::known::KnownActions;
+use action_lanes::ActionCosts;
 use bend_state::BendState;
-use brake_base::{Action, Gauge, Key, Mask, Reason, Turn};
-use job_setup::Job;
-use row_pool::RowPool;
-use set_facts::{FactTable, SetFacts};
+use brake_base::{Action, Back, Gauge, Key, Mask, Reason, Turn};
+use job_setup::{Job, group};
+use set_facts::{FactTable, LaneFacts, SetFacts};
+use stage_lanes::{ActionSet, BLOCKED, StageCosts};
 use std::alloc::{AllocError, Global};
 use std::marker::Model;
 use stroke_table::{StageStroke, StrokeTable};
@@ -25,25 +33,33 @@ pub enum Tested {
     Free { attitude: Turn, gauge: Gauge },
 }
 
-/// What is kept of each set of folded bends: what belongs to it, its strokes, and the rows to which
-/// its actions lead. A table is seen as its job.
+/// What is kept of each set of folded bends: what belongs to it, its strokes, and what is known of
+/// its actions. Contracts see the job, and what is known by set.
 #[derive(Drop)]
 pub struct SearchTable {
     strokes: StrokeTable,
     facts: FactTable,
-    /// For each action at each set the row that was last found for the key to which it leads.
-    rows: Vec<u32>,
+    lanes: LaneFacts,
+    known: Vec<KnownActions>,
 }
 
 impl Model for SearchTable {
     ghost use Rattle.std.specs.Prelude.{◌≡◌};
-    ghost use Rattle.job_setup.specs.Setup.{JobData};
+    ghost use Rattle.bb_search.specs.KnownActions.{TableData};
 
-    ghost Value = { JobData };
+    ghost Value = { TableData };
 
-    ghost view = { λ t. t.strokes };
+    ghost view = { λ t. record { job = t.strokes; known = t.known.items } };
 
-    ghost invariant = { λ t. t.facts ≡ t.strokes };
+    ghost invariant = { λ t. (t.facts ≡ t.strokes) × (t.lanes ≡ t.strokes) };
+}
+
+/// The number of the sets of a job's bends.
+fn set_count(job: &Job) -> usize
+    ensures value { result ≡ 2 ^ bend_count job.now }
+    ensures valid { IsJob job.now }
+{
+    1 << job.bends()
 }
 
 /// How the part is held and gauged in a stroke that no reason refuses.
@@ -61,82 +77,163 @@ fn held(stroke: &StageStroke) -> Tested
     }
 }
 
-/// The number of places for the actions at all sets.
-fn action_places(job: &Job) -> usize
-    ensures { length job.now.part.faces ≤ 13 }
-{
-    MOST_ACTIONS << job.bends()
-}
-
-/// Whether both keys are one.
-fn is_same(first: &Key, second: &Key) -> bool
-    ensures { IsTrue result → first.now ≡ second.now }
-{
-    first.mask.0 == second.mask.0
-        && first.attitude.number() == second.attitude.number()
-        && first.stage == second.stage
-}
-
-/// The row that stands at a place, if it has the key.
-fn row_at(rows: &[u32], place: usize, pool: &RowPool, key: &Key) -> Option<u32>
-    ensures row { IfSome result (λ row. slice_get (keys pool.now) row ≡ Some key.now) }
-    ensures pool { IfSome result (λ _. IsPool pool.now) }
-{
-    let row = *rows.get(place)?;
-    if row < pool.len() && is_same(&pool.key(row), key) {
-        Some(row)
-    } else {
-        None
-    }
-}
-
 impl SearchTable {
-    /// A table for the job. It takes all memory that it will use.
+    /// A table for the job, in which nothing is known. It takes all memory that it will use.
     pub fn open(alloc: Global, job: &Job) -> Result<SearchTable, AllocError>
-        ensures { IfOk result (λ table. table ≡ job.now) }
+        ensures job { IfOk result (λ table. table.job ≡ job.now) }
+        ensures known { IfOk result (λ table. (limit : ℕ)
+            → AreKnown job.now (empty_pool limit (24 * stage_count job.now)) table) }
     {
         let strokes = StrokeTable::open(alloc, job)?;
         let facts = FactTable::open(alloc, job)?;
-        let rows = vec![in alloc; 0; action_places(job)]?;
+        let lanes = LaneFacts::open(alloc, job)?;
+        let known = vec![in alloc; KnownActions::none(); set_count(job)]?;
         Ok(SearchTable {
             strokes,
             facts,
-            rows,
+            lanes,
+            known,
         })
     }
 
     /// What belongs to a set.
     pub fn facts(&mut self, mask: Mask) -> SetFacts
-        requires { mask.0 < 2 ^ bend_count self.old }
-        ensures facts { IsFacts self.old mask result }
+        requires { mask.0 < 2 ^ bend_count self.old.job }
+        ensures facts { IsFacts self.old.job mask result }
         ensures table { self.new ≡ self.old }
     {
         self.facts.facts(mask)
     }
 
-    /// The number of the row with the key to which an action leads, where its place among the
-    /// actions at all sets is this one. None exactly where no row has the key.
-    pub fn find(&mut self, pool: &RowPool, place: usize, key: &Key) -> Option<u32>
-        ensures row { MatchOption result (¬ Contains (keys pool.now) key.now)
-            (λ row. slice_get (keys pool.now) row ≡ Some key.now) }
-        ensures pool { IsPool pool.now }
-        ensures table { self.new ≡ self.old }
+    /// The leads of the strokes that may come next where the bends of the mask are folded.
+    pub fn leads(&self, mask: Mask) -> Mask
+        requires { mask.0 < 2 ^ bend_count self.now.job }
+        ensures leads { AreLeads self.now.job mask result }
+        ensures only { HasNoneBeyond self.now.job result }
     {
-        let known = row_at(&self.rows, place, pool, key);
-        if known.is_some() {
-            return known;
+        self.lanes.leads(mask)
+    }
+
+    /// The bound of a key, in tenths of a second.
+    pub fn bound(&self, key: &Key) -> u32
+        requires valid { IsJob self.now.job }
+        requires key { IsKeyOf self.now.job key.now }
+        ensures { result ≡ bound_of self.now.job key.now }
+    {
+        self.lanes.bounds(key.mask).cost(key.stage)
+    }
+
+    /// The sum of each action at a key, in tenths of a second; at the other stages of its leads
+    /// [`BLOCKED`] or more.
+    pub fn sums(&self, job: &Job, key: &Key, leads: Mask) -> ActionCosts
+        requires valid { IsJob job.now }
+        requires job { job.now ≡ self.now.job }
+        requires key { IsKeyOf job.now key.now }
+        requires leads { AreLeads job.now key.now.mask leads }
+        ensures { AreSums job.now key.now leads result }
+    {
+        let ways = self.lanes.ways(key.mask, key.stage);
+        let mut sums = ActionCosts::all(BLOCKED);
+        for bend in 1..job.bends() + 1 {
+            if leads.contains(bend) {
+                self.put_sums(job, key, bend, ways, &mut sums);
+            }
         }
-        let row = pool.find(*key)?;
-        if place < self.rows.len() {
-            self.rows[place] = row;
-        }
-        Some(row)
+        sums
+    }
+
+    /// Puts the sums of a lead's actions at their places, by the ways to the stages.
+    fn put_sums(&self, job: &Job, key: &Key, bend: u8, ways: StageCosts, sums: &mut ActionCosts)
+        requires valid { IsJob job.now }
+        requires job { job.now ≡ self.now.job }
+        requires key { IsKeyOf job.now key.now }
+        requires first { 1 ≤ bend }
+        requires last { bend ≤ bend_count job.now }
+        requires lead { IsTrue (is_lead job.now key.now.mask bend) }
+        requires ways { HasWays job.now key.now.mask key.now.stage ways.0 }
+        requires small { (stage : ℕ) → stage < 8 → slice_index ways.0 stage ≤ 536870912 }
+        ensures { AreBendSums job.now key.now bend sums.old sums.new }
+    {
+        let onward = self.onward(job, key, bend, ways);
+        let parent = self.turned(job, key, bend, Back::Parent, onward);
+        sums.set_side(bend, Back::Parent, parent);
+        let child = self.turned(job, key, bend, Back::Child, onward);
+        sums.set_side(bend, Back::Child, child);
+    }
+
+    /// What a stroke of a lead and what comes after it cost at least, at each stage, by the ways to
+    /// the stages and without the change of attitude.
+    fn onward(&self, job: &Job, key: &Key, bend: u8, ways: StageCosts) -> StageCosts
+        requires valid { IsJob job.now }
+        requires job { job.now ≡ self.now.job }
+        requires key { IsKeyOf job.now key.now }
+        requires first { 1 ≤ bend }
+        requires last { bend ≤ bend_count job.now }
+        requires lead { IsTrue (is_lead job.now key.now.mask bend) }
+        requires ways { HasWays job.now key.now.mask key.now.stage ways.0 }
+        requires small { (stage : ℕ) → stage < 8 → slice_index ways.0 stage ≤ 536870912 }
+        ensures { AreStillSums job.now key.now bend result.0 }
+    {
+        job.recall_valid();
+        let after = self
+            .lanes
+            .bounds(key.mask.union(group(job, key.mask, bend)));
+        let stroke = StageCosts::all(job.setup().cost.stroke as u32);
+        after.plus(ways).plus(stroke)
+    }
+
+    /// The sums of a lead's actions with this side at the back, from what they cost without the
+    /// change of attitude.
+    fn turned(&self, job: &Job, key: &Key, bend: u8, back: Back, onward: StageCosts) -> StageCosts
+        requires valid { IsJob job.now }
+        requires job { job.now ≡ self.now.job }
+        requires key { IsKeyOf job.now key.now }
+        requires first { 1 ≤ bend }
+        requires last { bend ≤ bend_count job.now }
+        requires onward { AreStillSums job.now key.now bend onward.0 }
+        ensures { AreSideSums job.now key.now bend back result.0 }
+    {
+        let attitude = self.lanes.attitude(key.mask, bend, back);
+        let change = self.lanes.change(key.attitude, attitude);
+        onward.plus(StageCosts::all(change))
+    }
+
+    /// What is known of the actions at a set.
+    pub fn known(&self, mask: Mask) -> &KnownActions
+        requires { mask.0 < length self.now.known }
+        ensures { slice_get self.now.known mask.0 ≡ Some result.now }
+    {
+        &self.known[usize::from(mask.0)]
+    }
+
+    /// A reason refuses an action at a set.
+    pub fn refuse(&mut self, mask: Mask, action: Action)
+        requires mask { mask.0 < length self.old.known }
+        requires action { IsActionAmong 12 8 action }
+        ensures job { self.new.job ≡ self.old.job }
+        ensures known { IsChangedAt (IsRefusal action) mask.0
+            self.old.known self.new.known }
+    {
+        let known = &mut self.known[usize::from(mask.0)];
+        known.refuse(action);
+    }
+
+    /// The slack of an action at a set is known.
+    pub fn learn(&mut self, mask: Mask, action: Action, slack: u32)
+        requires mask { mask.0 < length self.old.known }
+        requires action { IsActionAmong 12 8 action }
+        ensures job { self.new.job ≡ self.old.job }
+        ensures known { IsChangedAt (IsLearnt action slack) mask.0
+            self.old.known self.new.known }
+    {
+        let known = &mut self.known[usize::from(mask.0)];
+        known.learn(action, slack);
     }
 
     /// What a test of an action tells at a key, whose bends are folded as the part stands.
     pub fn test(&mut self, job: &Job, state: &BendState, key: &Key, action: Action) -> Tested
         requires valid { IsJob job.now }
-        requires job { job.now ≡ self.old }
+        requires job { job.now ≡ self.old.job }
         requires shape { state.now.shape ≡ shape_of job.now }
         requires mask { state.now.mask ≡ key.now.mask }
         requires key { IsKeyOf job.now key.now }
@@ -144,12 +241,17 @@ impl SearchTable {
         ensures tested { IsTested job.now key.now action result }
         ensures table { self.new ≡ self.old }
     {
-        let stroke = self
+        match self
             .strokes
-            .stroke_at(job, state.places(), key.mask, action);
-        match stroke.reason {
+            .reason_at(job, state.places(), key.mask, action)
+        {
             Some(reason) => Tested::Refused(reason),
-            None => held(&stroke),
+            None => {
+                let stroke = self
+                    .strokes
+                    .stroke_at(job, state.places(), key.mask, action);
+                held(&stroke)
+            }
         }
     }
 }

@@ -16,10 +16,10 @@ const STEP: u64 = 6_911;
 /// How many keys are looked up.
 const LOOKUPS: u32 = 1_000_000;
 
-/// How many rows get a reason for each action.
+/// Of how many rows the common reasons are set.
 const REFUSED_ROWS: u32 = 1_000;
 
-/// Times a pool of few rows, one of all rows, and the reasons of few rows.
+/// Times a pool of few rows, one of all rows, and the common reasons of few rows.
 pub fn time_pools(rt: &HostRuntime) -> anyhow::Result<()> {
     time_rows(rt, 1_000)?;
     time_rows(rt, KEYS)?;
@@ -46,7 +46,7 @@ fn time_rows(rt: &HostRuntime, count: u32) -> anyhow::Result<()> {
     Ok(())
 }
 
-/// Sets all reasons of the first rows of the greatest pool.
+/// Sets the common reasons of the first rows of the greatest pool.
 fn time_reasons(rt: &HostRuntime) -> anyhow::Result<()> {
     let keys = scattered_keys(rt.alloc(), REFUSED_ROWS)?;
     let mut pool = RowPool::open(rt.alloc(), MOST_ROWS, MOST_ACTIONS)?;
@@ -54,8 +54,8 @@ fn time_reasons(rt: &HostRuntime) -> anyhow::Result<()> {
     let start = Instant::now(rt)?;
     refuse_all(&mut pool);
     let refused = Instant::now(rt)?;
-    let set_reason = nanoseconds(start, refused, REFUSED_ROWS * u32::from(MOST_ACTIONS));
-    eprintln!(rt; "pool of {} rows: set_reason {set_reason} ns", pool.len())?;
+    let set_common = nanoseconds(start, refused, REFUSED_ROWS * u32::from(MOST_ACTIONS));
+    eprintln!(rt; "pool of {} rows: set_common {set_common} ns", pool.len())?;
     Ok(())
 }
 
@@ -101,7 +101,7 @@ fn found(pool: &RowPool, keys: &[Key]) -> usize {
     keys.iter().filter(|key| pool.find(**key).is_some()).count()
 }
 
-/// Sets all reasons of a row.
+/// Sets the common reasons of a row's set of folded bends, one for each action.
 #[tactic(auto, using(row_pool::proofs::PoolLemmas::pool_lemmas))]
 fn refuse(pool: &mut RowPool, row: u32)
     requires row { row < length pool.old.rows }
@@ -109,12 +109,13 @@ fn refuse(pool: &mut RowPool, row: u32)
     ensures rows { length pool.new.rows ≡ length pool.old.rows }
     ensures actions { pool.new.actions ≡ pool.old.actions }
 {
+    let mask = pool.key(row).mask;
     for action in 0..MOST_ACTIONS {
-        pool.set_reason(row, action, Reason::Rest(Half::Back));
+        pool.set_common(mask, action, Reason::Rest(Half::Back));
     }
 }
 
-/// Sets all reasons of all rows.
+/// Sets the common reasons of all rows.
 fn refuse_all(pool: &mut RowPool)
     requires { pool.old.actions ≡ MOST_ACTIONS }
 {

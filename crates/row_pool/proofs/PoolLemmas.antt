@@ -5,7 +5,8 @@ use Rattle.std.specs.Prelude.{slice_get, option_and_then, option_map}
 use Rattle.brake_base.specs.declared.stroke.Key.{Key}
 use Rattle.brake_base.specs.declared.stroke.Worth.{Worth}
 use Rattle.brake_base.specs.declared.reason.Reason.{Reason}
-use Rattle.row_pool.specs.Rows.{Pool, PoolRow, keys, changed_at, worth_at, reason_at, new_row, with_row, with_worth, with_reason, IsPool}
+use Rattle.row_pool.specs.Rows.{Pool, PoolRow, keys, changed_at, worth_at, reason_at, new_row, with_row, with_worth, common_at, noted_reasons, with_notes}
+use Rattle.stage_lanes.specs.declared.actions.ActionSet.{ActionSet}
 
 module _ {X : Type 0} where
   pub length-changed_at : (place : ℕ) (change : X → X) (xs : List X) → length (changed_at place change xs) ≡ length xs
@@ -76,9 +77,9 @@ keys-with_row pool key = map-append (λ (row : PoolRow). row.key) pool.rows (new
 pub keys-with_worth : (pool : Pool) (row : ℕ) (worth : Worth) → keys (with_worth pool row worth) ≡ keys pool
 keys-with_worth pool row worth = kept_by_changed_at (λ (r : PoolRow). r.key) row (λ r. record r { worth = Some worth }) (λ r. refl) pool.rows
 
-pub keys-with_reason : (pool : Pool) (row action : ℕ) (reason : Reason) → keys (with_reason pool row action reason) ≡ keys pool
-keys-with_reason pool row action reason =
-    kept_by_changed_at (λ (r : PoolRow). r.key) row (λ r. record r { reasons = set r.reasons action (Some reason) }) (λ r. refl) pool.rows
+pub keys-with_notes : (pool : Pool) (row : ℕ) (notes : ActionSet) → keys (with_notes pool row notes) ≡ keys pool
+keys-with_notes pool row notes =
+    kept_by_changed_at (λ (r : PoolRow). r.key) row (λ r. record r { reasons = noted_reasons pool.actions (common_at pool r.key.mask) notes }) (λ r. refl) pool.rows
 
 -- the reason that a row has for an action
 abbrev reason_for : ℕ → PoolRow → Option Reason
@@ -103,36 +104,24 @@ module _ (pool : Pool) (row : ℕ) where
   reason_at-with_worth k action worth =
       shown_at_kept (reason_for action) row (λ r. record r { worth = Some worth }) pool.rows k (λ r. refl)
 
-  pub worth_at-with_reason : (k action : ℕ) (reason : Reason) → worth_at (with_reason pool row action reason) k ≡ worth_at pool k
-  worth_at-with_reason k action reason =
-      shown_at_kept (λ (r : PoolRow). r.worth) row (λ r. record r { reasons = set r.reasons action (Some reason) }) pool.rows k (λ r. refl)
+  pub worth_at-with_notes : (k : ℕ) (notes : ActionSet) → worth_at (with_notes pool row notes) k ≡ worth_at pool k
+  worth_at-with_notes k notes =
+      shown_at_kept (λ (r : PoolRow). r.worth) row (λ r. record r { reasons = noted_reasons pool.actions (common_at pool r.key.mask) notes }) pool.rows k (λ r. refl)
 
-  pub reason_at-with_reason_same : (action : ℕ) (reason : Reason) → IsPool pool → row < length pool.rows → action < pool.actions → reason_at (with_reason pool row action reason) row action ≡ Some reason
-  reason_at-with_reason_same action reason is_pool within known =
-      shown_at_changed (reason_for action) row (λ r. record r { reasons = set r.reasons action (Some reason) }) pool.rows reason within
-      (λ d. ap (option_and_then (λ (x : Option Reason). x)) (slice_get-set_same (get_or pool.rows row d).reasons action (Some reason) (rw (is_pool.places row d within) known)))
-
-  pub reason_at-with_reason_other_row : (action k other_action : ℕ) (reason : Reason) → k ≢ row → reason_at (with_reason pool row action reason) k other_action ≡ reason_at pool k other_action
-  reason_at-with_reason_other_row action k other_action reason other =
-      ap (option_and_then (reason_for other_action)) (slice_get-changed_at_other row (λ r. record r { reasons = set r.reasons action (Some reason) }) pool.rows k other)
-
-  pub reason_at-with_reason_other_action : (action k other_action : ℕ) (reason : Reason) → other_action ≢ action → reason_at (with_reason pool row action reason) k other_action ≡ reason_at pool k other_action
-  reason_at-with_reason_other_action action k other_action reason other =
-      shown_at_kept (reason_for other_action) row (λ r. record r { reasons = set r.reasons action (Some reason) }) pool.rows k
-      (λ r. ap (option_and_then (λ (x : Option Reason). x)) (slice_get-set_other r.reasons action other_action (Some reason) other))
+  pub reason_at-with_notes_other : (k action : ℕ) (notes : ActionSet) → k ≢ row → reason_at (with_notes pool row notes) k action ≡ reason_at pool k action
+  reason_at-with_notes_other k action notes other =
+      ap (option_and_then (reason_for action)) (slice_get-changed_at_other row (λ r. record r { reasons = noted_reasons pool.actions (common_at pool r.key.mask) notes }) pool.rows k other)
 
 pub ruleset pool_lemmas = (
   length-changed_at,
   keys-with_row,
   keys-with_worth,
-  keys-with_reason,
+  keys-with_notes,
   worth_at-with_row,
   reason_at-with_row,
   worth_at-with_worth_same,
   worth_at-with_worth_other,
   reason_at-with_worth,
-  worth_at-with_reason,
-  reason_at-with_reason_same,
-  reason_at-with_reason_other_row,
-  reason_at-with_reason_other_action,
+  worth_at-with_notes,
+  reason_at-with_notes_other,
 )

@@ -4,8 +4,8 @@ ghost use Rattle.std.specs.Prelude.{◌≡◌, Some};
 use brake_base::{Half, Quarter, Reason};
 use std::mem::size_of;
 
-/// The reason that was found for an action at a row, or that none was: an `Option<Reason>` without
-/// the fifth byte. A pool has up to 84,893,328 of these.
+/// The reason that the rows with a set of folded bends have in common for an action, or that none was
+/// found: an `Option<Reason>` without the fifth byte. A pool has up to 9,437,184 of these.
 #[derive(Clone, Copy)]
 pub enum KeptReason {
     Unset,

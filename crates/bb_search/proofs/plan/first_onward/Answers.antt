@@ -1,7 +1,7 @@
 use Rattle.std.proofs.Common.{arith, ◌∙◌}
 use Rattle.std.proofs.lemmas.List.{get_or_default}
 use Rattle.std.proofs.lemmas.List.Elements.{Contains-get_or}
-use Rattle.bb_search.proofs.NextLemmas.{order_in}
+use Rattle.bb_search.proofs.OrderLists.{order_in}
 use Rattle.bb_search.proofs.PlanLemmas.{none_more, none_at_all}
 use Rattle.bb_search.proofs.plan.first_onward.Goals as goal
 

@@ -8,16 +8,13 @@ use Rattle.handling_cost.specs.Reach.{IsNode}
 use Rattle.handling_cost.proofs.Actions.{few_left}
 use Rattle.handling_cost.proofs.Keys.{start_in_range}
 use Rattle.bb_search.proofs.CallLemmas.{known_full}
-use Rattle.bb_search.proofs.OutcomeLemmas.{start_full, start_node, empty_actions, empty_sound, empty_open, empty_new}
+use Rattle.bb_search.proofs.OutcomeLemmas.{start_full, start_node, empty_sound, empty_open, empty_new}
 use Rattle.bb_search.proofs.search.start_worth.Goals as goal
 
 pub returns-then-bends-eq0-clause-found : goal.returns-then-bends-eq0-clause-found
 returns-then-bends-eq0-clause-found c =
     let none : bend_count c.args.job.now ≡ 0 = omega (arith, c.bends.ensures.value, c.if-bends-eq0.true) in
     known_full c.args.job.now c.args.pool.now (empty_sound c.args.job.now c.args.pool.now c.requires.empty) start (start_full c.args.job.now c.bends.ensures.valid none)
-
-pub settle-requires-clause-actions : goal.settle-requires-clause-actions
-settle-requires-clause-actions c = empty_actions c.args.job.now c.args.pool.now c.requires.empty
 
 pub settle-requires-clause-sound : goal.settle-requires-clause-sound
 settle-requires-clause-sound c = empty_sound c.args.job.now c.args.pool.now c.requires.empty

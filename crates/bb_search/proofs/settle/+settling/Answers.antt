@@ -1,108 +1,109 @@
-use Rattle.std.specs.List.Sorted.{IsNonDecreasing}
-use Rattle.std.proofs.Common.{◌≡◌, ◌≢◌, ◌⊎◌, ◌<◌, ◌*◌, ◌+◌, ◌≤◌, ℕ, List, [], ◌∷◌, ◌++◌, length, take, arith, refl, sym, ◌∙◌, ap, subst}
+use Rattle.std.proofs.Common.{◌≡◌, ◌≢◌, ◌⊎◌, inl, inr, ◌<◌, ◌*◌, ◌+◌, ◌≤◌, ℕ, List, length, Some, arith, refl, sym, ◌∙◌, ap, subst, [], ◌∷◌, ◌++◌, take}
+use Rattle.std.specs.Prelude.{slice_get}
 use Rattle.brake_base.specs.declared.space.Place.{Place}
-use Rattle.brake_base.specs.declared.mask.Mask.{Mask}
 use Rattle.brake_base.specs.declared.stroke.Key.{Key}
-use Rattle.brake_base.specs.declared.stroke.Worth.{Worth}
-use Rattle.brake_base.specs.Masks.{union}
-use Rattle.brake_base.specs.Worths.{IsAtMost, plus}
 use Rattle.undo_region.specs.Room.{ListWithRoom}
-use Rattle.fold_boxes.specs.Shapes.{ShapeData}
 use Rattle.bend_state.specs.State.{StateData, IsKept, last_fold}
+use Rattle.job_setup.specs.Setup.{JobData}
+use Rattle.handling_cost.specs.StepCost.{left, IsKeyOf, IsFull}
+use Rattle.row_pool.specs.Rows.{Pool, PoolRow, new_row, keys, common_at, AreCommon}
+use Rattle.bb_search.specs.KnownActions.{IsChoice, TableData, AreKnown, IsRefusal, IsChangedAt}
+use Rattle.bb_search.proofs.OpenRowLemmas.{settling_starts}
+use Rattle.bb_search.proofs.CallLemmas.{spent_here, next_is, node_after}
+use Rattle.bb_search.proofs.KnownCalls.{known_here, known_refused, changed_above, settling_refused, settling_sound, settling_open}
+use Rattle.bb_search.proofs.DoneLemmas.{known_started, open_of_choice, all_known, notes_common, open_key, settling_ends_at, untested_by, refused_by, noted_within}
+use Rattle.brake_base.specs.declared.mask.Mask.{Mask}
+use Rattle.brake_base.specs.Masks.{union}
+use Rattle.fold_boxes.specs.Shapes.{ShapeData}
 use Rattle.handling_cost.proofs.ActionGroups.{action_groups}
-use Rattle.row_pool.specs.Rows.{new_row}
-use Rattle.handling_cost.specs.StepCost.{IsKeyOf, IsFull, left, cost_to}
 use Rattle.handling_cost.specs.Reach.{IsNode}
 use Rattle.handling_cost.proofs.Actions.{few_bends, fewer_left}
 use Rattle.handling_cost.proofs.Keys.{next_in_range}
-use Rattle.bb_search.specs.Settling.{OpenAbove, IsKnownAfter}
-use Rattle.bb_search.proofs.SettlingLemmas.{settling_starts}
+use Rattle.bb_search.specs.Settling.{OpenAbove}
+use Rattle.bb_search.specs.OpenRows.{IsSameAbove}
+use Rattle.bb_search.proofs.ExploreLemmas.{cheapest_at, cheapest_unknown, cheapest_floor, later_gone, later_kept, open_later, least_later, slack_small, spent_since, fewer_since}
+use Rattle.bb_search.proofs.Measures.{fewer_places}
+use Rattle.stage_lanes.specs.ActionSets.{place_of}
 use Rattle.bb_search.proofs.FoldLemmas.{some_fold, is_kept, state_back, trail_back, room_left}
-use Rattle.bb_search.proofs.CallLemmas.{next_is, spent_here, node_after, found_small, settling_sound, settling_actions, settling_open, settling_next, settling_noted, settling_tested, settling_finished, next_at_itself}
+use Rattle.bb_search.proofs.KnownLemmas.{at_set, place_small}
+use Rattle.bb_search.proofs.TryLemmas.{same_above_more, refused_told, refused_slack, next_range, next_small, next_bound, learnt_told, learnt_slack, learnt_above, learnt_settling, learnt_known}
 use Rattle.bb_search.proofs.settle.+settling.Goals as goal
 
 pub settle-returns-in_err-row-clause-found : goal.settle-returns-in_err-row-clause-found
 settle-returns-in_err-row-clause-found t c =
     let full = c.in_err-row.ensures.full in
     let same = c.in_err-row.ensures.unchanged in
-    rw (c.from_residual.ensures, same) (spent_here c.args.job.now c.args.pool.now c.requires.sound c.args.key.now c.requires.node c.requires.new_key (full.0 refl))
+    rw (c.from_residual.ensures, same)
+    (spent_here c.args.job.now c.args.pool.now c.requires.sound c.args.key.now c.requires.node c.requires.new_key (full.0 refl))
 
-pub settle-loop-candidate-init : goal.settle-loop-candidate-init
-settle-loop-candidate-init t c =
-    let same = c.in_ok-row.ensures.added in
+pub settle-choose-choice-requires-clause-small : goal.settle-choose-choice-requires-clause-small
+settle-choose-choice-requires-clause-small t c =
+    λ at here. (c.requires.known.each c.args.key.now.mask at here).small
+
+pub settle-loop-leads-init : goal.settle-loop-leads-init
+settle-loop-leads-init t c =
+    let job = c.args.job.now in
+    let key = c.args.key.now in
+    let before = c.args.pool.now in
+    let table = c.args.table.now in
+    let added = c.in_ok-row.ensures.added in
+    let here = known_here job before table c.requires.known key.mask c.requires.range.mask in
     record {
-      place = omega arith;
-      earlier = λ k d below. absurd (omega arith);
-      settling = rw same (new_row c.args.pool.now.actions c.args.key.now, settling_starts c.args.job.now c.args.pool.now c.args.key.now c.requires.sound c.requires.node);
-      table = c.push_sorted_orders.ensures.table;
+      settling = rw added (
+        here.0,
+        here.1,
+        (new_row before.actions key, settling_starts job before key here.0 c.requires.sound c.requires.node),
+      );
+      known = rw added (known_started job before key table c.requires.known);
+      choice = λ at stands.
+          subst (λ (j : JobData). IsChoice j key at c.choose-choice.result) c.requires.known.its_job
+          (c.choose-choice.ensures at stands);
+      untested = untested_by table.known key.mask.0 c.known.result.now c.choose-choice.result.tested
+          c.without-untested.result c.known.ensures c.without-untested.ensures.places;
+      above = λ mask more. refl;
       state = refl;
       trail = refl;
     }
 
-pub settle-returns-in_err-best-clause-found : goal.settle-returns-in_err-best-clause-found
-settle-returns-in_err-best-clause-found t c =
+pub settle-explore-requires : goal.settle-explore-requires
+settle-explore-requires t c =
     let job = c.args.job.now in
     let key = c.args.key.now in
-    let before = c.args.pool.now in
-    rw c.from_residual-in_err-best.ensures
-    (c.in_err-best.ensures.found before (sym c.in_ok-row.ensures.row)
-    (settling_next job c.requires.job before c.loop-candidate.pool key c.loop-candidate.from c.loop-candidate.best c.loop-candidate.invariant.settling c.in-Some.candidate.order c.in-Some.candidate.action c.in-Some.ensures.some))
-
-pub settle-loop-candidate-preserved : goal.settle-loop-candidate-preserved
-settle-loop-candidate-preserved t c =
-    let job = c.args.job.now in
-    let key = c.args.key.now in
-    let before = c.args.pool.now in
-    let now = c.loop-candidate.pool in
-    let state = c.loop-candidate.invariant.settling in
-    record {
-      place = rw (← c.as_slice.ensures.value) (omega (arith, c.in-Some.ensures.place));
-      earlier = rw (← c.as_slice.ensures.value) c.in-Some.ensures.earlier;
-      settling = c.in_ok-best.ensures.found before (sym c.in_ok-row.ensures.row)
-          (settling_next job c.requires.job before now key c.loop-candidate.from c.loop-candidate.best state c.in-Some.candidate.order c.in-Some.candidate.action c.in-Some.ensures.some);
-      table = c.tried.ensures.table ∙ c.loop-candidate.invariant.table;
-      state = c.tried.ensures.state ∙ c.loop-candidate.invariant.state;
-      trail = c.tried.ensures.trail ∙ c.loop-candidate.invariant.trail;
-    }
-
-pub settle-returns-clause-found : goal.settle-returns-clause-found
-settle-returns-clause-found t c =
-    let finished = settling_finished c.args.job.now c.requires.job c.args.pool.now c.loop-candidate.pool c.args.key.now c.loop-candidate.from c.loop-candidate.best c.loop-candidate.invariant.settling c.in_default.ensures.none in
-    rw (c.set_worth.ensures.set, c.in_ok-row.ensures.row) finished
-
-pub settle-next_candidate-requires-clause-sorted : goal.settle-next_candidate-requires-clause-sorted
-settle-next_candidate-requires-clause-sorted t c = subst (λ (orders : List ℕ). IsNonDecreasing orders) (sym c.as_slice.ensures.value) c.push_sorted_orders.ensures.sorted
-
-pub settle-tried-requires : goal.settle-tried-requires
-settle-tried-requires t c =
-    let job = c.args.job.now in
-    let key = c.args.key.now in
-    let before = c.args.pool.now in
-    let now = c.loop-candidate.pool in
-    let order = c.in-Some.candidate.order in
-    let action = c.in-Some.candidate.action in
-    let invariant = c.loop-candidate.invariant in
-    let next = c.in-Some.ensures.some in (
+    let invariant = c.loop-leads.invariant in
+    let choice = c.loop-leads.choice in
+    let at = invariant.settling.0 in
+    let here = invariant.settling.1 in (
       omega (arith, c.decreases),
       (
         c.requires.job,
         (
-          settling_actions job c.requires.job before now key c.loop-candidate.from c.loop-candidate.best invariant.settling ∙ c.requires.actions,
+          invariant.known,
           (
-            c.requires.table ∙ sym invariant.table,
+            c.requires.range,
             (
-              c.requires.range,
+              c.requires.node,
               (
-                c.requires.node,
+                (c.args.pool.now, invariant.settling, c.requires.open),
                 (
-                  (before, settling_next job c.requires.job before now key c.loop-candidate.from c.loop-candidate.best invariant.settling order action next, c.in_ok-row.ensures.row, c.requires.open),
+                  ap (λ (s : StateData). s.shape) invariant.state ∙ c.requires.shape,
                   (
-                    next_at_itself job key c.loop-candidate.from c.loop-candidate.best order action next,
+                    ap (λ (s : StateData). s.mask) invariant.state ∙ c.requires.mask,
                     (
-                      ap (λ (s : StateData). s.shape) invariant.state ∙ c.requires.shape,
+                      subst (λ (r : ListWithRoom Place). 13 * left job key ≤ r.room) (sym invariant.trail) c.requires.room,
                       (
-                        ap (λ (s : StateData). s.mask) invariant.state ∙ c.requires.mask,
-                        subst (λ (r : ListWithRoom Place). 13 * left job key ≤ r.room) (sym invariant.trail) c.requires.room,
+                        c.sums-sums.ensures,
+                        (
+                          (invariant.choice at here).capped,
+                          (
+                            λ known stands. (invariant.choice known stands).least,
+                            (
+                              λ known stands.
+                                  open_of_choice job c.requires.job key known choice (invariant.choice known stands)
+                                  c.loop-leads.untested (invariant.untested known stands),
+                              λ none. (let yes = c.is_empty.ensures.1 none in let no = c.loop-leads-test.true in cc),
+                            ),
+                          ),
+                        ),
                       ),
                     ),
                   ),
@@ -113,6 +114,432 @@ settle-tried-requires t c =
         ),
       ),
     )
+
+pub settle-choose-choice-requires-in-loop-leads-clause-small :
+    goal.settle-choose-choice-requires-in-loop-leads-clause-small
+settle-choose-choice-requires-in-loop-leads-clause-small t c =
+    λ at here. (c.in_ok-explore.ensures.known.each c.args.key.now.mask at here).small
+
+pub settle-loop-leads-preserved : goal.settle-loop-leads-preserved
+settle-loop-leads-preserved t c =
+    let key = c.args.key.now in
+    let invariant = c.loop-leads.invariant in
+    let known = c.in_ok-explore.ensures.known in
+    record {
+      settling = c.in_ok-explore.ensures.found c.args.pool.now invariant.settling;
+      known = known;
+      choice = λ at stands.
+          subst (λ (j : JobData). IsChoice j key at c.choose-choice-in-loop-leads.result) known.its_job
+          (c.choose-choice-in-loop-leads.ensures at stands);
+      untested = untested_by c.explore.new.table.known key.mask.0 c.known-in-loop-leads.result.now
+          c.choose-choice-in-loop-leads.result.tested c.without-untested-in-loop-leads.result
+          c.known-in-loop-leads.ensures c.without-untested-in-loop-leads.ensures.places;
+      above = λ mask more. c.explore.ensures.above mask more ∙ invariant.above mask more;
+      state = c.explore.ensures.state ∙ invariant.state;
+      trail = c.explore.ensures.trail ∙ invariant.trail;
+    }
+
+pub settle-set_notes-requires-clause-common : goal.settle-set_notes-requires-clause-common
+settle-set_notes-requires-clause-common t c =
+    λ other stands.
+    let job = c.args.job.now in
+    let key = c.args.key.now in
+    let now = c.loop-leads.pool in
+    let known = c.loop-leads.table.known in
+    let choice = c.loop-leads.choice in
+    let notes = c.intersection.result in
+    let invariant = c.loop-leads.invariant in
+    let at = invariant.settling.0 in
+    let here = invariant.settling.1 in
+    let none = c.is_empty.ensures.0 c.loop-leads-test.false in
+    let same = open_key job c.args.pool.now now key at invariant.settling.2.0 invariant.settling.2.1 other
+    (subst (λ (n : ℕ). slice_get (keys now) n ≡ Some other) c.in_ok-row.ensures.row stands) in
+    let is = invariant.choice at here in
+    let all = all_known job c.requires.job key at choice is c.loop-leads.untested (invariant.untested at here) none in
+    let notes_are = refused_by known key.mask.0 c.known-2.result.now choice.tested notes c.known-2.ensures c.intersection.ensures.places at here in
+    subst (λ (k : Key). AreCommon now.actions (common_at now k.mask) notes) (sym same)
+    (notes_common job c.requires.job key at choice is now (invariant.known.each key.mask at here) invariant.known.actions all notes notes_are)
+
+pub settle-set_worth-requires : goal.settle-set_worth-requires
+settle-set_worth-requires t c =
+    record {
+      row = noted_within c.args.pool.now c.loop-leads.pool c.set_notes.new.self c.in_ok-row.row
+          c.intersection.result c.in_ok-row.ensures.row
+          c.loop-leads.invariant.settling.2.1.longer c.set_notes.ensures.set;
+    }
+
+pub settle-returns-clause-found : goal.settle-returns-clause-found
+settle-returns-clause-found t c =
+    let job = c.args.job.now in
+    let key = c.args.key.now in
+    let choice = c.loop-leads.choice in
+    let notes = c.intersection.result in
+    let invariant = c.loop-leads.invariant in
+    let at = invariant.settling.0 in
+    let here = invariant.settling.1 in
+    let none = c.is_empty.ensures.0 c.loop-leads-test.false in
+    let is = invariant.choice at here in
+    (settling_ends_at job c.requires.job c.args.pool.now c.loop-leads.pool at invariant.settling.2.0 choice notes c.worth_from-worth.result
+    key invariant.settling.2.1 c.requires.range c.loop-leads.table invariant.known here is
+    (all_known job c.requires.job key at choice is c.loop-leads.untested (invariant.untested at here) none)
+    (refused_by c.loop-leads.table.known key.mask.0 c.known-2.result.now choice.tested notes c.known-2.ensures c.intersection.ensures.places at here)
+    c.worth_from-worth.ensures c.in_ok-row.row c.in_ok-row.ensures.row c.set_notes.new.self c.set_worth.new.self
+    c.set_notes.ensures.set c.set_worth.ensures.set).0
+
+pub settle-returns-clause-known : goal.settle-returns-clause-known
+settle-returns-clause-known t c =
+    let job = c.args.job.now in
+    let key = c.args.key.now in
+    let choice = c.loop-leads.choice in
+    let notes = c.intersection.result in
+    let invariant = c.loop-leads.invariant in
+    let at = invariant.settling.0 in
+    let here = invariant.settling.1 in
+    let none = c.is_empty.ensures.0 c.loop-leads-test.false in
+    let is = invariant.choice at here in
+    (settling_ends_at job c.requires.job c.args.pool.now c.loop-leads.pool at invariant.settling.2.0 choice notes c.worth_from-worth.result
+    key invariant.settling.2.1 c.requires.range c.loop-leads.table invariant.known here is
+    (all_known job c.requires.job key at choice is c.loop-leads.untested (invariant.untested at here) none)
+    (refused_by c.loop-leads.table.known key.mask.0 c.known-2.result.now choice.tested notes c.known-2.ensures c.intersection.ensures.places at here)
+    c.worth_from-worth.ensures c.in_ok-row.row c.in_ok-row.ensures.row c.set_notes.new.self c.set_worth.new.self
+    c.set_notes.ensures.set c.set_worth.ensures.set).1
+
+pub explore-try_action-requires : goal.explore-try_action-requires
+explore-try_action-requires t c =
+    let job = c.args.job.now in
+    let is_job = c.requires.job in
+    let key = c.args.key.now in
+    let best = c.args.best in
+    let sums = c.args.sums.now in
+    let pool = c.loop-action.pool in
+    let table = c.loop-action.table in
+    let untested = c.loop-action.untested in
+    let invariant = c.loop-action.invariant in
+    let action = c.in-Some.action in
+    let cheapest = c.in-Some.ensures.some in
+    let here = known_here job pool table invariant.known key.mask c.requires.range.mask in
+    let at = cheapest_at job is_job key best here.0 untested (invariant.waiting here.0 here.1) c.args.leads sums c.requires.sums action cheapest in
+    let start = c.requires.settling in (
+      omega (arith, c.decreases),
+      (
+        is_job,
+        (
+          invariant.known,
+          (
+            c.requires.range,
+            (
+              c.requires.node,
+              (
+                (start.0, invariant.settling start.0 start.1, start.2),
+                (
+                  at,
+                  (
+                    λ k is. cheapest_unknown job is_job key best k untested (invariant.waiting k is) c.args.leads sums c.requires.sums action cheapest,
+                    (
+                      λ k is. cheapest_floor job is_job key best k untested (invariant.waiting k is) c.args.leads sums c.requires.sums action cheapest c.loop-action.limit c.in-Some.ensures.below (invariant.least k is),
+                      (
+                        ap (λ (s : StateData). s.shape) invariant.state ∙ c.requires.shape,
+                        (
+                          ap (λ (s : StateData). s.mask) invariant.state ∙ c.requires.mask,
+                          subst (λ (r : ListWithRoom Place). 13 * left job key ≤ r.room) (sym invariant.trail) c.requires.room,
+                        ),
+                      ),
+                    ),
+                  ),
+                ),
+              ),
+            ),
+          ),
+        ),
+      ),
+    )
+
+pub explore-returns-in_err-slack-clause-spent : goal.explore-returns-in_err-slack-clause-spent
+explore-returns-in_err-slack-clause-spent t c =
+    let start = c.requires.settling in
+    rw c.from_residual.ensures
+    (spent_since c.args.job.now start.0 c.args.pool.now c.loop-action.pool c.try_action.new.pool c.args.key.now c.args.table.now c.loop-action.table start.1 (c.loop-action.invariant.settling start.0 start.1) c.in_err-slack.ensures.spent)
+
+pub explore-overflow_add-cost : goal.explore-overflow_add-cost
+explore-overflow_add-cost t c =
+    let action = c.in-Some.action in
+    let among = c.in-Some.ensures.some.among in
+    let cost = c.cost.ensures in
+    let small = c.requires.sums.small (place_of action) (place_small action among) in
+    let few = slack_small c.args.job.now c.requires.job c.try_action.new.pool c.try_action.new.table c.args.key.now c.requires.range.mask c.in_ok-slack.ensures.known action among c.in_ok-slack.slack c.in_ok-slack.ensures.slack in
+    omega (arith, cost, small, few)
+
+pub explore-loop-action-smaller : goal.explore-loop-action-smaller
+explore-loop-action-smaller t c =
+    let job = c.args.job.now in
+    let is_job = c.requires.job in
+    let key = c.args.key.now in
+    let best = c.args.best in
+    let sums = c.args.sums.now in
+    let pool = c.loop-action.pool in
+    let table = c.loop-action.table in
+    let untested = c.loop-action.untested in
+    let invariant = c.loop-action.invariant in
+    let action = c.in-Some.action in
+    let cheapest = c.in-Some.ensures.some in
+    let here = known_here job pool table invariant.known key.mask c.requires.range.mask in
+    let at = cheapest_at job is_job key best here.0 untested (invariant.waiting here.0 here.1) c.args.leads sums c.requires.sums action cheapest in
+    let later = c.except-untested.result in
+    let later_are = c.except-untested.ensures.places in
+    let there = known_here job c.try_action.new.pool c.try_action.new.table c.in_ok-slack.ensures.known key.mask c.requires.range.mask in
+    let told = c.in_ok-slack.ensures.told here.0 there.0 here.1 there.1 in
+    let within = place_small action cheapest.among in
+    fewer_places untested later (place_of action) within cheapest.member
+    (later_gone job is_job key action at here.0 there.0 told best untested later later_are within)
+    (later_kept job is_job key action at here.0 there.0 told best untested later later_are)
+
+pub explore-loop-action-preserved : goal.explore-loop-action-preserved
+explore-loop-action-preserved t c =
+    let job = c.args.job.now in
+    let is_job = c.requires.job in
+    let key = c.args.key.now in
+    let best = c.args.best in
+    let sums = c.args.sums.now in
+    let pool = c.loop-action.pool in
+    let table = c.loop-action.table in
+    let untested = c.loop-action.untested in
+    let invariant = c.loop-action.invariant in
+    let action = c.in-Some.action in
+    let cheapest = c.in-Some.ensures.some in
+    let here = known_here job pool table invariant.known key.mask c.requires.range.mask in
+    let at = cheapest_at job is_job key best here.0 untested (invariant.waiting here.0 here.1) c.args.leads sums c.requires.sums action cheapest in
+    let later = c.except-untested.result in
+    let later_are = c.except-untested.ensures.places in
+    let lower = c.min-limit.ensures in
+    let slack = c.in_ok-slack.slack in
+    let cost = c.cost.ensures ∙ c.requires.sums.each action at in
+    record {
+      low = let low = invariant.low in omega (arith, lower, low);
+      least = λ k is.
+          least_later job is_job key action at here.0 k (c.in_ok-slack.ensures.told here.0 k here.1 is) best c.loop-action.limit slack c.min-limit.result (c.in_ok-slack.ensures.slack k is)
+          (omega (arith, lower)) (omega (arith, lower, cost)) (invariant.least here.0 here.1);
+      waiting = λ k is.
+          open_later job is_job key action at here.0 k (c.in_ok-slack.ensures.told here.0 k here.1 is) best untested later later_are (invariant.waiting here.0 here.1);
+      settling = λ before start. c.in_ok-slack.ensures.found before (invariant.settling before start);
+      known = c.in_ok-slack.ensures.known;
+      fewer = inr (fewer_since job is_job pool c.args.table.now table c.try_action.new.table key c.requires.range.mask invariant.known action cheapest.among
+          (λ k is. cheapest_unknown job is_job key best k untested (invariant.waiting k is) c.args.leads sums c.requires.sums action cheapest)
+          c.in_ok-slack.ensures.told
+          (elim invariant.fewer [ inl same ↦ inl same.2 | inr fewer ↦ inr fewer ]));
+      above = λ mask more. c.try_action.ensures.above mask more ∙ invariant.above mask more;
+      state = c.try_action.ensures.state ∙ invariant.state;
+      trail = c.try_action.ensures.trail ∙ invariant.trail;
+    }
+
+pub try_action-worth_of-requires : goal.try_action-worth_of-requires
+try_action-worth_of-requires t c =
+    let job = c.args.job.now in
+    let key = c.args.key.now in
+    let action = c.args.action in
+    let table = c.args.table.now in
+    let by = c.requires.settling.1 in
+    let tested = c.in-Free.ensures.tested in
+    let at = c.requires.action in
+    let next = next_is job key action c.key_with-next.result c.group-group.result c.in-Free.attitude c.key_with-next.ensures.mask c.group-group.ensures.value c.key_with-next.ensures.attitude tested.0 c.key_with-next.ensures.stage in
+    let less = fewer_left job (few_bends job c.requires.job) key action at in
+    let fewer : left job c.key_with-next.result < left job key = subst (λ (k : Key). left job k < left job key) (sym next) less in (
+      omega (arith, c.decreases, fewer),
+      (
+        c.requires.job,
+        (
+          subst (λ (t : TableData). AreKnown job c.args.pool.now t) (sym c.test.ensures.table) c.requires.known,
+          (
+            settling_sound job c.requires.settling.0 c.args.pool.now key table by,
+            (
+              subst (λ (k : Key). IsKeyOf job k) (sym next) (next_in_range job c.requires.job key action c.requires.range at),
+              (
+                λ more. subst (λ (k : Key). IsNode job k) (sym next) (node_after job key action c.in-Free.gauge c.requires.node tested.1 (λ full. more (subst (λ (k : Key). IsFull job k) (sym next) full))),
+                (
+                  subst (λ (k : Key). OpenAbove job c.args.pool.now.rows (left job k)) (sym next) (settling_open job c.requires.settling.0 c.args.pool.now key table by c.requires.job c.requires.settling.2 action at),
+                  (
+                    c.requires.shape,
+                    (
+                      rw (c.requires.shape, c.requires.mask, c.group-group.ensures.value) (action_groups job (few_bends job c.requires.job) key action at),
+                      (
+                        c.key_with-next.ensures.mask ∙ ap (λ (m : Mask). union m c.group-group.result) (sym c.requires.mask),
+                        omega (arith, fewer, c.requires.room),
+                      ),
+                    ),
+                  ),
+                ),
+              ),
+            ),
+          ),
+        ),
+      ),
+    )
+
+pub try_action-returns-in_err-worth-in-Free-clause-above : goal.try_action-returns-in_err-worth-in-Free-clause-above
+try_action-returns-in_err-worth-in-Free-clause-above t c =
+    let job = c.args.job.now in
+    let key = c.args.key.now in
+    let action = c.args.action in
+    let tested = c.in-Free.ensures.tested in
+    let at = c.requires.action in
+    let next = next_is job key action c.key_with-next.result c.group-group.result c.in-Free.attitude c.key_with-next.ensures.mask c.group-group.ensures.value c.key_with-next.ensures.attitude tested.0 c.key_with-next.ensures.stage in
+    let less : left job c.key_with-next.result < left job key = subst (λ (k : Key). left job k < left job key) (sym next) (fewer_left job (few_bends job c.requires.job) key action at) in
+    same_above_more job c.args.table.now c.worth_of.new.table (left job c.key_with-next.result) (left job key) less
+    (subst (λ (t : TableData). IsSameAbove job t c.worth_of.new.table (left job c.key_with-next.result)) c.test.ensures.table c.worth_of.ensures.above)
+
+pub try_action-slack_above-slack-requires-clause-key : goal.try_action-slack_above-slack-requires-clause-key
+try_action-slack_above-slack-requires-clause-key t c =
+    let job = c.args.job.now in
+    let key = c.args.key.now in
+    let action = c.args.action in
+    let after = c.in_ok-worth-in-Free in
+    let next = c.key_with-next.result in
+    let next_same = next_is job key action next c.group-group.result c.in-Free.attitude c.key_with-next.ensures.mask c.group-group.ensures.value c.key_with-next.ensures.attitude c.in-Free.ensures.tested.0 c.key_with-next.ensures.stage in
+    let same = subst (λ (t : TableData). IsSameAbove job t c.worth_of.new.table (left job next)) c.test.ensures.table c.worth_of.ensures.above in
+    next_range job c.requires.job c.args.pool.now key c.args.table.now c.requires.known action c.requires.action c.requires.unknown
+    c.requires.range next next_same c.worth_of.new.pool c.worth_of.new.table after.worth after.ensures.found after.ensures.known same
+
+pub try_action-slack_above-slack-requires-clause-small : goal.try_action-slack_above-slack-requires-clause-small
+try_action-slack_above-slack-requires-clause-small t c =
+    let job = c.args.job.now in
+    let key = c.args.key.now in
+    let action = c.args.action in
+    let after = c.in_ok-worth-in-Free in
+    let next = c.key_with-next.result in
+    let next_same = next_is job key action next c.group-group.result c.in-Free.attitude c.key_with-next.ensures.mask c.group-group.ensures.value c.key_with-next.ensures.attitude c.in-Free.ensures.tested.0 c.key_with-next.ensures.stage in
+    let same = subst (λ (t : TableData). IsSameAbove job t c.worth_of.new.table (left job next)) c.test.ensures.table c.worth_of.ensures.above in
+    next_small job c.requires.job c.args.pool.now key c.args.table.now c.requires.known action c.requires.action c.requires.unknown
+    c.requires.range next next_same c.worth_of.new.pool c.worth_of.new.table after.worth after.ensures.found after.ensures.known same
+
+pub try_action-slack_above-slack-requires-clause-bound : goal.try_action-slack_above-slack-requires-clause-bound
+try_action-slack_above-slack-requires-clause-bound t c =
+    let job = c.args.job.now in
+    let key = c.args.key.now in
+    let action = c.args.action in
+    let after = c.in_ok-worth-in-Free in
+    let next = c.key_with-next.result in
+    let next_same = next_is job key action next c.group-group.result c.in-Free.attitude c.key_with-next.ensures.mask c.group-group.ensures.value c.key_with-next.ensures.attitude c.in-Free.ensures.tested.0 c.key_with-next.ensures.stage in
+    let same = subst (λ (t : TableData). IsSameAbove job t c.worth_of.new.table (left job next)) c.test.ensures.table c.worth_of.ensures.above in
+    next_bound job c.requires.job c.args.pool.now key c.args.table.now c.requires.known action c.requires.action c.requires.unknown
+    c.requires.range next next_same c.worth_of.new.pool c.worth_of.new.table after.worth after.ensures.found after.ensures.known same
+
+pub try_action-returns-in-Refused-clause-found : goal.try_action-returns-in-Refused-clause-found
+try_action-returns-in-Refused-clause-found t c =
+    let job = c.args.job.now in
+    let key = c.args.key.now in
+    let action = c.args.action in
+    let table = c.args.table.now in
+    let after = c.refuse.new.self in
+    let changed = subst (λ (t : TableData). IsChangedAt (IsRefusal action) key.mask.0 t.known after.known) c.test.ensures.table c.refuse.ensures.known in
+    λ before by.
+    rw (c.set_common.ensures.set, c.action_number.ensures.value, c.stages.ensures.value)
+    (settling_refused job c.requires.job before c.args.pool.now key table by action c.requires.action (c.requires.unknown by.0 by.1) after c.in-Refused.reason changed)
+
+pub try_action-returns-in-Refused-clause-known : goal.try_action-returns-in-Refused-clause-known
+try_action-returns-in-Refused-clause-known t c =
+    let job = c.args.job.now in
+    let key = c.args.key.now in
+    let action = c.args.action in
+    let table = c.args.table.now in
+    let after = c.refuse.new.self in
+    let changed = subst (λ (t : TableData). IsChangedAt (IsRefusal action) key.mask.0 t.known after.known) c.test.ensures.table c.refuse.ensures.known in
+    rw (c.set_common.ensures.set, c.action_number.ensures.value, c.stages.ensures.value)
+    (known_refused job c.requires.job c.args.pool.now table after key.mask action c.in-Refused.reason c.requires.range.mask (at_set job c.requires.job key action c.requires.action) c.in-Refused.ensures.tested c.requires.known changed
+    (c.refuse.ensures.job ∙ ap (λ (t : TableData). t.job) c.test.ensures.table) c.requires.unknown)
+
+pub try_action-returns-in-Refused-clause-told : goal.try_action-returns-in-Refused-clause-told
+try_action-returns-in-Refused-clause-told t c =
+    let job = c.args.job.now in
+    let key = c.args.key.now in
+    let action = c.args.action in
+    let table = c.args.table.now in
+    let after = c.refuse.new.self in
+    let changed = subst (λ (t : TableData). IsChangedAt (IsRefusal action) key.mask.0 t.known after.known) c.test.ensures.table c.refuse.ensures.known in
+    refused_told job c.requires.job c.args.pool.now key table c.requires.known action c.requires.action c.requires.unknown after changed
+
+pub try_action-returns-in-Refused-clause-slack : goal.try_action-returns-in-Refused-clause-slack
+try_action-returns-in-Refused-clause-slack t c =
+    let job = c.args.job.now in
+    let key = c.args.key.now in
+    let action = c.args.action in
+    let table = c.args.table.now in
+    let after = c.refuse.new.self in
+    let changed = subst (λ (t : TableData). IsChangedAt (IsRefusal action) key.mask.0 t.known after.known) c.test.ensures.table c.refuse.ensures.known in
+    refused_slack job c.requires.job c.args.pool.now key table c.requires.known action c.requires.action c.requires.unknown after changed
+
+pub try_action-returns-in-Refused-clause-above : goal.try_action-returns-in-Refused-clause-above
+try_action-returns-in-Refused-clause-above t c =
+    let job = c.args.job.now in
+    let key = c.args.key.now in
+    let action = c.args.action in
+    let table = c.args.table.now in
+    let after = c.refuse.new.self in
+    let changed = subst (λ (t : TableData). IsChangedAt (IsRefusal action) key.mask.0 t.known after.known) c.test.ensures.table c.refuse.ensures.known in
+    changed_above job key table after changed
+
+pub try_action-returns-in_ok-worth-in-Free-clause-found : goal.try_action-returns-in_ok-worth-in-Free-clause-found
+try_action-returns-in_ok-worth-in-Free-clause-found t c =
+    let job = c.args.job.now in
+    let key = c.args.key.now in
+    let action = c.args.action in
+    let after = c.in_ok-worth-in-Free in
+    let next = c.key_with-next.result in
+    let next_same = next_is job key action next c.group-group.result c.in-Free.attitude c.key_with-next.ensures.mask c.group-group.ensures.value c.key_with-next.ensures.attitude c.in-Free.ensures.tested.0 c.key_with-next.ensures.stage in
+    let same = subst (λ (t : TableData). IsSameAbove job t c.worth_of.new.table (left job next)) c.test.ensures.table c.worth_of.ensures.above in
+    learnt_settling job c.requires.job c.args.pool.now key c.args.table.now c.requires.known action c.requires.action c.requires.unknown
+    c.requires.range next next_same c.worth_of.new.pool c.worth_of.new.table after.worth after.ensures.found after.ensures.known same
+    c.learn.new.self c.slack_above-slack.result c.learn.ensures.known c.requires.floor
+
+pub try_action-returns-in_ok-worth-in-Free-clause-known : goal.try_action-returns-in_ok-worth-in-Free-clause-known
+try_action-returns-in_ok-worth-in-Free-clause-known t c =
+    let job = c.args.job.now in
+    let key = c.args.key.now in
+    let action = c.args.action in
+    let after = c.in_ok-worth-in-Free in
+    let next = c.key_with-next.result in
+    let next_same = next_is job key action next c.group-group.result c.in-Free.attitude c.key_with-next.ensures.mask c.group-group.ensures.value c.key_with-next.ensures.attitude c.in-Free.ensures.tested.0 c.key_with-next.ensures.stage in
+    let same = subst (λ (t : TableData). IsSameAbove job t c.worth_of.new.table (left job next)) c.test.ensures.table c.worth_of.ensures.above in
+    learnt_known job c.requires.job c.args.pool.now key c.args.table.now c.requires.known action c.requires.action c.requires.unknown
+    c.requires.range next next_same c.worth_of.new.pool c.worth_of.new.table after.worth after.ensures.found after.ensures.known same
+    c.learn.new.self c.slack_above-slack.result c.learn.ensures.known c.in-Free.gauge c.in-Free.ensures.tested.1 c.slack_above-slack.ensures.slack c.slack_above-slack.ensures.small c.learn.ensures.job
+
+pub try_action-returns-in_ok-worth-in-Free-clause-told : goal.try_action-returns-in_ok-worth-in-Free-clause-told
+try_action-returns-in_ok-worth-in-Free-clause-told t c =
+    let job = c.args.job.now in
+    let key = c.args.key.now in
+    let action = c.args.action in
+    let after = c.in_ok-worth-in-Free in
+    let next = c.key_with-next.result in
+    let next_same = next_is job key action next c.group-group.result c.in-Free.attitude c.key_with-next.ensures.mask c.group-group.ensures.value c.key_with-next.ensures.attitude c.in-Free.ensures.tested.0 c.key_with-next.ensures.stage in
+    let same = subst (λ (t : TableData). IsSameAbove job t c.worth_of.new.table (left job next)) c.test.ensures.table c.worth_of.ensures.above in
+    learnt_told job c.requires.job c.args.pool.now key c.args.table.now c.requires.known action c.requires.action c.requires.unknown
+    c.requires.range next next_same c.worth_of.new.pool c.worth_of.new.table after.worth after.ensures.found after.ensures.known same
+    c.learn.new.self c.slack_above-slack.result c.learn.ensures.known
+
+pub try_action-returns-in_ok-worth-in-Free-clause-slack : goal.try_action-returns-in_ok-worth-in-Free-clause-slack
+try_action-returns-in_ok-worth-in-Free-clause-slack t c =
+    let job = c.args.job.now in
+    let key = c.args.key.now in
+    let action = c.args.action in
+    let after = c.in_ok-worth-in-Free in
+    let next = c.key_with-next.result in
+    let next_same = next_is job key action next c.group-group.result c.in-Free.attitude c.key_with-next.ensures.mask c.group-group.ensures.value c.key_with-next.ensures.attitude c.in-Free.ensures.tested.0 c.key_with-next.ensures.stage in
+    let same = subst (λ (t : TableData). IsSameAbove job t c.worth_of.new.table (left job next)) c.test.ensures.table c.worth_of.ensures.above in
+    learnt_slack job c.requires.job c.args.pool.now key c.args.table.now c.requires.known action c.requires.action c.requires.unknown
+    c.requires.range next next_same c.worth_of.new.pool c.worth_of.new.table after.worth after.ensures.found after.ensures.known same
+    c.learn.new.self c.slack_above-slack.result c.learn.ensures.known
+
+pub try_action-returns-in_ok-worth-in-Free-clause-above : goal.try_action-returns-in_ok-worth-in-Free-clause-above
+try_action-returns-in_ok-worth-in-Free-clause-above t c =
+    let job = c.args.job.now in
+    let key = c.args.key.now in
+    let action = c.args.action in
+    let after = c.in_ok-worth-in-Free in
+    let next = c.key_with-next.result in
+    let next_same = next_is job key action next c.group-group.result c.in-Free.attitude c.key_with-next.ensures.mask c.group-group.ensures.value c.key_with-next.ensures.attitude c.in-Free.ensures.tested.0 c.key_with-next.ensures.stage in
+    let same = subst (λ (t : TableData). IsSameAbove job t c.worth_of.new.table (left job next)) c.test.ensures.table c.worth_of.ensures.above in
+    learnt_above job c.requires.job c.args.pool.now key c.args.table.now c.requires.known action c.requires.action c.requires.unknown
+    c.requires.range next next_same c.worth_of.new.pool c.worth_of.new.table after.worth after.ensures.found after.ensures.known same
+    c.learn.new.self c.slack_above-slack.result c.learn.ensures.known
 
 pub worth_of-settle-worth-requires : goal.worth_of-settle-worth-requires
 worth_of-settle-worth-requires t c =
@@ -125,25 +552,22 @@ worth_of-settle-worth-requires t c =
       (
         c.requires.job,
         (
-          c.requires.actions,
+          c.requires.known,
           (
-            c.requires.table ∙ sym c.find.ensures.table,
+            c.requires.sound,
             (
-              c.requires.sound,
+              c.requires.range,
               (
-                c.requires.range,
+                c.requires.node (λ full. let yes = c.if-is_full.ensures.1 full in let no = c.if-is_full.false in cc),
                 (
-                  c.requires.node (λ full. let yes = c.if-is_full.ensures.1 full in let no = c.if-is_full.false in cc),
+                  c.requires.open,
                   (
-                    c.requires.open,
+                    c.in_default.ensures.row,
                     (
-                      c.in_default.ensures.row,
+                      c.fold.ensures.shape ∙ c.requires.shape,
                       (
-                        c.fold.ensures.shape ∙ c.requires.shape,
-                        (
-                          c.fold.ensures.mask ∙ sym c.requires.mask,
-                          room_left state.shape state.mask c.args.group c.args.trail.now c.fold.new.trail (left job next) few c.fold.ensures.kept c.fold.ensures.left c.requires.room,
-                        ),
+                        c.fold.ensures.mask ∙ sym c.requires.mask,
+                        room_left state.shape state.mask c.args.group c.args.trail.now c.fold.new.trail (left job next) few c.fold.ensures.kept c.fold.ensures.left c.requires.room,
                       ),
                     ),
                   ),
@@ -154,112 +578,3 @@ worth_of-settle-worth-requires t c =
         ),
       ),
     )
-
-pub worth_of-undo-requires-clause-some : goal.worth_of-undo-requires-clause-some
-worth_of-undo-requires-clause-some t c =
-    subst (λ (s : StateData). s.folds ≢ []) (sym c.settle-worth.ensures.state)
-    (some_fold c.args.state.now c.fold.new.self c.args.group (length c.args.trail.now.items) c.fold.ensures.shape c.fold.ensures.folds)
-
-pub worth_of-undo-requires-clause-kept : goal.worth_of-undo-requires-clause-kept
-worth_of-undo-requires-clause-kept t c =
-    subst (λ (s : StateData). IsKept s.shape (last_fold s.folds) c.settle-worth.new.trail.items) (sym c.settle-worth.ensures.state)
-    (subst (λ (r : ListWithRoom Place). IsKept c.fold.new.self.shape (last_fold c.fold.new.self.folds) r.items) (sym c.settle-worth.ensures.trail)
-    (is_kept c.args.state.now c.fold.new.self c.args.group (length c.args.trail.now.items) c.fold.ensures.shape c.fold.ensures.folds c.fold.new.trail.items c.fold.ensures.kept))
-
-pub worth_of-returns-clause-state : goal.worth_of-returns-clause-state
-worth_of-returns-clause-state t c =
-    let same = c.settle-worth.ensures.state in
-    state_back c.args.state.now c.fold.new.self c.args.group (length c.args.trail.now.items) c.fold.ensures.shape c.fold.ensures.folds c.undo.new.self
-    (c.undo.ensures.shape ∙ ap (λ (s : StateData). s.shape) same)
-    (c.undo.ensures.mask ∙ ap (λ (s : StateData). (last_fold s.folds).before) same)
-    (sym (ap (λ (s : StateData). s.folds) same) ∙ (c.undo.ensures.folds ∙ ap (λ (s : StateData). c.undo.new.self.folds ++ last_fold s.folds ∷ []) same))
-
-pub worth_of-returns-clause-trail : goal.worth_of-returns-clause-trail
-worth_of-returns-clause-trail t c =
-    let same = c.settle-worth.ensures.state in
-    let wound = c.settle-worth.ensures.trail in
-    trail_back c.args.state.now c.fold.new.self c.args.group (length c.args.trail.now.items) c.fold.ensures.shape c.fold.ensures.folds c.args.trail.now c.fold.new.trail c.undo.new.trail
-    refl c.fold.ensures.first c.fold.ensures.left
-    (c.undo.ensures.trail ∙ (ap (λ (s : StateData). take (last_fold s.folds).mark c.settle-worth.new.trail.items) same ∙ ap (λ (r : ListWithRoom Place). take (last_fold c.fold.new.self.folds).mark r.items) wound))
-    (c.undo.ensures.left ∙ ap (λ (r : ListWithRoom Place). r.room + length r.items) wound)
-
-pub tried-worth_of-requires : goal.tried-worth_of-requires
-tried-worth_of-requires t c =
-    let job = c.args.job.now in
-    let key = c.args.key.now in
-    let action = c.args.candidate.action in
-    let before = c.requires.settling.0 in
-    let state = c.requires.settling.1 in
-    let tested = c.in-Free.ensures.tested in
-    let at = c.requires.next.is_action in
-    let next = next_is job key action c.key_with-next.result c.group-group.result c.in-Free.attitude c.key_with-next.ensures.mask c.group-group.ensures.value c.key_with-next.ensures.attitude tested.0 c.key_with-next.ensures.stage in
-    let less = fewer_left job (few_bends job c.requires.job) key action at in
-    let fewer : left job c.key_with-next.result < left job key = subst (λ (k : Key). left job k < left job key) (sym next) less in (
-      omega (arith, c.decreases, fewer),
-      (
-        c.requires.job,
-        (
-          c.requires.actions,
-          (
-            c.requires.table ∙ sym c.test.ensures.table,
-            (
-              settling_sound job c.requires.job before c.args.pool.now key c.args.candidate.order c.args.best state,
-              (
-                subst (λ (k : Key). IsKeyOf job k) (sym next) (next_in_range job c.requires.job key action c.requires.range at),
-                (
-                  λ more. subst (λ (k : Key). IsNode job k) (sym next) (node_after job key action c.in-Free.gauge c.requires.node tested.1 (λ full. more (subst (λ (k : Key). IsFull job k) (sym next) full))),
-                  (
-                    subst (λ (k : Key). OpenAbove job c.args.pool.now.rows (left job k)) (sym next) (settling_open job c.requires.job before c.args.pool.now key c.args.candidate.order c.args.best state c.requires.settling.3 action at),
-                    (
-                      c.requires.shape,
-                      (
-                        rw (c.requires.shape, c.requires.mask, c.group-group.ensures.value) (action_groups job (few_bends job c.requires.job) key action at),
-                        (
-                          c.key_with-next.ensures.mask ∙ ap (λ (m : Mask). union m c.group-group.result) (sym c.requires.mask),
-                          omega (arith, fewer, c.requires.room),
-                        ),
-                      ),
-                    ),
-                  ),
-                ),
-              ),
-            ),
-          ),
-        ),
-      ),
-    )
-
-pub tried-after_cost-requires-clause-worth : goal.tried-after_cost-requires-clause-worth
-tried-after_cost-requires-clause-worth t c =
-    let job = c.args.job.now in
-    let key = c.args.key.now in
-    let action = c.args.candidate.action in
-    let next = next_is job key action c.key_with-next.result c.group-group.result c.in-Free.attitude c.key_with-next.ensures.mask c.group-group.ensures.value c.key_with-next.ensures.attitude c.in-Free.ensures.tested.0 c.key_with-next.ensures.stage in
-    found_small job c.requires.job c.args.pool.now c.worth_of.new.pool c.key_with-next.result c.in_ok-worth-in-Free.worth
-    (subst (λ (k : Key). IsKeyOf job k) (sym next) (next_in_range job c.requires.job key action c.requires.range c.requires.next.is_action))
-    c.in_ok-worth-in-Free.ensures.found
-
-pub tried-returns-in-Refused-clause-found : goal.tried-returns-in-Refused-clause-found
-tried-returns-in-Refused-clause-found t c =
-    λ before row state.
-    let noted = settling_noted c.args.job.now c.requires.job before c.args.pool.now c.args.key.now c.args.candidate.order c.args.best state c.args.candidate.action c.in-Refused.reason c.requires.actions c.requires.next.is_action c.requires.next.place c.in-Refused.ensures.tested in
-    rw (c.set_reason.ensures.set, c.action_number.ensures.value, c.stages.ensures.value, ← row) noted
-
-pub tried-returns-in_ok-worth-in-Free-clause-found : goal.tried-returns-in_ok-worth-in-Free-clause-found
-tried-returns-in_ok-worth-in-Free-clause-found t c =
-    λ before row state.
-    let job = c.args.job.now in
-    let key = c.args.key.now in
-    let action = c.args.candidate.action in
-    let tested = c.in-Free.ensures.tested in
-    let next = next_is job key action c.key_with-next.result c.group-group.result c.in-Free.attitude c.key_with-next.ensures.mask c.group-group.ensures.value c.key_with-next.ensures.attitude tested.0 c.key_with-next.ensures.stage in
-    let cost = c.cost_to-cost.ensures.value ∙ ap (λ (a : ℕ). cost_to job key a action.stage) tested.0 in
-    let sum = c.after_cost.ensures ∙ ap (λ (n : ℕ). plus n c.in_ok-worth-in-Free.worth) cost in
-    settling_tested job c.requires.job before c.args.pool.now key c.args.candidate.order c.args.best state
-    action c.in-Free.gauge c.worth_of.new.pool c.in_ok-worth-in-Free.worth c.lesser.result
-    c.requires.next.is_action c.requires.next.place tested.1
-    (subst (λ (k : Key). IsKnownAfter job c.args.pool.now c.worth_of.new.pool k c.in_ok-worth-in-Free.worth) next c.in_ok-worth-in-Free.ensures.found)
-    c.requires.next.below
-    c.lesser.ensures.first
-    (subst (λ (w : Worth). IsAtMost c.lesser.result w) sum c.lesser.ensures.second)
-    (subst (λ (w : Worth). (c.lesser.result ≡ c.args.best) ⊎ (c.lesser.result ≡ w)) sum c.lesser.ensures.one)

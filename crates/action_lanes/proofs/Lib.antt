@@ -1,0 +1,4 @@
+pub mod CheapestLemmas
+pub mod CostLemmas
+pub mod SetLemmas
+pub mod TestedLemmas

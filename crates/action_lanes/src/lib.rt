@@ -1,0 +1,11 @@
+//! A cost for each action of twelve bends at eight stages, in lanes, and which actions a search has to
+//! test at a key.
+#![tactic(auto)]
+
+mod costs;
+mod tested;
+#[cfg(test)]
+mod tests;
+
+pub use costs::ActionCosts;
+pub use tested::tested_actions;
