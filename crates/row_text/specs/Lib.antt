@@ -1,0 +1,4 @@
+pub mod RowWords
+pub mod Notes
+pub mod Blocks
+pub mod Writer
