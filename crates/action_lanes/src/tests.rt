@@ -1,7 +1,7 @@
 ghost use Rattle.std.specs.Prelude.{◌<◌, ◌≤◌};
 ghost use Rattle.brake_base.specs.Actions.{IsActionAmong};
 
-use crate::{ActionCosts, tested_actions};
+use crate::ActionCosts;
 use brake_base::{Action, Back, Mask};
 use stage_lanes::{ActionSet, BLOCKED, StageCosts};
 
@@ -46,29 +46,4 @@ fn costs_of_actions(rt: HostRuntime) {
         ActionSet::empty().with(action(2, 0))
     );
     assert_eq!(rt; sums.below(Mask::empty().with(3), 50).is_empty(), true);
-}
-
-#[test]
-fn a_tie_is_tested_up_to_the_first_that_gives_the_worth(rt: HostRuntime) {
-    let mut known = ActionCosts::all(BLOCKED);
-    known.set_cost(action(2, 0), 60);
-    known.set_cost(action(2, 1), 50);
-    let tested = tested_actions(&sums(), &known, leads(), known.least(leads()));
-    assert_eq!(rt;
-        tested,
-        ActionSet::empty().with(action(2, 0)).with(action(2, 1))
-    );
-    known.set_cost(action(2, 0), 50);
-    let tested = tested_actions(&sums(), &known, leads(), known.least(leads()));
-    assert_eq!(rt; tested, ActionSet::empty().with(action(2, 0)));
-}
-
-#[test]
-fn all_are_tested_where_none_leads_on(rt: HostRuntime) {
-    let known = ActionCosts::all(BLOCKED);
-    let all = ActionSet::empty()
-        .with(action(2, 0))
-        .with(action(2, 1))
-        .with(action(3, 1));
-    assert_eq!(rt; tested_actions(&sums(), &known, leads(), BLOCKED), all);
 }
