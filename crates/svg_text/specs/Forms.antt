@@ -1,5 +1,5 @@
 -- Lines of a page: forms whose holes are filled.
-use Rattle.std.specs.Prelude.{ℕ, ◌<◌, ◌≤◌, ◌==◌, List, [], ◌∷◌, ◌++◌, codes, if◌then◌else◌}
+use Rattle.std.specs.Prelude.{ℕ, ◌<◌, ◌≤◌, ◌==◌, List, [], ◌∷◌, ◌++◌, codes, map, if◌then◌else◌}
 use Rattle.std.specs.Fmt.{signed_decimal}
 use Rattle.svg_text.specs.declared.form.Hole.{Hole}
 use Rattle.svg_text.specs.declared.form.Hole.TheVariants.{Number, Decimal, Text, Word}
@@ -20,14 +20,17 @@ hole_text (Decimal value places) = decimal_text places value
 hole_text (Text text) = escaped text.now
 hole_text (Word word) = word.now
 
--- a form in which each mark, which is the byte 126, has become what stands in its hole
-abbrev pub filled : List ℕ → List Hole → List ℕ
-filled [] holes = []
+-- a form in which each mark, which is the byte 126, has become the next of these texts
+abbrev pub filled : List ℕ → List (List ℕ) → List ℕ
+filled [] texts = []
 filled (byte ∷ form) [] = if byte == 126 then filled form [] else byte ∷ filled form []
-filled (byte ∷ form) (hole ∷ holes) =
-    if byte == 126 then hole_text hole ++ filled form holes
-    else byte ∷ filled form (hole ∷ holes)
+filled (byte ∷ form) (text ∷ texts) =
+    if byte == 126 then text ++ filled form texts else byte ∷ filled form (text ∷ texts)
 
--- the line of a form
+-- the line of a form and the texts in its holes
+unfoldable pub line_of : List ℕ → List (List ℕ) → List ℕ
+line_of form texts = filled form texts ++ codes "\n"
+
+-- the line of a form and what stands in its holes
 abbrev pub line_text : List ℕ → List Hole → List ℕ
-line_text form holes = filled form holes ++ codes "\n"
+line_text form holes = line_of form (map hole_text holes)

@@ -1,5 +1,5 @@
 //! Lines of a page.
-ghost use Rattle.std.specs.Prelude.{◌≡◌, ◌≤◌, ℕ, List, ◌++◌, ◌∷◌, drop, length, All, OnOk, IfOk};
+ghost use Rattle.std.specs.Prelude.{◌≡◌, ◌≤◌, ℕ, List, ◌++◌, ◌∷◌, drop, length, map, All, OnOk, IfOk};
 ghost use Rattle.svg_text.specs.Forms.{IsHole, hole_text, filled as filled_with, line_text};
 
 use crate::decimal::put_decimal;
@@ -44,8 +44,8 @@ fn put_byte(out: &mut Vec<u8>, byte: u8, holes: &[Hole], filled: usize) -> Resul
     requires holes { All IsHole holes.now }
     requires some { filled ≤ length holes.now }
     ensures value { IfOk result (λ now. (form : List ℕ)
-        → out.new.items ++ filled_with form (drop now holes.now)
-        ≡ out.old.items ++ filled_with (byte ∷ form) (drop filled holes.now)) }
+        → out.new.items ++ filled_with form (map hole_text (drop now holes.now))
+        ≡ out.old.items ++ filled_with (byte ∷ form) (map hole_text (drop filled holes.now))) }
     ensures some { IfOk result (λ now. now ≤ length holes.now) }
 {
     if byte != HOLE {
@@ -61,6 +61,7 @@ fn put_byte(out: &mut Vec<u8>, byte: u8, holes: &[Hole], filled: usize) -> Resul
 
 /// Appends the line of a form, each hole filled with the next of `holes`, and a line feed. A hole
 /// for which none is left stays empty.
+#[tactic(auto, unfolding(crate::specs::Forms::line_of))]
 pub fn put_line(out: &mut Vec<u8>, form: &[u8], holes: &[Hole]) -> Result<(), AllocError>
     requires { All IsHole holes.now }
     ensures { OnOk result (out.new.items ≡ out.old.items ++ line_text form.now holes.now) }

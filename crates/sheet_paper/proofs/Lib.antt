@@ -1,0 +1,4 @@
+pub mod Texts
+pub mod Scales
+pub mod Spreads
+pub mod Areas
