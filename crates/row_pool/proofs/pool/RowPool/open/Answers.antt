@@ -1,7 +1,6 @@
-use Rattle.std.proofs.Common.{rules, ◌≡◌, ℕ, ◌*◌, ◌/◌, List, [], Option, refl, sym, ◌∙◌, ap}
+use Rattle.std.proofs.Common.{rules, ◌≡◌, ℕ, ◌*◌, ◌/◌, List, [], Option, refl, ◌∙◌, ap}
 use Rattle.std.specs.Prelude.{vec_capacity}
 use Rattle.brake_base.specs.declared.reason.Reason.{Reason}
-use Rattle.row_pool.specs.Index.{indexed_numbers}
 use Rattle.row_pool.specs.Rows.{Pool, PoolRow}
 use Rattle.row_pool.specs.Store.{rows_of, commons}
 use Rattle.row_pool.proofs.RowsOfLemmas.{commons_none}
@@ -12,9 +11,8 @@ pub invariant_of-result : goal.invariant_of-result
 invariant_of-result c =
     let room : vec_capacity c.in_ok-rows.rows ≡ c.args.rows = search rules in
     let kept_room : vec_capacity c.in_ok-kept.kept ≡ 65536 * c.args.actions = search rules in
-    let indexed = c.in_ok-index.ensures.empty ∙ ap (indexed_numbers []) (sym room) in
     rw (c.in_ok-rows.ensures.items, c.in_ok-kept.ensures.items)
-    (store_empty c.of_bends.result c.in_ok-index.index (vec_capacity c.in_ok-rows.rows) (vec_capacity c.in_ok-kept.kept) c.args.actions indexed
+    (store_empty c.of_bends.result c.in_ok-index.index (vec_capacity c.in_ok-rows.rows) (vec_capacity c.in_ok-kept.kept) c.args.actions c.in_ok-index.ensures.empty c.in_ok-index.ensures.places
     (all_places c.of_bends.result c.first.result (c.args.actions / 24) c.of_bends.ensures.places c.first.ensures.stages)
     kept_room (rw room c.requires.few_rows) c.requires.few_actions c.requires.whole)
 

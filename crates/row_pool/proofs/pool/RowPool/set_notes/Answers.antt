@@ -1,7 +1,7 @@
 use Rattle.std.proofs.Common.{◌≡◌, ◌<◌, List, Some, length, refl, sym, ◌∙◌, ap, subst, arith}
 use Rattle.std.specs.Prelude.{slice_get, vec_capacity}
 use Rattle.brake_base.specs.declared.stroke.Key.{Key}
-use Rattle.row_pool.specs.declared.pool.Row.{Row}
+use Rattle.row_pool.specs.declared.row.Row.{Row}
 use Rattle.row_pool.specs.Rows.{Pool, PoolRow, keys, common_at, AreCommon}
 use Rattle.row_pool.specs.Store.{commons}
 use Rattle.row_pool.proofs.RowsOfLemmas.{key_at-rows_of, length-rows_of}
@@ -18,8 +18,8 @@ invariant_of-self c =
     let within : row < length p.rows.items = omega (arith, same, c.requires.row) in
     let P : Pool → Type 0 = λ pool. (key : Key) → slice_get (keys pool) row ≡ Some key → AreCommon pool.actions (common_at pool key.mask) c.args.notes in
     let common = subst P (sym c.self.view_is) c.requires.common d.key (key_at-rows_of p.actions p.kept.items p.rows.items row d within ∙ ap (λ (r : Row). Some r.key) (sym is)) in
-    store_set _ _ _ _ _ _ _ c.self.invariant row d (record { key = d.key; worth = d.worth; notes = c.intersection-notes.result }) is refl
-    (λ _. notes_held _ _ _ _ _ _ _ c.self.invariant row d d.worth c.args.notes c.intersection-notes.result is within c.intersection-notes.ensures.places common)
+    store_set _ _ _ _ _ _ _ c.self.invariant row d (record { key = d.key; found = d.found; cost = d.cost; notes = c.intersection-notes.result }) is refl
+    (λ _. notes_held _ _ _ _ _ _ _ c.self.invariant row d c.args.notes c.intersection-notes.result is within c.intersection-notes.ensures.places common)
 
 pub returns : goal.returns
 returns c =
