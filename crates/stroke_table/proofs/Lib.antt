@@ -11,3 +11,4 @@ mod FirstCodes
 mod BoxCodes
 mod StageBoxes
 mod DecidingBends
+mod LegalBoxes

@@ -6,3 +6,4 @@ pub mod Table
 pub mod BoxReasons
 pub mod Records
 pub mod Gathering
+pub mod Gauging

@@ -1,6 +1,6 @@
 -- What is kept of a job for its strokes: of groups, and of boxes.
 use Rattle.std.specs.Prelude.{◌≡◌, ℕ, ◌+◌, ◌*◌, ◌^◌, ◌<◌, ◌≤◌, ◌&&◌, List, length}
-use Rattle.std.specs.Prelude.{slice_index_or, Some, None}
+use Rattle.std.specs.Prelude.{slice_index_or, Option, Some, None}
 use Rattle.brake_base.specs.declared.mask.Mask.{Mask}
 use Rattle.brake_base.specs.Masks.{has}
 use Rattle.brake_base.specs.Turns.{map_of}
@@ -64,6 +64,11 @@ IsBoxRecord job known =
     (mask : Mask) → mask.0 < 2 ^ bend_count job → IsBoxKey job mask known.key
     → IsFoundBox job mask known.key known.found
 
+-- the record of the box of this key stands at this place
+abbrev pub HasRecordAt : List (Option BoxRecord) → BoxKey → ℕ → Type 0
+HasRecordAt records key place =
+    (one : BoxRecord) × (slice_index_or records place None ≡ Some one) × (one.key ≡ key)
+
 -- What is kept of a group is so of each of its strokes.
 pub record IsGroupRecord (job : JobData) (known : GroupRecord) : Type 0 where
   pub lines :
@@ -78,7 +83,7 @@ pub record AreKept (job : JobData) (kept : StrokeRecords) : Type 0 where
   pub around : AreAround job kept.around.items
   pub deciding : AreAllDeciding job kept.deciding.items
   pub group_count : length kept.groups.items ≡ 8192
-  pub box_count : length kept.boxes.items ≡ 32768
+  pub box_count : length kept.boxes.items ≡ 16384
   pub groups :
       (place : ℕ) (one : GroupRecord) → slice_index_or kept.groups.items place None ≡ Some one
       → IsGroupRecord job one

@@ -15,6 +15,7 @@ ghost use Rattle.stroke_table.specs.Records.{AreKept, IsGroupRecord};
 
 use crate::codes::{at_stages, code_for, is_free_somewhere};
 use crate::gathering::{gather_boxes, gathered_pose};
+use crate::gauging::first_pair;
 use crate::keys::{GroupKey, StrokeKey};
 use crate::known::{FoundGauge, KnownStroke};
 use crate::records::{GroupRecord, StrokeRecords};
@@ -84,7 +85,7 @@ fn find_rest(
     let with_hits = before.lesser(hits);
     let others = with_hits.lesser(load);
     if is_free_somewhere(others, stages) {
-        let gauge = first_legal(job, pose);
+        let gauge = first_pair(job, pose, boxes);
         let lack = gauge_reason(gauge);
         let lack_code = code_for(lack);
         let last = at_stages(lack_code, stages);

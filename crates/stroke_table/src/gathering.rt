@@ -1,5 +1,5 @@
 //! The boxes of a stroke are gathered: what each gives, and where it lies at stage 0.
-ghost use Rattle.std.specs.Prelude.{◌≡◌, ◌+◌, ◌<◌, ◌≤◌, ◌^◌, [], ◌∷◌, ◌++◌, min, map, length, slice_index, slice_index_or, All, Any};
+ghost use Rattle.std.specs.Prelude.{◌≡◌, ◌+◌, ◌<◌, ◌≤◌, ◌^◌, [], ◌∷◌, ◌++◌, min, map, length, slice_index, slice_index_or, None, IfSome, IsSome, All, Any};
 ghost use Rattle.fold_boxes.specs.Places.{ArePlaces};
 ghost use Rattle.brake_base.specs.Turns.{map_of};
 ghost use Rattle.fold_boxes.specs.Pose.{IsGroup, lead_of, pose_data};
@@ -13,7 +13,7 @@ ghost use Rattle.stage_lanes.specs.Lanes.{AreLanes};
 ghost use Rattle.stroke_table.specs.BoxReasons.{AreAround};
 ghost use Rattle.stroke_table.specs.Codes.{AreLeastCodes, HoldsAmong, IsOfBox, stroke_box, stroke_place};
 ghost use Rattle.stroke_table.specs.Records.{AreKept, IsBoxKey, IsFoundBox, parent_of};
-ghost use Rattle.stroke_table.specs.Gathering.{IsGathered};
+ghost use Rattle.stroke_table.specs.Gathering.{IsGathered, IsOfNumber};
 
 use crate::box_reasons::box_codes;
 use crate::finding::pose_at;
@@ -124,8 +124,8 @@ fn gather_faces(
 {
     let mut gathered = StrokeBoxes::none();
     for number in 0..job.bends() + 1 {
-        let found = found_of_number(job, kept, places, stroke, from, number);
-        gathered.take_face(&found);
+        let place = place_of_number(job, kept, places, stroke, from, number);
+        gathered.take_face(&kept.box_at(place).found);
     }
     gathered
 }
@@ -158,21 +158,21 @@ fn gather_corners(
 {
     for bend in 1..job.bends() + 1 {
         if stroke.mask.contains(bend) {
-            let found = found_of_number(job, kept, places, stroke, from, 12 + bend);
-            gathered.take(&found);
+            let place = place_of_number(job, kept, places, stroke, from, 12 + bend);
+            gathered.take(&kept.box_at(place).found);
         }
     }
 }
 
-/// What there is to find of the box of a number.
-fn found_of_number(
+/// The place of the record of the box of a number, which is kept where it isn't yet.
+fn place_of_number(
     job: &Job,
     kept: &mut StrokeRecords,
     places: &[Place],
     stroke: &StrokeKey,
     from: u8,
     number: u8,
-) -> FoundBox
+) -> usize
     requires kept { AreKept job.now kept.old }
     requires count { length places.now ≡ length job.now.part.faces }
     requires places { ArePlaces (shape_of job.now) stroke.now.mask places.now }
@@ -181,15 +181,12 @@ fn found_of_number(
     requires from { from ≡ parent_of job.now stroke.now.of.group }
     requires number { IsNumberOfBox (shape_of job.now) stroke.now.mask number }
     ensures kept { AreKept job.now kept.new }
-    ensures codes { AreLeastCodes (stage_count job.now)
-        (IsOfBox job.now stroke.now.mask stroke.now.of number) result.codes.0 }
-    ensures body { result.body ≡ stroke_box job.now stroke.now.mask stroke.now.of number 0 }
-    ensures near { IsNearPoseBox result.body }
-    ensures place { number < length job.now.part.faces
-        → map_of result.place ≡ stroke_place job.now stroke.now.mask stroke.now.of number }
+    ensures some { IsSome (slice_index_or kept.new.boxes.items result None) }
+    ensures found { IfSome (slice_index_or kept.new.boxes.items result None)
+        (λ one. IsOfNumber job.now stroke.now number one.found) }
 {
     let key = kept.box_key(job, stroke, from, number);
-    found_box(job, kept, places, stroke.mask, &key)
+    place_of_box(job, kept, places, stroke.mask, &key)
 }
 
 /// The part on the machine at stage 0, from what is gathered of the boxes of a stroke.
@@ -238,32 +235,30 @@ fn lead_of(job: &Job, stroke: &StrokeKey) -> u8
     }
 }
 
-/// What there is to find of a box, found where it isn't kept yet.
-fn found_box(
+/// The place of the record of a box, which is kept where it isn't yet.
+fn place_of_box(
     job: &Job,
     kept: &mut StrokeRecords,
     places: &[Place],
     mask: Mask,
     key: &BoxKey,
-) -> FoundBox
+) -> usize
     requires kept { AreKept job.now kept.old }
     requires count { length places.now ≡ length job.now.part.faces }
     requires places { ArePlaces (shape_of job.now) mask places.now }
     requires mask { mask.0 < 2 ^ bend_count job.now }
     requires box_ { IsBoxKey job.now mask key.now }
     ensures kept { AreKept job.now kept.new }
-    ensures found { IsFoundBox job.now mask key.now result }
+    ensures some { IsSome (slice_index_or kept.new.boxes.items result None) }
+    ensures found { IfSome (slice_index_or kept.new.boxes.items result None)
+        (λ one. IsFoundBox job.now mask key.now one.found) }
 {
-    match kept.known_box(key) {
-        Some(found) => found,
-        None => {
+    match kept.search_box(key) {
+        Ok(place) => place,
+        Err(place) => {
             let found = find_box(job, &kept.around, places, mask, key);
-            let known = &found;
-            kept.keep_box(BoxRecord {
-                key: *key,
-                found: *known,
-            });
-            found
+            kept.keep_box(place, BoxRecord { key: *key, found });
+            place
         }
     }
 }

@@ -7,6 +7,7 @@ mod codes;
 mod deciding;
 mod finding;
 mod gathering;
+mod gauging;
 mod holding;
 mod keys;
 mod known;

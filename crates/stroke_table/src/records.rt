@@ -1,10 +1,10 @@
 //! What is kept of a job for its strokes.
-ghost use Rattle.std.specs.Prelude.{◌≡◌, ◌↔◌, ℕ, ◌<◌, ◌≤◌, ◌^◌, length, replicate, slice_index_or, None, IfOk, IfSome, IsTrue};
+ghost use Rattle.std.specs.Prelude.{◌≡◌, ◌↔◌, ℕ, ◌<◌, ◌≤◌, ◌^◌, length, replicate, slice_index_or, Some, None, IfOk, IfErr, IfSome, IsSome, IsTrue};
 ghost use Rattle.fold_boxes.specs.Pose.{IsGroup};
 ghost use Rattle.job_setup.specs.Setup.{JobData, shape_of};
 ghost use Rattle.box_support.specs.Deciding.{IsNumberOfBox};
 ghost use Rattle.stroke_table.specs.BoxReasons.{AreAround};
-ghost use Rattle.stroke_table.specs.Records.{IsBoxRecord, IsGroupRecord, IsBoxKey, AreKept, parent_of};
+ghost use Rattle.stroke_table.specs.Records.{IsBoxRecord, IsGroupRecord, IsBoxKey, AreKept, HasRecordAt, parent_of};
 
 use crate::deciding::deciding_bends;
 use crate::keys::{BoxKey, GroupKey, StrokeKey};
@@ -16,7 +16,10 @@ use std::alloc::{AllocError, Global};
 use sweep_check::Surroundings;
 
 /// How many records of boxes are kept at most.
-const BOX_RECORDS: usize = 32_768;
+const BOX_RECORDS: usize = 16_384;
+
+/// At how many places in a row a box's record may stand.
+const BOX_PLACES: usize = 8;
 
 /// How many records of groups are kept at most.
 const GROUP_RECORDS: usize = 8192;
@@ -39,7 +42,7 @@ pub struct GroupRecord {
 
 /// What is kept of a job for its strokes: what stands around the part at each stage, which bends
 /// decide where a box lies, and records of groups and of boxes. A record stands at a place that
-/// follows from its key, until another takes it.
+/// follows from its key, or shortly behind it, until another takes it.
 #[derive(Drop)]
 pub struct StrokeRecords {
     pub around: Vec<Surroundings>,
@@ -109,31 +112,45 @@ impl StrokeRecords {
         }
     }
 
-    /// What is kept of a box, where that is.
-    pub(crate) fn known_box(&self, key: &BoxKey) -> Option<FoundBox>
-        requires { length self.now.boxes.items ≡ 32768 }
-        ensures { IfSome result (λ found. (job : JobData) → AreKept job self.now
-            → IsBoxRecord job (record { key = key.now; found = found })) }
+    /// The place at which the record of a box stands; as an error that at which it is to be kept.
+    pub(crate) fn search_box(&self, key: &BoxKey) -> Result<usize, usize>
+        requires { length self.now.boxes.items ≡ 16384 }
+        ensures found { IfOk result (λ place. HasRecordAt self.now.boxes.items key.now place) }
+        ensures free { IfErr result (λ place. place < 16384) }
     {
-        match box_at(&self.boxes, box_place(key)) {
-            Some(known) => {
-                if is_same_box(&known.key, key) {
-                    Some(known.found)
-                } else {
-                    None
+        let own = own_place(key);
+        for step in 0..BOX_PLACES {
+            let place = (own + step) % BOX_RECORDS;
+            match &self.boxes[place] {
+                Some(known) => {
+                    if is_same_box(&known.key, key) {
+                        return Ok(place);
+                    }
                 }
+                None => return Err(place),
             }
-            None => None,
+        }
+        Err(own)
+    }
+
+    /// The record that stands at a place.
+    pub(crate) fn box_at(&self, place: usize) -> &BoxRecord
+        requires { IsSome (slice_index_or self.now.boxes.items place None) }
+        ensures { slice_index_or self.now.boxes.items place None ≡ Some result.now }
+    {
+        match &self.boxes[place] {
+            Some(known) => known,
+            None => unreachable!(),
         }
     }
 
-    /// Keeps what is true of a box.
-    pub(crate) fn keep_box(&mut self, found: BoxRecord)
-        requires { length self.old.boxes.items ≡ 32768 }
-        ensures { (job : JobData) → AreKept job self.old → IsBoxRecord job found
+    /// Keeps at a place what is true of a box.
+    pub(crate) fn keep_box(&mut self, place: usize, found: BoxRecord)
+        requires { place < length self.old.boxes.items }
+        ensures kept { (job : JobData) → AreKept job self.old → IsBoxRecord job found
             → AreKept job self.new }
+        ensures here { slice_index_or self.new.boxes.items place None ≡ Some found }
     {
-        let place = box_place(&found.key);
         self.boxes[place] = Some(found);
     }
 }
@@ -187,14 +204,6 @@ fn group_at(records: &[Option<GroupRecord>], place: usize) -> Option<GroupRecord
     records[place]
 }
 
-/// The record of a box at a place.
-fn box_at(records: &[Option<BoxRecord>], place: usize) -> Option<BoxRecord>
-    requires { place < length records.now }
-    ensures { result ≡ slice_index_or records.now place None }
-{
-    records[place]
-}
-
 /// Whether both keys are one.
 fn is_same_group(first: &GroupKey, second: &GroupKey) -> bool
     ensures { IsTrue result ↔ (first.now ≡ second.now) }
@@ -216,13 +225,13 @@ fn group_place(key: &GroupKey) -> usize
     (2 * usize::from(key.group.0) + side(key)) % GROUP_RECORDS
 }
 
-/// The place of a box's record: such that boxes that differ seldom share one.
-fn box_place(key: &BoxKey) -> usize
-    ensures { result < 32768 }
+/// The first place at which a box's record may stand: such that boxes that differ seldom share one.
+fn own_place(key: &BoxKey) -> usize
+    ensures { result < 16384 }
 {
     let strokes = 2 * u64::from(key.of.group.0) + side(&key.of) as u64;
     let mixed = (strokes << 32) ^ (u64::from(key.number) << 16) ^ u64::from(key.folded.0);
-    (mixed.wrapping_mul(0x9E37_79B9_7F4A_7C15) >> 49) as usize % BOX_RECORDS
+    (mixed.wrapping_mul(0x9E37_79B9_7F4A_7C15) >> 50) as usize % BOX_RECORDS
 }
 
 /// 0 where the side of the parent is at the back, 1 where that of the child is.

@@ -1,10 +1,9 @@
 -- Whether a named reason holds, by the hits that are looked for.
-use Rattle.std.proofs.Common.{◌≡◌, ◌↔◌, inl, ℕ, zero, suc, ◌<◌, Bool, IsTrue, List, [], ◌∷◌, length, get_or, refl, sym, subst, arith}
-use Rattle.std.specs.Prelude.{All, Any}
+use Rattle.std.proofs.Common.{◌≡◌, ◌↔◌, ℕ, zero, suc, ◌<◌, Bool, IsTrue, List, [], ◌∷◌, length, get_or, refl, sym, subst, arith}
+use Rattle.std.specs.Prelude.{Any}
 use Rattle.std.specs.List.{HoldsAt, AllWithin}
 use Rattle.std.specs.Bool.{MatchBool}
 use Rattle.std.proofs.lemmas.Bool.{MatchBool-at_true}
-use Rattle.std.proofs.lemmas.List.Elements.{All-weaker}
 use Rattle.std.proofs.lemmas.Iterator.Search.{true_from_Any}
 use Rattle.brake_base.specs.declared.plane.Quarter.{Quarter}
 use Rattle.brake_base.specs.declared.stroke.Back.{Back}

@@ -18,3 +18,4 @@ pub mod Strokes
 pub mod Sunk
 pub mod SunkLaw
 pub mod MotionLaw
+mod BackHits

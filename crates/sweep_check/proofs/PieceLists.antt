@@ -63,7 +63,7 @@ of_some_box P job sweep box some =
     (at.1, found.0, found.1, found.2)
 
 -- ---- in order
-box_ascends : (job : JobData) (sweep : Sweep) (box : PoseBox) → AllPairs PieceIsBefore (box_pieces job sweep box)
+pub box_ascends : (job : JobData) (sweep : Sweep) (box : PoseBox) → AllPairs PieceIsBefore (box_pieces job sweep box)
 box_ascends job sweep box =
     pairs_flat QuarterIsBefore PieceIsBefore (λ q. option_to_list (piece_in job sweep box q)) quarters (λ q. pairs_option PieceIsBefore (piece_from job sweep box q) (piece_at job box q))
     (λ p q before.
@@ -78,7 +78,7 @@ boxes_apart job sweep x y before =
 pub pieces_ascend : (job : JobData) (sweep : Sweep) (boxes : List PoseBox) → AllPairs (λ a b. a.id < b.id) boxes → AllPairs PieceIsBefore (pieces_of job sweep boxes)
 pieces_ascend job sweep boxes ascend = pairs_flat (λ a b. a.id < b.id) PieceIsBefore (box_pieces job sweep) boxes (box_ascends job sweep) (boxes_apart job sweep) ascend
 
-all_back : {X : Type 0} (P : X → Type 0) (half : Half) (xs : List X) → All P xs → All P (if_back half xs)
+pub all_back : {X : Type 0} (P : X → Type 0) (half : Half) (xs : List X) → All P xs → All P (if_back half xs)
 all_back P Back xs all = all
 all_back P Front xs all = All-nil P
 
@@ -130,7 +130,7 @@ box_covered job sweep box small solid =
 pub eighths : (job : JobData) (boxes : List PoseBox) → widening job ≤ℤ pos 100000 → All IsSolidBox boxes → All IsEighth (pieces_of job Eighth boxes)
 eighths job boxes small solid = all_flat_map IsEighth (box_pieces job Eighth) boxes (λ k d inside. box_covered job Eighth (get_or boxes k d) small (solid k d inside))
 
-box_kept : (job : JobData) (sweep : Sweep) (box : PoseBox) → IsJob job → IsSolidBox box → All IsCovered (box_pieces job sweep box)
+pub box_kept : (job : JobData) (sweep : Sweep) (box : PoseBox) → IsJob job → IsSolidBox box → All IsCovered (box_pieces job sweep box)
 box_kept job sweep box fit solid =
     all_of_box IsCovered job sweep box (λ quarter rect is.
     let piece = piece_is quarter (moving_rect job box) rect (moving_in_range job box (widening_high job fit) solid) is in

@@ -11,7 +11,7 @@ use crate::frames::first_in_frame;
 use crate::hits::{Hit, first_hit};
 use crate::noses::first_nose_hit;
 use crate::pieces::all_pieces;
-use crate::self_hits::{back_pieces, front_obstacles};
+use crate::self_hits::{first_back_hit, front_obstacles};
 use crate::sides::side_in;
 use crate::surroundings::Surroundings;
 use brake_base::{Back, Half, Reason};
@@ -120,10 +120,8 @@ fn first_self_hit(job: &Job, boxes: &[PoseBox]) -> Option<Hit>
     ensures { IsFirstHit (λ obstacle. obstacle.index) IsPieceMet (back_pieces job.now boxes.now)
         (front_obstacles job.now boxes.now) result }
 {
-    first_hit(
-        back_pieces(job, boxes).as_slice(),
-        front_obstacles(job, boxes).as_slice(),
-    )
+    job.recall_valid();
+    first_back_hit(job, boxes, front_obstacles(job, boxes).as_slice())
 }
 
 /// Load, where it holds. Of the pose only the group counts.

@@ -68,9 +68,14 @@ pub(crate) fn all_pieces(job: &Job, boxes: &[PoseBox]) -> ArrayVec<Piece, 100>
 }
 
 /// Puts the pieces of a box.
-pub(crate) fn put_pieces(job: &Job, sweep: Sweep, body: &PoseBox, pieces: &mut ArrayVec<Piece, 100>)
+pub(crate) fn put_pieces<const N: usize>(
+    job: &Job,
+    sweep: Sweep,
+    body: &PoseBox,
+    pieces: &mut ArrayVec<Piece, N>,
+)
     requires solid { IsSolidBox body.now }
-    requires room { length pieces.old.items + 4 ≤ 100 }
+    requires room { length pieces.old.items + 4 ≤ N }
     ensures value { pieces.new.items ≡ pieces.old.items ++ box_pieces job.now sweep body.now }
     ensures few { length pieces.new.items ≤ length pieces.old.items + 4 }
 {
@@ -82,8 +87,8 @@ pub(crate) fn put_pieces(job: &Job, sweep: Sweep, body: &PoseBox, pieces: &mut A
 }
 
 /// Puts a piece, where there is one.
-fn put(piece: Option<Piece>, pieces: &mut ArrayVec<Piece, 100>)
-    requires room { length pieces.old.items + 1 ≤ 100 }
+fn put<const N: usize>(piece: Option<Piece>, pieces: &mut ArrayVec<Piece, N>)
+    requires room { length pieces.old.items + 1 ≤ N }
     ensures value { pieces.new.items ≡ pieces.old.items ++ option_to_list piece }
     ensures few { length pieces.new.items ≤ length pieces.old.items + 1 }
 {

@@ -1,9 +1,11 @@
 //! The two halves of the part against each other.
-ghost use Rattle.std.specs.Prelude.{◌≡◌, ◌+◌, ◌≤◌, ◌++◌, [], ◌∷◌, length};
+ghost use Rattle.std.specs.Prelude.{◌≡◌, ◌+◌, ◌<◌, ◌≤◌, ◌++◌, [], ◌∷◌, length, All, AllPairs};
 ghost use Rattle.sector_geom.specs.declared.sector.Sweep.TheVariants.{Fourth};
 ghost use Rattle.job_setup.specs.ValidJob.{IsJob};
+ghost use Rattle.sweep_check.specs.Hits.{IsPieceMet, IsFirstHit, IsSolidObstacle};
 ghost use Rattle.sweep_check.specs.Pieces.{IsSolidBox, AreSolidBoxes, box_pieces, if_back, if_front, back_pieces, front_obstacle, front_obstacles};
 
+use crate::hits::{Hit, first_hit};
 use crate::pieces::{Piece, across, put_pieces, widening};
 use arrayvec::ArrayVec;
 use brake_base::Half;
@@ -37,6 +39,48 @@ fn put_back_pieces(job: &Job, body: &PoseBox, pieces: &mut ArrayVec<Piece, 100>)
         Half::Back => put_pieces(job, Sweep::Fourth, body, pieces),
         Half::Front => {}
     }
+}
+
+/// The first piece of the boxes of the back half, each swept by a fourth, that meets an obstacle.
+pub(crate) fn first_back_hit(job: &Job, boxes: &[PoseBox], obstacles: &[Obstacle]) -> Option<Hit>
+    requires boxes { AreSolidBoxes boxes.now }
+    requires solid { All IsSolidObstacle obstacles.now }
+    requires ascend { AllPairs (λ a b. a.index < b.index) obstacles.now }
+    ensures { IsFirstHit (λ obstacle. obstacle.index) IsPieceMet (back_pieces job.now boxes.now)
+        obstacles.now result }
+{
+    for body in boxes {
+        if let Some(hit) = first_of_back(job, body, obstacles) {
+            return Some(hit);
+        }
+    }
+    None
+}
+
+/// The first piece of a box that meets an obstacle, where the box is of the back half.
+fn first_of_back(job: &Job, body: &PoseBox, obstacles: &[Obstacle]) -> Option<Hit>
+    requires body { IsSolidBox body.now }
+    requires solid { All IsSolidObstacle obstacles.now }
+    requires ascend { AllPairs (λ a b. a.index < b.index) obstacles.now }
+    ensures { IsFirstHit (λ obstacle. obstacle.index) IsPieceMet
+        (if_back body.now.half (box_pieces job.now Fourth body.now)) obstacles.now result }
+{
+    match body.half {
+        Half::Back => first_hit(fourths(job, body).as_slice(), obstacles),
+        Half::Front => None,
+    }
+}
+
+/// The pieces of a box, each swept by a fourth.
+fn fourths(job: &Job, body: &PoseBox) -> ArrayVec<Piece, 4>
+    requires { IsSolidBox body.now }
+    ensures value { result.items ≡ box_pieces job.now Fourth body.now }
+    ensures valid { IsJob job.now }
+{
+    let _ = job.q();
+    let mut pieces = ArrayVec::new();
+    put_pieces(job, Sweep::Fourth, body, &mut pieces);
+    pieces
 }
 
 /// The boxes of the front half as obstacles of the back half.

@@ -1,7 +1,11 @@
-use Rattle.std.proofs.Common.{◌≡◌, ◌∙◌, ◌<◌, ◌≤◌, ℕ, refl, sym, ap, subst, arith}
+use Rattle.std.proofs.Common.{◌≡◌, ◌∙◌, ◌<◌, ◌≤◌, ℕ, List, refl, sym, ap, subst, arith}
 use Rattle.std.proofs.lemmas.Bool.{false≢true}
-use Rattle.fold_boxes.specs.Pose.{PoseData}
-use Rattle.job_setup.specs.Setup.{stage_count}
+use Rattle.brake_base.specs.declared.mask.Mask.{Mask}
+use Rattle.fold_boxes.specs.declared.posed_part.PoseBox.{PoseBox}
+use Rattle.fold_boxes.specs.Pose.{IsGroup, PoseData}
+use Rattle.job_setup.specs.Setup.{JobData, shape_of, stage_count}
+use Rattle.job_setup.specs.ValidJob.{IsJob}
+use Rattle.stroke_table.specs.declared.keys.GroupKey.{GroupKey}
 use Rattle.job_setup.specs.Reasons.{pose_at, IsPoseAt}
 use Rattle.gauge_rules.specs.Pairs.{IsFirstLegal}
 use Rattle.handling_cost.proofs.Keys.{some_stage}
@@ -17,18 +21,24 @@ use Rattle.stroke_table.proofs.LeastCodes.{code_at_stages}
 use Rattle.stroke_table.proofs.FirstCodes.{found_coded, least_of_first, coded, joined_codes, codes_settled, gauge_first}
 use Rattle.stroke_table.proofs.finding.find_rest.Goals as goal
 
-pub first_of_halves-hit-requires : goal.first_of_halves-hit-requires
-first_of_halves-hit-requires c =
-    let job = c.args.job.now in
-    let mask = c.args.stroke.now.mask in
-    let key = c.args.stroke.now.of in
-    let fit = c.stages-stages.ensures.valid in
+-- the boxes of the part at stage 0
+solid_boxes : (job : JobData) → IsJob job → (mask : Mask) (key : GroupKey) → IsGroup (shape_of job) mask key.group → (boxes : List PoseBox) → boxes ≡ (pose_at job mask key.group key.back 0).boxes → AreSolidBoxes boxes
+solid_boxes job fit mask key group boxes same =
     let pose = pose_at job mask key.group key.back 0 in
-    let at : IsPoseAt job 0 pose = record { mask = mask; group = key.group; back = key.back; stroke = c.requires.group; within = some_stage job fit; value = refl } in
-    let same : c.args.pose.now.boxes.items ≡ pose.boxes = ap (λ (p : PoseData). p.boxes) c.requires.pose in
-    record {
-      boxes = subst AreSolidBoxes (sym (c.as_slice-boxes.ensures.value ∙ same)) (pose_solid job 0 pose fit at);
-    }
+    let at : IsPoseAt job 0 pose = record { mask = mask; group = key.group; back = key.back; stroke = group; within = some_stage job fit; value = refl } in
+    subst AreSolidBoxes (sym same) (pose_solid job 0 pose fit at)
+
+pub first_of_halves-hit-requires : goal.first_of_halves-hit-requires
+first_of_halves-hit-requires c = record {
+  boxes = solid_boxes c.args.job.now c.stages-stages.ensures.valid c.args.stroke.now.mask c.args.stroke.now.of c.requires.group c.as_slice-boxes.result.now (c.as_slice-boxes.ensures.value ∙ ap (λ (p : PoseData). p.boxes) c.requires.pose);
+}
+
+pub first_pair-gauge-requires-clause-boxes : goal.first_pair-gauge-requires-clause-boxes
+first_pair-gauge-requires-clause-boxes c = c.as_slice-boxes.ensures.value
+
+pub first_pair-gauge-requires-clause-ascend : goal.first_pair-gauge-requires-clause-ascend
+first_pair-gauge-requires-clause-ascend c =
+    (solid_boxes c.args.job.now c.stages-stages.ensures.valid c.args.stroke.now.mask c.args.stroke.now.of c.requires.group c.as_slice-boxes.result.now (c.as_slice-boxes.ensures.value ∙ ap (λ (p : PoseData). p.boxes) c.requires.pose)).ascend
 
 pub code_for-hit_code-requires : goal.code_for-hit_code-requires
 code_for-hit_code-requires c =
@@ -62,9 +72,9 @@ code_for-lack_code-requires c =
     let job = c.args.job.now in
     let mask = c.args.stroke.now.mask in
     let key = c.args.stroke.now.of in
-    let first = subst (λ (p : PoseData). IsFirstLegal job p c.first_legal-gauge.result) c.requires.pose c.first_legal-gauge.ensures.first in
+    let first = subst (λ (p : PoseData). IsFirstLegal job p c.first_pair-gauge.result) c.requires.pose c.first_pair-gauge.ensures in
     found_coded job (pose_at job mask key.group key.back 0) key.back 0 9 9 c.gauge_reason-lack.result (coded job c.stages-stages.ensures.valid mask key 9 9 0)
-    (subst (IsFirstAmong job (pose_at job mask key.group key.back 0) key.back 0 9 9) (sym c.gauge_reason-lack.ensures) (gauge_first job mask key.group key.back 0 c.first_legal-gauge.result first))
+    (subst (IsFirstAmong job (pose_at job mask key.group key.back 0) key.back 0 9 9) (sym c.gauge_reason-lack.ensures) (gauge_first job mask key.group key.back 0 c.first_pair-gauge.result first))
 
 pub returns-then-is_free_somewhere : goal.returns-then-is_free_somewhere
 returns-then-is_free_somewhere c =
@@ -79,9 +89,9 @@ returns-then-is_free_somewhere c =
     let others = codes_to_load job fit mask key c.as_slice-boxes.result.now c.first_of_halves-hit.result code c.args.before.0 c.at_stages-hits.result.0 c.lesser-with_hits.result.0 c.args.load.0 c.lesser-others.result.0 seen (c.first_of_halves-hit.ensures key.back)
     c.code_for-hit_code.ensures alike c.requires.before c.lesser-with_hits.ensures.lanes c.requires.load c.lesser-others.ensures.lanes in
     let few : n ≤ 8 = omega (arith, fit.setup.stages.few_stages) in
-    let gauge = c.first_legal-gauge.result in
+    let gauge = c.first_pair-gauge.result in
     let lack = c.gauge_reason-lack.result in
-    let first = subst (λ (p : PoseData). IsFirstLegal job p gauge) c.requires.pose c.first_legal-gauge.ensures.first in
+    let first = subst (λ (p : PoseData). IsFirstLegal job p gauge) c.requires.pose c.first_pair-gauge.ensures in
     let legal : IsGaugeOf job mask key.group key.back gauge = λ stage within. same_first job mask key.group key.back 0 stage gauge first in
     let lacks : (stage : ℕ) → stage < n → IsLeastCode (HoldsAmong job mask key 9 9 stage) c.code_for-lack_code.result =
     λ stage within.

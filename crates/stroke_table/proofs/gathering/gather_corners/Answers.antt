@@ -1,5 +1,5 @@
-use Rattle.std.proofs.Common.{◌≡◌, ◌∙◌, inr, ◌+◌, ◌-◌, ◌<◌, ◌≤◌, ◌++◌, ℕ, [], ◌∷◌, length, map, filter, append-nil, refl, sym, ap, subst, arith}
-use Rattle.std.specs.Prelude.{All}
+use Rattle.std.proofs.Common.{◌≡◌, ◌∙◌, inr, ◌+◌, ◌-◌, ◌<◌, ◌≤◌, ◌++◌, ℕ, [], ◌∷◌, length, map, filter, append-nil, Option, refl, sym, ap, subst, arith}
+use Rattle.std.specs.Prelude.{All, IfSome}
 use Rattle.std.specs.List.{range_with_len}
 use Rattle.std.proofs.lemmas.List.{length-append}
 use Rattle.brake_base.specs.Masks.{has}
@@ -12,7 +12,8 @@ use Rattle.job_setup.specs.Setup.{shape_of, stage_count}
 use Rattle.box_support.specs.Deciding.{IsNumberOfBox}
 use Rattle.stroke_table.specs.declared.gathering.StrokeBoxes.{StrokeBoxes}
 use Rattle.stroke_table.specs.Codes.{AreLeastCodes, HoldsAmong, stroke_box}
-use Rattle.stroke_table.specs.Gathering.{IsOfBoxBelow}
+use Rattle.stroke_table.specs.declared.records.BoxRecord.{BoxRecord}
+use Rattle.stroke_table.specs.Gathering.{IsOfBoxBelow, IsOfNumber}
 use Rattle.stroke_table.specs.Records.{AreKept}
 use Rattle.stroke_table.proofs.LeastCodes.{same_codes}
 use Rattle.stroke_table.proofs.BoxCodes.{all_below, below_all, box_more, no_box_more, no_corner, boxes_gathered}
@@ -29,8 +30,8 @@ loop-bend-init c = record {
   places = refl;
 }
 
-pub found_of_number-found-requires-clause-number : goal.found_of_number-found-requires-clause-number
-found_of_number-found-requires-clause-number c =
+pub place_of_number-place-requires-clause-number : goal.place_of_number-place-requires-clause-number
+place_of_number-place-requires-clause-number c =
     inr (c.loop-bend.bend, omega (arith, c.loop-bend.auto.bend), omega (arith, c.loop-bend-test.true, c.bends-bend-end.ensures.value), sym c.contains.ensures ∙ c.if-contains.true, refl)
 
 pub loop-bend-preserved : goal.loop-bend-preserved
@@ -49,21 +50,22 @@ loop-bend-preserved c =
     let next : (12 + bend) + 1 ≡ 12 + (bend + 1) = omega arith in
     elim c.if-contains.branch [
       | then-contains w ↦
-          let found = w.found_of_number-found.result in
+          let found = w.box_at.result.now.found in
+          let of_number = subst (λ (one : Option BoxRecord). IfSome one (λ record_. IsOfNumber job stroke (12 + bend) record_.found)) w.box_at.ensures w.place_of_number-place.ensures.found in
           let folded = sym c.contains.ensures ∙ w.if-contains.true in
           let is : IsNumberOfBox (shape_of job) mask (12 + bend) = inr (bend, some, inside, folded, refl) in
           let long = length-append before.boxes.items (found.body ∷ []) in
           let items : c.if-contains.gathered.boxes.items ≡ before.boxes.items ++ found.body ∷ [] = ap (λ (g : StrokeBoxes). g.boxes.items) w.gathered-is ∙ w.take.ensures.boxes in
           let len = ap length items in
           record {
-            kept = subst (AreKept job) (sym w.kept-is) w.found_of_number-found.ensures.kept;
+            kept = subst (AreKept job) (sym w.kept-is) w.place_of_number-place.ensures.kept;
             codes = subst (λ (g : StrokeBoxes). AreLeastCodes (stage_count job) (λ stage. IsOfBoxBelow job mask key stage (12 + (bend + 1))) g.codes.0) (sym w.gathered-is)
                 (subst (λ (n : ℕ). AreLeastCodes (stage_count job) (λ stage. IsOfBoxBelow job mask key stage n) w.take.new.self.codes.0) next
-                (box_more job mask key (12 + bend) before.codes.0 found.codes.0 w.take.new.self.codes.0 few is c.loop-bend.invariant.codes w.found_of_number-found.ensures.codes w.take.ensures.codes));
+                (box_more job mask key (12 + bend) before.codes.0 found.codes.0 w.take.new.self.codes.0 few is c.loop-bend.invariant.codes of_number.codes w.take.ensures.codes));
             boxes = pick_next made (has mask) bend start before.boxes.items c.if-contains.gathered.boxes.items some c.loop-bend.invariant.boxes
-                (put_at_end (has mask bend) before.boxes.items c.if-contains.gathered.boxes.items (made bend) folded (items ∙ ap (λ (b : PoseBox). before.boxes.items ++ b ∷ []) w.found_of_number-found.ensures.body));
+                (put_at_end (has mask bend) before.boxes.items c.if-contains.gathered.boxes.items (made bend) folded (items ∙ ap (λ (b : PoseBox). before.boxes.items ++ b ∷ []) of_number.body));
             room = omega (arith, len, long, c.loop-bend.invariant.room);
-            near = all_pushed IsNearPoseBox _ _ _ items c.loop-bend.invariant.near w.found_of_number-found.ensures.near;
+            near = all_pushed IsNearPoseBox _ _ _ items c.loop-bend.invariant.near of_number.near;
             places = ap (λ (g : StrokeBoxes). g.places.items) w.gathered-is ∙ w.take.ensures.places ∙ c.loop-bend.invariant.places;
           }
       | else-contains w ↦

@@ -1,6 +1,6 @@
-use Rattle.std.proofs.Common.{◌≡◌, ◌∙◌, inl, ◌<◌, ℕ, [], ◌∷◌, length, map, sym, ap, subst, arith}
+use Rattle.std.proofs.Common.{◌≡◌, ◌∙◌, inl, ◌<◌, ℕ, [], ◌∷◌, length, map, Option, sym, ap, subst, arith}
 use Rattle.std.specs.List.{range_with_len}
-use Rattle.std.specs.Prelude.{All}
+use Rattle.std.specs.Prelude.{All, IfSome}
 use Rattle.std.proofs.lemmas.List.{length-append, map-append}
 use Rattle.std.proofs.lemmas.List.Elements.{All-nil}
 use Rattle.brake_base.specs.Turns.{map_of}
@@ -8,7 +8,8 @@ use Rattle.fold_boxes.specs.Posing.{IsNearPoseBox}
 use Rattle.unfolder.proofs.Listing.{push_next, all_pushed}
 use Rattle.job_setup.specs.Setup.{stage_count}
 use Rattle.stroke_table.specs.Codes.{stroke_box, stroke_place}
-use Rattle.stroke_table.specs.Gathering.{IsOfBoxBelow}
+use Rattle.stroke_table.specs.declared.records.BoxRecord.{BoxRecord}
+use Rattle.stroke_table.specs.Gathering.{IsOfBoxBelow, IsOfNumber}
 use Rattle.stroke_table.proofs.LeastCodes.{none_hold}
 use Rattle.stroke_table.proofs.BoxCodes.{box_more, faces_alone}
 use Rattle.stroke_table.proofs.gathering.gather_faces.Goals as goal
@@ -27,8 +28,8 @@ loop-number-init c =
       placed = ap length c.none-gathered.ensures.places;
     }
 
-pub found_of_number-found-requires-clause-number : goal.found_of_number-found-requires-clause-number
-found_of_number-found-requires-clause-number c = inl (omega (arith, c.loop-number-test.true, c.bends-number-end.ensures.value))
+pub place_of_number-place-requires-clause-number : goal.place_of_number-place-requires-clause-number
+place_of_number-place-requires-clause-number c = inl (omega (arith, c.loop-number-test.true, c.bends-number-end.ensures.value))
 
 pub loop-number-preserved : goal.loop-number-preserved
 loop-number-preserved c =
@@ -36,17 +37,18 @@ loop-number-preserved c =
     let stroke = c.args.stroke.now in
     let n = c.loop-number.number in
     let before = c.loop-number.gathered in
-    let found = c.found_of_number-found.result in
+    let found = c.box_at.result.now.found in
+    let of_number = subst (λ (one : Option BoxRecord). IfSome one (λ record_. IsOfNumber job stroke n record_.found)) c.box_at.ensures c.place_of_number-place.ensures.found in
     let inside : n < length job.part.faces = omega (arith, c.loop-number-test.true, c.bends-number-end.ensures.value) in
     let long = length-append before.boxes.items (found.body ∷ []) in
     let far = length-append before.places.items (found.place ∷ []) in
     record {
-      kept = c.found_of_number-found.ensures.kept;
-      codes = box_more job stroke.mask stroke.of n before.codes.0 found.codes.0 c.take_face.new.self.codes.0 (omega (arith, c.requires.kept.around.few)) (inl inside) c.loop-number.invariant.codes c.found_of_number-found.ensures.codes c.take_face.ensures.codes;
-      boxes = push_next (λ k. stroke_box job stroke.mask stroke.of k 0) 0 n n _ _ _ c.take_face.ensures.boxes c.loop-number.invariant.boxes c.found_of_number-found.ensures.body (omega arith);
+      kept = c.place_of_number-place.ensures.kept;
+      codes = box_more job stroke.mask stroke.of n before.codes.0 found.codes.0 c.take_face.new.self.codes.0 (omega (arith, c.requires.kept.around.few)) (inl inside) c.loop-number.invariant.codes of_number.codes c.take_face.ensures.codes;
+      boxes = push_next (λ k. stroke_box job stroke.mask stroke.of k 0) 0 n n _ _ _ c.take_face.ensures.boxes c.loop-number.invariant.boxes of_number.body (omega arith);
       count = ap length c.take_face.ensures.boxes ∙ omega (arith, long, c.loop-number.invariant.count);
-      near = all_pushed IsNearPoseBox _ _ _ c.take_face.ensures.boxes c.loop-number.invariant.near c.found_of_number-found.ensures.near;
-      places = push_next (stroke_place job stroke.mask stroke.of) 0 n n _ _ _ (ap (map map_of) c.take_face.ensures.places ∙ map-append map_of before.places.items (found.place ∷ [])) c.loop-number.invariant.places (c.found_of_number-found.ensures.place inside) (omega arith);
+      near = all_pushed IsNearPoseBox _ _ _ c.take_face.ensures.boxes c.loop-number.invariant.near of_number.near;
+      places = push_next (stroke_place job stroke.mask stroke.of) 0 n n _ _ _ (ap (map map_of) c.take_face.ensures.places ∙ map-append map_of before.places.items (found.place ∷ [])) c.loop-number.invariant.places (of_number.place inside) (omega arith);
       placed = ap length c.take_face.ensures.places ∙ omega (arith, far, c.loop-number.invariant.placed);
     }
 

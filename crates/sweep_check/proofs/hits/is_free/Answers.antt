@@ -1,4 +1,4 @@
-use Rattle.std.proofs.Common.{◌≡◌, ◌↔◌, ◌∙◌, IsTrue, refl, sym, subst, arith}
+use Rattle.std.proofs.Common.{◌↔◌, IsTrue, refl, sym, subst, arith}
 use Rattle.std.proofs.lemmas.Bool.{false≢true}
 use Rattle.brake_base.specs.declared.plane.Rect.{Rect}
 use Rattle.sector_geom.specs.Plane.{HasInterior, IsInRange}

@@ -1,14 +1,14 @@
-use Rattle.std.proofs.Common.{◌∙◌, ◌<◌, length, Some, arith}
+use Rattle.std.proofs.Common.{◌∙◌, Some}
 use Rattle.std.proofs.lemmas.List.{length-set}
 use Rattle.stroke_table.specs.Records.{IsBoxRecord}
 use Rattle.stroke_table.proofs.TrueRecords.{record_more}
 use Rattle.stroke_table.proofs.records.StrokeRecords.keep_box.Goals as goal
 
-pub returns : goal.returns
-returns c = λ job kept is.
+pub returns-clause-kept : goal.returns-clause-kept
+returns-clause-kept c = λ job kept is.
     let records = c.args.self.now.boxes.items in
-    let place = c.box_place-place.result in
-    let within : place < length records = omega (arith, c.box_place-place.ensures, c.requires) in
+    let place = c.args.place in
+    let within = c.requires in
     record {
       around = kept.around;
       deciding = kept.deciding;
