@@ -1,5 +1,5 @@
 -- What the calls of the search owe and give, in terms of its state.
-use Rattle.std.proofs.Common.{◌≡◌, ◌⊎◌, inl, inr, ℕ, ◌+◌, ◌*◌, ◌<◌, ◌≤◌, List, ◌∷◌, length, Some, None, arith, refl, sym, ◌∙◌, ap, subst}
+use Rattle.std.proofs.Common.{◌≡◌, ◌⊎◌, inl, inr, ℕ, ◌≤◌, List, ◌∷◌, length, Some, None, arith, refl, sym, ◌∙◌, ap}
 use Rattle.std.specs.Prelude.{slice_get, option_and_then, option_map, Contains}
 use Rattle.std.proofs.lemmas.Option.{slice_get_within, slice_get-map, slice_get_cases, same_Some, none-some}
 use Rattle.brake_base.specs.declared.mask.Mask.{Mask}
@@ -8,18 +8,15 @@ use Rattle.brake_base.specs.declared.stroke.Action.{Action}
 use Rattle.brake_base.specs.declared.stroke.Gauge.{Gauge}
 use Rattle.brake_base.specs.declared.stroke.Worth.{Worth}
 use Rattle.brake_base.specs.declared.stroke.Worth.TheVariants.{Cost, Blocked}
-use Rattle.brake_base.specs.declared.reason.Reason.{Reason}
 use Rattle.brake_base.specs.Masks.{union}
-use Rattle.brake_base.specs.Actions.{number_of_action}
 use Rattle.job_setup.specs.StrokeGroup.{group_of}
-use Rattle.job_setup.specs.Setup.{JobData, stage_count}
+use Rattle.job_setup.specs.Setup.{JobData}
 use Rattle.job_setup.specs.ValidJob.{IsJob}
-use Rattle.handling_cost.specs.StepCost.{IsKeyOf, IsActionAt, IsFull, left, attitude_at, key_after, cost_of}
-use Rattle.handling_cost.specs.Plan.{IsReasonFor, IsLegal}
-use Rattle.handling_cost.specs.Bound.{sum_of}
-use Rattle.brake_base.specs.Worths.{IsAtMost, plus}
+use Rattle.handling_cost.specs.StepCost.{IsKeyOf, IsFull, left, attitude_at, key_after}
+use Rattle.handling_cost.specs.Plan.{IsLegal}
+use Rattle.brake_base.specs.Worths.{IsAtMost}
 use Rattle.handling_cost.specs.Reach.{IsNode}
-use Rattle.handling_cost.proofs.Actions.{few_bends, few_left, fewer_left}
+use Rattle.handling_cost.proofs.Actions.{few_left}
 use Rattle.handling_cost.proofs.Small.{total_small}
 use Rattle.row_pool.specs.Rows.{Pool, PoolRow, keys, worth_at}
 use Rattle.bb_search.specs.Table.{Grows}

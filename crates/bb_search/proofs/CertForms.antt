@@ -45,12 +45,12 @@ use Rattle.bb_search.proofs.Ranges.{steps_ranged, steps_most}
 use Rattle.bb_search.proofs.CertLemmas.{condition_carried, thrifty_carried, map_pairs, row_of_head, row_there, row_back, note_there, note_back, note_at}
 
 -- ---- the claim and the steps
-worth_ranged : (worth : Worth) → ((cost : ℕ) → worth ≡ Cost cost → cost ≤ 1000000000) → IsWorth worth
+pub worth_ranged : (worth : Worth) → ((cost : ℕ) → worth ≡ Cost cost → cost ≤ 1000000000) → IsWorth worth
 worth_ranged (Cost cost) most = most cost refl
 worth_ranged Blocked most = tt
 
 module _ (job : JobData) (is_job : IsJob job) where
-  claim_ranged : (pool : Pool) (budget : ℕ) (steps : List Step) (claim : Worth) → IsAnswer job pool budget steps (outcome_of claim) → IsWorth claim
+  pub claim_ranged : (pool : Pool) (budget : ℕ) (steps : List Step) (claim : Worth) → IsAnswer job pool budget steps (outcome_of claim) → IsWorth claim
   claim_ranged pool budget steps (Cost cost) answer =
       let most = total_small job is_job start steps (start_in_range job is_job) answer.0.least.plan in
       let few = few_left job is_job start in
@@ -58,11 +58,11 @@ module _ (job : JobData) (is_job : IsJob job) where
       omega (arith, most, few, sum)
   claim_ranged pool budget steps Blocked answer = tt
 
-  steps_fit : (pool : Pool) (budget : ℕ) (steps : List Step) (claim : Worth) → IsAnswer job pool budget steps (outcome_of claim) → HasSteps job claim steps
+  pub steps_fit : (pool : Pool) (budget : ℕ) (steps : List Step) (claim : Worth) → IsAnswer job pool budget steps (outcome_of claim) → HasSteps job claim steps
   steps_fit pool budget steps (Cost cost) answer = steps_most job is_job start steps answer.0.least.plan
   steps_fit pool budget steps Blocked answer = answer.1
 
-  each_step : (pool : Pool) (budget : ℕ) (steps : List Step) (claim : Worth) → IsAnswer job pool budget steps (outcome_of claim) → All (IsStep job) steps
+  pub each_step : (pool : Pool) (budget : ℕ) (steps : List Step) (claim : Worth) → IsAnswer job pool budget steps (outcome_of claim) → All (IsStep job) steps
   each_step pool budget steps (Cost cost) answer = steps_ranged job start steps answer.0.least.plan
   each_step pool budget steps Blocked answer = λ k d within. let none = ap length answer.1 in absurd (omega (arith, within, none))
 

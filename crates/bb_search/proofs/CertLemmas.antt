@@ -51,7 +51,7 @@ module _ (job : JobData) (R S : Key → Worth → Type 0) (N M : Key → Action 
   ]
 
 -- what stands in a list's map
-mapped : {X Y : Type 0} (f : X → Y) (xs : List X) (i : ℕ) (x : X) → slice_get xs i ≡ Some x → slice_get (map f xs) i ≡ Some (f x)
+pub mapped : {X Y : Type 0} (f : X → Y) (xs : List X) (i : ℕ) (x : X) → slice_get xs i ≡ Some x → slice_get (map f xs) i ≡ Some (f x)
 mapped f xs i x at = slice_get-map f xs i ∙ ap (option_map f) at
 
 -- the element that stands where one of the map does

@@ -1,6 +1,6 @@
 -- What a key's worth is by what is known, from the sums and the slacks by place.
-use Rattle.std.proofs.Common.{◌≡◌, ◌≢◌, ◌⊎◌, inl, inr, ℕ, ◌+◌, ◌*◌, ◌/◌, ◌%◌, ◌<◌, ◌≤◌, Bool}
-use Rattle.std.proofs.Common.{true, false, cond, arith, refl, sym, ◌∙◌, ap, subst, mod-lt}
+use Rattle.std.proofs.Common.{◌≡◌, inl, inr, ℕ, ◌+◌, ◌/◌, ◌%◌, ◌<◌, ◌≤◌, Bool}
+use Rattle.std.proofs.Common.{true, false, cond, arith, sym, ◌∙◌, ap, subst}
 use Rattle.std.specs.Prelude.{◌↔◌, IsTrue}
 use Rattle.std.proofs.lemmas.Bool.{cases_lt}
 use Rattle.brake_base.specs.declared.mask.Mask.{Mask}
@@ -10,8 +10,7 @@ use Rattle.brake_base.specs.declared.stroke.Back.{Back}
 use Rattle.brake_base.specs.declared.stroke.Back.TheVariants.{Parent, Child}
 use Rattle.brake_base.specs.Masks.{has as has_bend}
 use Rattle.brake_base.specs.Actions.{back_number, number_of_action, IsActionAmong}
-use Rattle.stage_lanes.specs.declared.actions.ActionSet.{ActionSet}
-use Rattle.stage_lanes.specs.ActionSets.{place_of, has, has_place}
+use Rattle.stage_lanes.specs.ActionSets.{place_of, has_place}
 use Rattle.action_lanes.specs.declared.costs.ActionCosts.{ActionCosts}
 use Rattle.action_lanes.specs.Costs.{cost_at, AreCosts, is_of, IsLeastCost}
 use Rattle.action_lanes.specs.Tested.{IsTested}
@@ -24,7 +23,7 @@ use Rattle.row_pool.proofs.NumberLemmas.{action_at, action_among, number_is}
 use Rattle.bb_search.specs.declared.known.KnownActions.{KnownActions}
 use Rattle.bb_search.specs.declared.settle.Choice.{Choice}
 use Rattle.bb_search.specs.LaneSums.{AreSums}
-use Rattle.bb_search.specs.KnownActions.{slack_of, AreActionsAt, IsChoice}
+use Rattle.bb_search.specs.KnownActions.{slack_of, IsChoice}
 use Rattle.bb_search.proofs.KnownLemmas.{among_lanes, place_in}
 
 back_low : (back : Back) → back_number back < 2

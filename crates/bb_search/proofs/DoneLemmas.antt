@@ -1,9 +1,8 @@
 -- A key's settling from the new row to the row that is done, in terms of what its table knows.
-use Rattle.std.proofs.Common.{◌≡◌, ◌≢◌, ◌⊎◌, inl, inr, ℕ, ◌+◌, ◌*◌, ◌/◌, ◌<◌, ◌≤◌, ◌&&◌, not, Bool, true, false, List}
-use Rattle.std.proofs.Common.{length, map, Option, Some, None, arith, refl, sym, ◌∙◌, ap, subst}
+use Rattle.std.proofs.Common.{◌≡◌, inl, inr, ℕ, ◌*◌, ◌/◌, ◌<◌, ◌≤◌, ◌&&◌, not, Bool, true, false, List}
+use Rattle.std.proofs.Common.{length, Option, Some, arith, refl, sym, ◌∙◌, ap, subst}
 use Rattle.std.specs.Prelude.{slice_get, option_map}
-use Rattle.std.proofs.lemmas.Option.{slice_get_within, slice_get-map, same_Some}
-use Rattle.brake_base.specs.declared.mask.Mask.{Mask}
+use Rattle.std.proofs.lemmas.Option.{slice_get-map, same_Some}
 use Rattle.brake_base.specs.declared.stroke.Key.{Key}
 use Rattle.brake_base.specs.declared.stroke.Action.{Action}
 use Rattle.brake_base.specs.declared.stroke.Worth.{Worth}
@@ -14,21 +13,20 @@ use Rattle.stage_lanes.specs.ActionSets.{place_of, has, has_place, ArePlaces, Is
 use Rattle.job_setup.specs.Setup.{JobData, stage_count}
 use Rattle.job_setup.specs.ValidJob.{IsJob}
 use Rattle.handling_cost.specs.StepCost.{IsKeyOf, IsActionAt}
-use Rattle.handling_cost.specs.Reach.{IsNode}
 use Rattle.row_pool.specs.Rows.{Pool, PoolRow, keys, changed_at, with_row, with_worth, with_notes, new_row, noted_reasons, common_at, place_at, AreCommon}
 use Rattle.row_pool.proofs.PoolLemmas.{length-changed_at}
 use Rattle.row_pool.proofs.NumberLemmas.{action_at, action_among, number_is, place_of_number}
 use Rattle.bb_search.specs.declared.known.KnownActions.{KnownActions}
 use Rattle.bb_search.specs.declared.settle.Choice.{Choice}
 use Rattle.bb_search.specs.Table.{Extends}
-use Rattle.bb_search.specs.Settling.{IsSound, IsSettled, IsSource, IsKnownAfter}
+use Rattle.bb_search.specs.Settling.{IsKnownAfter}
 use Rattle.bb_search.specs.KnownActions.{TableData, AreKnownAt, AreKnown, IsChoice, AreOpen, IsWorthOf}
-use Rattle.bb_search.specs.OpenRows.{IsPending, IsSettlingAt, IsSettling, IsSettlingBy}
+use Rattle.bb_search.specs.OpenRows.{IsSettlingAt}
 use Rattle.bb_search.proofs.RowLemmas.{push_kept}
 use Rattle.bb_search.proofs.TableLemmas.{settled_kept}
 use Rattle.bb_search.proofs.KnownLemmas.{place_small, at_set, among_lanes, place_in}
 use Rattle.bb_search.proofs.KnownTables.{known_moved}
-use Rattle.bb_search.proofs.OpenRowLemmas.{changed_twice, settling_starts, settling_done, extends_by}
+use Rattle.bb_search.proofs.OpenRowLemmas.{changed_twice, settling_done, extends_by}
 use Rattle.bb_search.proofs.SettledLemmas.{settled_is, source_is}
 use Rattle.bb_search.proofs.ExploreLemmas.{first_holds, second_holds, both_hold}
 

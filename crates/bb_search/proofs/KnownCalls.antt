@@ -1,6 +1,6 @@
 -- What the calls of a key's settling owe and give, in terms of what its table knows.
-use Rattle.std.proofs.Common.{◌≡◌, ◌≢◌, ◌⊎◌, inl, inr, ℕ, ◌+◌, ◌*◌, ◌^◌, ◌<◌, ◌≤◌, ◌&&◌, true, false, List}
-use Rattle.std.proofs.Common.{length, set, Option, Some, None, arith, refl, sym, ◌∙◌, ap, subst}
+use Rattle.std.proofs.Common.{◌≡◌, ◌≢◌, inl, inr, ℕ, ◌^◌, ◌<◌, ◌≤◌, false, List}
+use Rattle.std.proofs.Common.{set, Some, arith, refl, sym, ◌∙◌, ap, subst}
 use Rattle.std.specs.Prelude.{slice_get}
 use Rattle.std.proofs.Math.Pow.{pow_mono}
 use Rattle.std.proofs.lemmas.List.{length-set}
@@ -8,34 +8,26 @@ use Rattle.std.proofs.lemmas.Option.{slice_get_within, slice_get_cases, same_Som
 use Rattle.brake_base.specs.declared.mask.Mask.{Mask}
 use Rattle.brake_base.specs.declared.stroke.Key.{Key}
 use Rattle.brake_base.specs.declared.stroke.Action.{Action}
-use Rattle.brake_base.specs.declared.stroke.Gauge.{Gauge}
 use Rattle.brake_base.specs.declared.stroke.Worth.{Worth}
 use Rattle.brake_base.specs.declared.reason.Reason.{Reason}
 use Rattle.brake_base.specs.Actions.{number_of_action}
-use Rattle.stage_lanes.specs.declared.actions.ActionSet.{ActionSet}
-use Rattle.stage_lanes.specs.ActionSets.{place_of, has, has_place, ArePlaces}
+use Rattle.stage_lanes.specs.ActionSets.{has}
 use Rattle.job_setup.specs.Setup.{JobData, bend_count, stage_count}
 use Rattle.job_setup.specs.ValidJob.{IsJob}
 use Rattle.set_facts.specs.LaneFacts.{key_at}
-use Rattle.handling_cost.specs.StepCost.{IsKeyOf, IsActionOf, IsActionAt, left, key_after}
-use Rattle.handling_cost.specs.Plan.{IsReasonFor, IsLegal}
+use Rattle.handling_cost.specs.StepCost.{IsActionOf, IsActionAt, left, key_after}
+use Rattle.handling_cost.specs.Plan.{IsReasonFor}
 use Rattle.handling_cost.specs.Bound.{sum_of}
-use Rattle.handling_cost.specs.Reach.{IsNode}
 use Rattle.handling_cost.proofs.Actions.{few_bends, fewer_left}
-use Rattle.row_pool.specs.Rows.{Pool, PoolRow, changed_at, with_row, with_worth, with_common, with_notes, new_row, noted_reasons, common_at}
+use Rattle.row_pool.specs.Rows.{Pool, PoolRow, with_common}
 use Rattle.bb_search.specs.declared.known.KnownActions.{KnownActions}
-use Rattle.bb_search.specs.declared.settle.Choice.{Choice}
-use Rattle.bb_search.specs.Table.{Extends}
-use Rattle.bb_search.specs.Settling.{IsSound, IsKnown, OpenAbove, IsKnownAfter, IsSpent, IsSettled, IsSource}
-use Rattle.bb_search.specs.KnownActions.{TableData, IsSlack, next_of, slack_of, IsFreeWith, AreKnownAt, AreKnown, IsChoice, IsFloor, IsToldOf, IsRefusal, IsLearnt, IsChangedAt, IsWorthOf}
-use Rattle.bb_search.specs.OpenRows.{IsPending, IsSettlingAt, IsSettling, IsSettlingBy, IsSameAbove}
-use Rattle.bb_search.proofs.RowLemmas.{push_kept}
-use Rattle.bb_search.proofs.TableLemmas.{settled_kept, grown_extends}
+use Rattle.bb_search.specs.Settling.{IsSound, OpenAbove, IsKnownAfter, IsSpent}
+use Rattle.bb_search.specs.KnownActions.{TableData, IsFreeWith, AreKnown, IsFloor, IsToldOf, IsRefusal, IsLearnt, IsChangedAt}
+use Rattle.bb_search.specs.OpenRows.{IsSettlingBy, IsSameAbove}
 use Rattle.row_pool.proofs.PoolLemmas.{slice_get-set_same, slice_get-set_other}
-use Rattle.bb_search.proofs.KnownLemmas.{at_set, next_is_of_set, pending_kept, floor_kept}
-use Rattle.bb_search.proofs.KnownTables.{known_moved, known_changed, known_with, told_pool, common_here, told_holds, common_stays, same_mask}
-use Rattle.bb_search.proofs.OpenRowLemmas.{changed_twice, settling_starts, settling_told, settling_found, settling_done, extends_by}
-use Rattle.bb_search.proofs.SettledLemmas.{settled_is, source_is}
+use Rattle.bb_search.proofs.KnownLemmas.{pending_kept, floor_kept}
+use Rattle.bb_search.proofs.KnownTables.{known_changed, known_with, common_here, told_holds, common_stays, same_mask}
+use Rattle.bb_search.proofs.OpenRowLemmas.{settling_told, settling_found}
 
 pub left_at_set : (job : JobData) (key : Key) → left job (key_at key.mask 0) ≡ left job key
 unfolding left

@@ -1,5 +1,5 @@
 -- What is known of a set's actions, and what stays so while more is told.
-use Rattle.std.proofs.Common.{◌≡◌, ◌≢◌, ◌⊎◌, inl, inr, ℕ, ◌+◌, ◌-◌, ◌*◌, ◌<◌, ◌≤◌, true, false, Bool, cond, List}
+use Rattle.std.proofs.Common.{◌≡◌, ◌≢◌, inl, inr, ℕ, ◌+◌, ◌-◌, ◌*◌, ◌<◌, true, false, Bool, cond, List}
 use Rattle.std.proofs.Common.{arith, refl, sym, ◌∙◌, ap}
 use Rattle.std.proofs.lemmas.Nat.{mul-add-lt}
 use Rattle.std.proofs.lemmas.Bool.{lt-ltb}
@@ -13,17 +13,16 @@ use Rattle.brake_base.specs.declared.stroke.Back.TheVariants.{Parent, Child}
 use Rattle.brake_base.specs.Actions.{back_number, number_of_action, IsActionAmong}
 use Rattle.brake_base.proofs.Actions.{same_number}
 use Rattle.stage_lanes.specs.ActionSets.{place_of, has, has_place}
-use Rattle.action_lanes.specs.Costs.{cost_at}
-use Rattle.job_setup.specs.Setup.{JobData, bend_count, stage_count}
+use Rattle.job_setup.specs.Setup.{JobData, stage_count}
 use Rattle.job_setup.specs.ValidJob.{IsJob}
 use Rattle.set_facts.specs.LaneFacts.{key_at, HasBounds}
 use Rattle.handling_cost.specs.StepCost.{IsKeyOf, IsActionAt, key_after}
 use Rattle.handling_cost.specs.Bound.{bound_of, sum_of}
 use Rattle.handling_cost.proofs.Actions.{few_bends}
-use Rattle.row_pool.specs.Rows.{Pool, PoolRow}
+use Rattle.row_pool.specs.Rows.{PoolRow}
 use Rattle.bb_search.specs.declared.known.KnownActions.{KnownActions}
 use Rattle.bb_search.specs.Table.{Extends}
-use Rattle.bb_search.specs.KnownActions.{next_of, slack_of, IsFreeWith, IsFloor, IsToldOf}
+use Rattle.bb_search.specs.KnownActions.{next_of, IsFreeWith, IsFloor, IsToldOf}
 use Rattle.bb_search.specs.OpenRows.{IsPending}
 use Rattle.bb_search.proofs.TableLemmas.{known_kept}
 

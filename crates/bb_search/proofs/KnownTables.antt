@@ -1,5 +1,5 @@
 -- What a table knows stays so while rows come, and while reasons and slacks are told.
-use Rattle.std.proofs.Common.{◌≡◌, ◌≢◌, ◌⊎◌, inl, inr, ℕ, ◌+◌, ◌*◌, ◌^◌, ◌<◌, ◌≤◌, true, false, List}
+use Rattle.std.proofs.Common.{◌≡◌, ◌≢◌, inl, inr, ℕ, ◌*◌, ◌^◌, ◌<◌, ◌≤◌, true, false, List}
 use Rattle.std.proofs.Common.{length, set, get_or, replicate, zero, suc, Option, Some, None, arith, refl, sym, ◌∙◌, ap, subst}
 use Rattle.std.proofs.lemmas.List.{length-set, get_or-set_same, get_or-set_other}
 use Rattle.std.proofs.lemmas.Nat.{same_from_place, mul-add-lt}
@@ -9,22 +9,22 @@ use Rattle.std.proofs.lemmas.Bool.Decides.{eqb_tells}
 use Rattle.brake_base.specs.declared.mask.Mask.{Mask}
 use Rattle.brake_base.specs.declared.stroke.Action.{Action}
 use Rattle.brake_base.specs.declared.reason.Reason.{Reason}
-use Rattle.brake_base.specs.Actions.{number_of_action, IsActionAmong}
+use Rattle.brake_base.specs.Actions.{number_of_action}
 use Rattle.brake_base.proofs.Actions.{same_number}
 use Rattle.std.proofs.lemmas.List.{length-replicate}
-use Rattle.stage_lanes.specs.ActionSets.{place_of, has, has_place, IsNone}
-use Rattle.action_lanes.specs.Costs.{cost_at, AreCosts}
+use Rattle.stage_lanes.specs.ActionSets.{place_of, has, IsNone}
+use Rattle.action_lanes.specs.Costs.{AreCosts}
 use Rattle.job_setup.specs.Setup.{JobData, bend_count, stage_count}
 use Rattle.job_setup.specs.ValidJob.{IsJob}
 use Rattle.set_facts.specs.LaneFacts.{key_at}
 use Rattle.handling_cost.specs.StepCost.{IsActionOf, IsActionAt}
 use Rattle.handling_cost.specs.Plan.{IsReasonFor}
-use Rattle.row_pool.specs.Rows.{Pool, PoolRow, common_place, common_at, first_reason, with_common, empty_pool, no_common}
+use Rattle.row_pool.specs.Rows.{Pool, common_place, common_at, first_reason, with_common, empty_pool, no_common}
 use Rattle.row_pool.proofs.PoolLemmas.{slice_get-set_same, slice_get-set_other}
 use Rattle.bb_search.specs.declared.known.KnownActions.{KnownActions}
 use Rattle.bb_search.specs.Table.{Extends}
 use Rattle.bb_search.specs.KnownActions.{TableData, slack_of, HasCommon, IsFreeWith, AreKnownAt, CommonHold, AreKnown}
-use Rattle.bb_search.specs.KnownActions.{IsToldOf, IsRefusal, IsLearnt, HasSmallSlack}
+use Rattle.bb_search.specs.KnownActions.{IsToldOf, HasSmallSlack}
 use Rattle.bb_search.proofs.KnownLemmas.{number_low, place_in, among_lanes, free_kept}
 
 pub same_mask : (a b : Mask) → a.0 ≡ b.0 → a ≡ b

@@ -8,8 +8,10 @@ pub mod ToldLemmas
 pub mod KnownTables
 pub mod ChoiceLemmas
 pub mod LaneSumLemmas
+pub mod BendSumLemmas
 pub mod Measures
 pub mod OpenRowLemmas
+pub mod SettledParts
 pub mod SettledLemmas
 pub mod KnownCalls
 pub mod ExploreLemmas
@@ -26,3 +28,7 @@ pub mod NoteLists
 pub mod Ranges
 pub mod CertLemmas
 pub mod CertForms
+pub mod WriterLemmas
+pub mod WrittenNotes
+pub mod WrittenLemmas
+pub mod CertWritten

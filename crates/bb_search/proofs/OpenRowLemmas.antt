@@ -1,24 +1,21 @@
 -- The steps of a key's settling: a new row, what is told of an action, the row's notes and worth.
-use Rattle.std.proofs.Common.{◌≡◌, ◌≢◌, ◌⊎◌, inl, inr, ℕ, ◌+◌, ◌<◌, ◌≤◌, List, [], ◌∷◌, ◌++◌}
-use Rattle.std.proofs.Common.{length, Option, Some, None, true, false, zero, suc, arith, refl, sym, ◌∙◌, ap, subst}
+use Rattle.std.proofs.Common.{◌≡◌, ◌≢◌, inl, inr, ℕ, ◌+◌, List, [], ◌∷◌, ◌++◌}
+use Rattle.std.proofs.Common.{length, Option, Some, None, zero, suc, arith, refl, sym, ◌∙◌, ap, subst}
 use Rattle.std.proofs.Common.{length-append}
 use Rattle.std.specs.Prelude.{slice_get, IsSome}
-use Rattle.std.proofs.lemmas.Option.{slice_get_within, same_Some, none-some}
+use Rattle.std.proofs.lemmas.Option.{slice_get_within, same_Some}
 use Rattle.std.proofs.lemmas.Bool.Decides.{eqb_tells}
 use Rattle.brake_base.specs.declared.stroke.Key.{Key}
 use Rattle.brake_base.specs.declared.stroke.Action.{Action}
 use Rattle.brake_base.specs.declared.stroke.Worth.{Worth}
 use Rattle.brake_base.specs.declared.reason.Reason.{Reason}
 use Rattle.job_setup.specs.Setup.{JobData}
-use Rattle.handling_cost.specs.StepCost.{IsActionAt, key_after, left}
-use Rattle.handling_cost.specs.Bound.{sum_of}
 use Rattle.handling_cost.specs.Reach.{IsNode}
 use Rattle.row_pool.specs.Rows.{Pool, PoolRow, changed_at, new_row, with_row}
 use Rattle.row_pool.proofs.PoolLemmas.{length-changed_at}
 use Rattle.bb_search.specs.declared.known.KnownActions.{KnownActions}
-use Rattle.bb_search.specs.Table.{Extends, noted_for}
+use Rattle.bb_search.specs.Table.{Extends}
 use Rattle.bb_search.specs.Settling.{IsSettled, IsSound, IsSource, IsKnownAfter}
-use Rattle.bb_search.specs.KnownActions.{IsFloor}
 use Rattle.bb_search.specs.OpenRows.{IsPending, IsSettlingAt}
 use Rattle.bb_search.proofs.RowLemmas.{push_cases, push_kept, push_last, changed_cases, changed_here, changed_elsewhere}
 use Rattle.bb_search.proofs.TableLemmas.{settled_kept, source_kept, grown_extends}

@@ -7,7 +7,7 @@ use Rattle.job_setup.specs.Setup.{JobData, stage_count}
 use Rattle.handling_cost.specs.Reach.{nodes}
 use Rattle.row_pool.specs.Rows.{Pool, empty_pool}
 use Rattle.bb_search.specs.KnownActions.{TableData, AreKnown}
-use Rattle.bb_search.specs.Searches.{SearchData, search_data, opened, IsSearch}
+use Rattle.bb_search.specs.Searches.{search_data, opened, IsSearch}
 
 -- the pool is that of the job
 own_pool : (job : JobData) (budget rows actions : ℕ) (pool : Pool) → pool ≡ empty_pool rows actions → rows ≡ min budget (nodes job) → actions ≡ 24 * stage_count job → pool ≡ empty_pool (min budget (nodes job)) (24 * stage_count job)

@@ -1,5 +1,5 @@
 -- The numbers in the steps of a plan are within the ranges of a certificate.
-use Rattle.std.proofs.Common.{◌<◌, ◌≤◌, List, [], ◌∷◌, length, not, arith}
+use Rattle.std.proofs.Common.{◌≤◌, List, [], ◌∷◌, length, not, arith}
 use Rattle.std.specs.Prelude.{All}
 use Rattle.std.proofs.lemmas.List.Elements.{All-nil, All-cons}
 use Rattle.brake_base.specs.declared.stroke.Key.{Key}

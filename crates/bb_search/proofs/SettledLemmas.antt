@@ -1,12 +1,9 @@
 -- A key is done: no tested action is unknown, so that what is known of its actions tells its worth.
-use Rattle.std.proofs.Common.{◌≡◌, ◌≢◌, ◌⊎◌, inl, inr, ℕ, zero, suc, ◌+◌, ◌*◌, ◌/◌, ◌<◌, ◌≤◌, Bool}
-use Rattle.std.proofs.Common.{true, false, cond, ◌&&◌, List, ◌∷◌, map, Option, Some, None, arith, refl, sym}
+use Rattle.std.proofs.Common.{◌≡◌, inl, inr, ℕ, ◌+◌, ◌*◌, ◌/◌, ◌<◌, ◌≤◌, Bool}
+use Rattle.std.proofs.Common.{true, false, cond, ◌&&◌, Option, Some, None, arith, refl, sym}
 use Rattle.std.proofs.Common.{◌∙◌, ap, subst}
-use Rattle.std.specs.Prelude.{slice_get, option_and_then}
-use Rattle.std.specs.List.{range_with_len}
-use Rattle.std.proofs.lemmas.Option.{same_Some, none-some}
+use Rattle.std.proofs.lemmas.Option.{none-some}
 use Rattle.std.proofs.lemmas.Bool.{cases_lt}
-use Rattle.brake_base.specs.declared.mask.Mask.{Mask}
 use Rattle.brake_base.specs.declared.stroke.Key.{Key}
 use Rattle.brake_base.specs.declared.stroke.Action.{Action}
 use Rattle.brake_base.specs.declared.stroke.Step.{Step}
@@ -14,19 +11,15 @@ use Rattle.brake_base.specs.declared.stroke.Worth.{Worth}
 use Rattle.brake_base.specs.declared.stroke.Worth.TheVariants.{Cost, Blocked}
 use Rattle.brake_base.specs.declared.reason.Reason.{Reason}
 use Rattle.brake_base.specs.Actions.{number_of_action, IsActionAmong}
-use Rattle.brake_base.specs.Worths.{IsAtMost, plus}
 use Rattle.brake_base.proofs.Actions.{same_number}
 use Rattle.stage_lanes.specs.declared.actions.ActionSet.{ActionSet}
 use Rattle.stage_lanes.specs.ActionSets.{place_of, has, has_place, ArePlaces}
 use Rattle.job_setup.specs.Setup.{JobData, stage_count}
 use Rattle.job_setup.specs.ValidJob.{IsJob}
 use Rattle.handling_cost.specs.StepCost.{IsKeyOf, IsActionAt, key_after, cost_of}
-use Rattle.handling_cost.specs.Plan.{IsReasonFor, IsLegal}
+use Rattle.handling_cost.specs.Plan.{IsLegal}
 use Rattle.handling_cost.specs.Bound.{bound_of, sum_of}
 use Rattle.handling_cost.specs.Good.{IsClosed}
-use Rattle.handling_cost.proofs.Actions.{few_left}
-use Rattle.handling_cost.proofs.Keys.{next_in_range}
-use Rattle.handling_cost.proofs.Small.{cost_small, bound_small, total_small}
 use Rattle.row_pool.specs.Rows.{Pool, PoolRow, common_at, place_at, noted_reasons}
 use Rattle.row_pool.proofs.NumberLemmas.{action_at, action_among, number_is, place_is, place_of_number}
 use Rattle.bb_search.specs.declared.known.KnownActions.{KnownActions}
@@ -38,66 +31,7 @@ use Rattle.bb_search.specs.OpenRows.{IsPending}
 use Rattle.bb_search.proofs.TableLemmas.{known_attained, known_proves}
 use Rattle.bb_search.proofs.OrderLemmas.{number_in}
 use Rattle.bb_search.proofs.KnownLemmas.{place_small, at_set, among_lanes, place_in, next_is_of_set}
-
--- the value of the number of a place in a list by numbers
-noted_within :
-    (f : ℕ → Option Reason) (a n k : ℕ) → k < n
-    → option_and_then (λ (r : Option Reason). r) (slice_get (map f (range_with_len a n)) k) ≡ f (a + k)
-noted_within f a zero k within = absurd (omega (arith, within))
-noted_within f a (suc n) zero within = ap f (omega arith)
-noted_within f a (suc n) (suc k) within =
-    noted_within f (a + 1) n k (omega (arith, within)) ∙ ap f (omega arith)
-
-noted_past :
-    (f : ℕ → Option Reason) (a n k : ℕ) → n ≤ k
-    → option_and_then (λ (r : Option Reason). r) (slice_get (map f (range_with_len a n)) k) ≡ None
-noted_past f a zero k past = refl
-noted_past f a (suc n) zero past = absurd (omega (arith, past))
-noted_past f a (suc n) (suc k) past = noted_past f (a + 1) n k (omega (arith, past))
-
-both_true : (a b : Bool) → (a && b) ≡ true → (a ≡ true) × (b ≡ true)
-both_true true true is = (refl, refl)
-both_true true false is = absurd cc
-both_true false b is = absurd cc
-
-true_both : (a b : Bool) → a ≡ true → b ≡ true → (a && b) ≡ true
-true_both a b first second = rw (first, second) refl
-
-one_false : (a b : Bool) → b ≡ false → (a && b) ≡ false
-one_false true b is = is
-one_false false b is = refl
-
-by_bool : {P : Type 0} (b : Bool) → (b ≡ true → P) → (b ≡ false → P) → P
-by_bool b first second = elim (bool_cases b) [ inl is ↦ first is | inr is ↦ second is ]
-  where
-    bool_cases : (t : Bool) → (t ≡ true) ⊎ (t ≡ false)
-    bool_cases true = inl refl
-    bool_cases false = inr refl
-
--- a legal step and what is attained after it
-pub attained_by : (job : JobData) (key : Key) (step : Step) (worth : Worth) → IsLegal job key step → IsAttained job (key_after job key step.action) worth → IsAttained job key (plus (cost_of job key step.action) worth)
-attained_by job key step (Cost n) legal attained = (step ∷ attained.0, (legal, attained.1), ap (λ (m : ℕ). cost_of job key step.action + m) attained.2)
-attained_by job key step Blocked legal attained = tt
-
-pub leads_by : (job : JobData) (rows : List PoolRow) (key : Key) (step : Step) (worth : Worth) → IsLegal job key step → IsKnown job rows (key_after job key step.action) worth → LeadsOn job rows key (plus (cost_of job key step.action) worth)
-leads_by job rows key step (Cost n) legal known = (step, n, legal, known, refl)
-leads_by job rows key step Blocked legal known = tt
-
-module _ (job : JobData) (is_job : IsJob job) (key : Key) (in_range : IsKeyOf job key) where
-  -- sums are far below what no way on costs
-  sum_small : (action : Action) → IsActionAt job key action → sum_of job key action ≤ 26000000
-  sum_small action at =
-      let cost = cost_small job is_job key action in_range at in
-      let bound = bound_small job is_job (key_after job key action) (next_in_range job is_job key action in_range at) in
-      omega (arith, cost, bound)
-
-  -- and so are the costs of rests
-  rest_small : (action : Action) (n : ℕ) → IsActionAt job key action → IsAttained job (key_after job key action) (Cost n) → n ≤ 96000000
-  rest_small action n at attained =
-      let next = key_after job key action in
-      let most = total_small job is_job next attained.0 (next_in_range job is_job key action in_range at) attained.1 in
-      let few = few_left job is_job next in
-      omega (arith, attained.2, most, few)
+use Rattle.bb_search.proofs.SettledParts.{noted_within, noted_past, both_true, true_both, one_false, by_bool, attained_by, leads_by, sum_small, rest_small}
 
 module _ (job : JobData) (is_job : IsJob job) (now : Pool) (at : KnownActions)
     (choice : Choice) (notes : ActionSet) (row : PoolRow) (worth : Worth)

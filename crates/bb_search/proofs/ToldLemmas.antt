@@ -1,5 +1,5 @@
 -- What is told of an action, from the places of its sets and the costs.
-use Rattle.std.proofs.Common.{◌≡◌, ◌≢◌, ◌⊎◌, inl, inr, ℕ, ◌+◌, ◌<◌, Bool, true, false, cond, ◌||◌, ◌==◌, refl, sym, ◌∙◌, ap}
+use Rattle.std.proofs.Common.{◌≡◌, ◌≢◌, inl, inr, ℕ, ◌<◌, Bool, true, false, cond, ◌||◌, ◌==◌, refl, ◌∙◌, ap}
 use Rattle.brake_base.specs.declared.stroke.Action.{Action}
 use Rattle.brake_base.specs.Actions.{IsActionAmong}
 use Rattle.stage_lanes.specs.declared.actions.ActionSet.{ActionSet}

@@ -1,9 +1,8 @@
 -- What a try of an action owes its calls and gives, in terms of what its table knows.
-use Rattle.std.proofs.Common.{◌≡◌, ◌⊎◌, inl, inr, ℕ, ◌+◌, ◌*◌, ◌^◌, ◌<◌, ◌≤◌, true, false, List}
-use Rattle.std.proofs.Common.{length, Some, arith, refl, sym, ◌∙◌, ap, subst}
+use Rattle.std.proofs.Common.{◌≡◌, ◌⊎◌, inl, inr, ℕ, ◌<◌, ◌≤◌, false, List}
+use Rattle.std.proofs.Common.{Some, arith, refl, sym, ◌∙◌, subst}
 use Rattle.std.specs.Prelude.{slice_get}
 use Rattle.std.proofs.lemmas.Option.{same_Some}
-use Rattle.brake_base.specs.declared.mask.Mask.{Mask}
 use Rattle.brake_base.specs.declared.stroke.Key.{Key}
 use Rattle.brake_base.specs.declared.stroke.Action.{Action}
 use Rattle.brake_base.specs.declared.stroke.Gauge.{Gauge}
@@ -13,7 +12,6 @@ use Rattle.brake_base.specs.Worths.{IsAtMost}
 use Rattle.stage_lanes.specs.ActionSets.{has}
 use Rattle.job_setup.specs.Setup.{JobData}
 use Rattle.job_setup.specs.ValidJob.{IsJob}
-use Rattle.set_facts.specs.LaneFacts.{key_at}
 use Rattle.handling_cost.specs.StepCost.{IsKeyOf, IsActionAt, left, key_after}
 use Rattle.handling_cost.specs.Plan.{IsLegal}
 use Rattle.handling_cost.specs.Bound.{bound_of, sum_of}
@@ -23,7 +21,7 @@ use Rattle.handling_cost.proofs.Small.{total_small}
 use Rattle.row_pool.specs.Rows.{Pool}
 use Rattle.bb_search.specs.declared.known.KnownActions.{KnownActions}
 use Rattle.bb_search.specs.Settling.{IsAttained, IsKnown, IsKnownAfter}
-use Rattle.bb_search.specs.KnownActions.{TableData, IsSlack, next_of, slack_of, IsFreeWith, AreKnown}
+use Rattle.bb_search.specs.KnownActions.{TableData, IsSlack, slack_of, IsFreeWith, AreKnown}
 use Rattle.bb_search.specs.KnownActions.{IsFloor, IsToldOf, IsRefusal, IsLearnt, IsChangedAt}
 use Rattle.bb_search.specs.OpenRows.{IsSettlingBy, IsKnownSo, HasChanged, IsSameAbove}
 use Rattle.bb_search.proofs.TableLemmas.{known_attained, attained_above_bound}

@@ -9,8 +9,10 @@ use Rattle.handling_cost.specs.StepCost.{IsActionAt}
 use Rattle.handling_cost.specs.Plan.{start}
 use Rattle.row_pool.specs.Rows.{Pool}
 use Rattle.plan_cert.specs.Cert.{CertData}
+use Rattle.plan_cert.specs.CertText.{cert_text2}
 use Rattle.plan_cert.specs.GoodCert.{HasRow as HasCertRow, HasNote as HasCertNote, IsThriftyCert}
 use Rattle.plan_cert.specs.GoodCert.{IsWithinBudget}
+use Rattle.bb_search.specs.declared.written.WrittenCert.{WrittenCert}
 use Rattle.bb_search.specs.Table.{HasRow, HasNote}
 use Rattle.bb_search.specs.Outcomes.{outcome_of, HaveFirstGauges, IsAnswer}
 use Rattle.bb_search.specs.Searches.{SearchData}
@@ -38,3 +40,14 @@ pub record IsCertificateOf (search : SearchData) (cert : CertData) : Type 0 wher
   pub rows : HasRowsOf search.job search.pool cert
   pub few : IsWithinBudget search.job search.budget cert
   pub proves : IsThriftyCert search.job cert
+
+-- the claim, the steps and the text of what is written are those of a certificate of the job
+pub record IsWrittenAs (job : JobData) (cert : CertData) (written : WrittenCert) : Type 0 where
+  pub claim : written.claim ≡ cert.claim
+  pub steps : written.steps.items ≡ cert.steps
+  pub text : written.text.items ≡ cert_text2 job cert
+
+-- it is written of a certificate of what the run answered
+abbrev pub IsWritten : SearchData → WrittenCert → Type 0
+IsWritten search written =
+    (cert : CertData) × IsCertificateOf search cert × IsWrittenAs search.job cert written

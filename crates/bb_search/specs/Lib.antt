@@ -10,3 +10,4 @@ pub mod Outcomes
 pub mod Searches
 pub mod CertRows
 pub mod Certificates
+pub mod WrittenRows

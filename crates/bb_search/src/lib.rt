@@ -11,7 +11,9 @@ mod reach;
 mod search;
 mod search_table;
 mod settle;
+mod written;
 
 pub use outcome::Outcome;
 pub use reach::nodes;
 pub use search::Search;
+pub use written::WrittenCert;

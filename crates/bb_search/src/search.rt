@@ -9,7 +9,7 @@ ghost use Rattle.bb_search.specs.Settling.{IsFound};
 ghost use Rattle.bb_search.specs.KnownActions.{AreKnown};
 ghost use Rattle.bb_search.specs.Outcomes.{AreSteps, outcome_of, outcome_with, IsAnswer, AreWithinBudget};
 ghost use Rattle.bb_search.specs.Searches.{opened};
-ghost use Rattle.bb_search.specs.Certificates.{HasAnswer, IsCertificateOf};
+ghost use Rattle.bb_search.specs.Certificates.{HasAnswer, IsCertificateOf, IsWritten};
 ghost use Rattle.plan_cert.specs.Cert.{cert_data};
 
 use crate::certificate::{notes_of, row_heads, sorted_rows};
@@ -18,9 +18,11 @@ use crate::plan::kept_plan;
 use crate::reach::nodes;
 use crate::search_table::SearchTable;
 use crate::settle::settle;
+use crate::written::{WrittenCert, copy_of, put_rows, text_before_rows};
 use arrayvec::ArrayVec;
 use bend_state::BendState;
 use brake_base::{Place, Step, Worth};
+use brake_text::put_word;
 use handling_cost::start_key;
 use job_setup::Job;
 use plan_cert::Cert;
@@ -205,6 +207,20 @@ impl Search {
             notes,
         })
     }
+
+    /// The same certificate as text, without a list of its notes.
+    pub fn write(&self, alloc: Global, job: &Job) -> Result<WrittenCert, AllocError>
+        requires job { job.now ≡ self.now.job }
+        requires answered { HasAnswer self.now }
+        ensures { IfOk result (IsWritten self.now) }
+    {
+        job.recall_valid();
+        let (claim, steps) = (claim_of(self.outcome), copy_of(&self.steps));
+        let mut text = text_before_rows(alloc, job, claim, &steps)?;
+        put_rows(alloc, &self.pool, job.stages(), &mut text)?;
+        put_word(&mut text, b"end\n")?;
+        Ok(WrittenCert { claim, steps, text })
+    }
 }
 
 /// What an outcome with a claim claims.
@@ -217,13 +233,4 @@ fn claim_of(outcome: Option<Outcome>) -> Worth
         Some(Outcome::Blocked) => Worth::Blocked,
         _ => unreachable!(),
     }
-}
-
-/// A copy of kept steps.
-fn copy_of(steps: &ArrayVec<Step, 12>) -> ArrayVec<Step, 12>
-    ensures { result.items ≡ steps.now.items }
-{
-    let mut copy = ArrayVec::new();
-    let _ = copy.try_extend_from_slice(steps.as_slice());
-    copy
 }

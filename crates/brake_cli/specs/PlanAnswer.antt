@@ -12,12 +12,13 @@ use Rattle.handling_cost.specs.Plan.{start}
 use Rattle.handling_cost.specs.Reach.{ReachIsAbove}
 use Rattle.setup_sheet.specs.Sheets.{blank_text, setup_text}
 use Rattle.setup_sheet.specs.OrderSheet.{order_text}
-use Rattle.plan_cert.specs.declared.cert.Cert.{Cert}
 use Rattle.plan_cert.specs.Lines.{number, spaced}
-use Rattle.plan_cert.specs.Cert.{CertData, cert_data}
+use Rattle.plan_cert.specs.Cert.{CertData}
 use Rattle.plan_cert.specs.CertText.{cert_text2}
-use Rattle.plan_cert.specs.GoodCert.{IsThriftyCert, IsWithinBudget}
+use Rattle.plan_cert.specs.GoodCert.{IsThriftyCert}
+use Rattle.bb_search.specs.declared.written.WrittenCert.{WrittenCert}
 use Rattle.bb_search.specs.Outcomes.{HaveFirstGauges}
+use Rattle.bb_search.specs.Certificates.{IsWrittenAs}
 use Rattle.command_runner.specs.declared.status.Status.{Status}
 use Rattle.command_runner.specs.declared.status.Status.TheVariants as status
 use Rattle.command_runner.specs.Answers.{AnswerData, one_text}
@@ -86,10 +87,23 @@ pub data IsPlanned (name : List ℕ) (budget : Option ℕ) (job : JobData) (answ
   spent : (most : ℕ) → budget ≡ Some most → ReachIsAbove job most
       → answer ≡ one_text status.Spent (spent_line most) → IsPlanned name budget job answer
 
--- what a search within a budget finds: a certificate with rows within it, or that it isn't enough
-abbrev pub Finds : JobData → ℕ → Option Cert → Type 0
-Finds job budget (Some cert) =
-    IsPlanCert job (cert_data cert) × IsWithinBudget job budget (cert_data cert)
+-- it is written of a certificate that `plan` may store, with rows within the budget
+abbrev pub IsWrittenPlan : Option ℕ → JobData → WrittenCert → Type 0
+IsWrittenPlan budget job written =
+    (cert : CertData) × IsPlanCert job cert × HasFewRows budget job cert
+    × IsWrittenAs job cert written
+
+-- the answer by what is written of a certificate, with the first sheet that is given
+abbrev pub written_answer : List ℕ → JobData → List ℕ → WrittenCert → AnswerData
+written_answer name job sheet written = record {
+  stored = record { name = name; text = written.text.items } ∷ [];
+  status = claim_status written.claim;
+  texts = sheet ∷ setup_text job ∷ last_text job written.claim written.steps.items ∷ [];
+}
+
+-- what a search within a budget finds: such a certificate, or that the budget isn't enough
+abbrev pub Finds : JobData → ℕ → Option WrittenCert → Type 0
+Finds job budget (Some written) = IsWrittenPlan (Some budget) job written
 Finds job budget None = ReachIsAbove job budget
 
 -- the text is the blank sheet of the job

@@ -2,7 +2,6 @@
 ghost use Rattle.std.specs.Prelude.{◌≡◌, ◌⊎◌, ◌≤◌, ◌++◌, ◌∷◌, [], Some, map, option_map, length, string_bytes, All, IfOk, OnOk, OnErr, IsErrOf};
 ghost use Rattle.brake_io.specs.Rose.{Rose};
 ghost use Rattle.brake_io.specs.Meanings.{NoCountFalls};
-ghost use Rattle.plan_cert.specs.Cert.{cert_data};
 ghost use Rattle.setup_choice.specs.declared.outcome.Fit.TheVariants.{Ready};
 ghost use Rattle.setup_choice.specs.Best.{IsBest};
 ghost use Rattle.command_runner.specs.Fetching.{HasDueCall};
@@ -20,7 +19,6 @@ use brake_base::{Name, Step, Worth};
 use brake_io::{Shelf, StoreFault};
 use command_runner::{StoredText, store_all};
 use job_setup::Job;
-use plan_cert::{Cert, write_cert};
 use setup_choice::{Fit, Tried, best};
 use std::alloc::{AllocError, Global};
 
@@ -55,16 +53,14 @@ fn store_cert<H: Shelf>(
     alloc: Global,
     name: &str,
     place: u8,
-    job: &Job,
-    cert: &Cert,
+    text: Vec<u8>,
     shelf: &mut H,
 ) -> Result<(), StoreFault>
-    requires { IsPlannedJob (record { job = job.now; cert = cert_data cert.now }) }
     ensures ok { OnOk result (AreStored
-        (stored_at name.now place (Some (record { job = job.now; cert = cert_data cert.now })))
+        (record { name = numbered_name name.now place; text = text.items } ∷ [])
         (H.state shelf.old) (H.state shelf.new)) }
     ensures err { OnErr result ((H.state shelf.new ≡ H.state shelf.old) ⊎ AreStoredUpTo
-        (stored_at name.now place (Some (record { job = job.now; cert = cert_data cert.now })))
+        (record { name = numbered_name name.now place; text = text.items } ∷ [])
         (H.state shelf.old) (H.state shelf.new)) }
     ensures never_falls { NoCountFalls (H.state shelf.old) (H.state shelf.new) }
     ensures faults { OnOk result ((H.state shelf.new).faults ≡ (H.state shelf.old).faults) }
@@ -74,7 +70,6 @@ fn store_cert<H: Shelf>(
         HasDueCall (H.state shelf.old) (H.state shelf.new) }
 {
     let name = numbered_name(alloc, name, place)?;
-    let text = write_cert(alloc, job, cert)?;
     store_all(&[StoredText { name, text }], shelf)
 }
 
@@ -99,9 +94,12 @@ fn plan_job<H: Shelf>(
 {
     let job = job.copy();
     let cert = least_cert(alloc, &job)?;
-    store_cert(alloc, name, place, &job, &cert, shelf)?;
-    let Cert { claim, steps, .. } = cert;
-    Ok(PlannedJob { job, claim, steps })
+    store_cert(alloc, name, place, cert.text, shelf)?;
+    Ok(PlannedJob {
+        job,
+        claim: cert.claim,
+        steps: cert.steps,
+    })
 }
 
 /// Plans the job of a setup, where the stock has a choice of pieces, and stores the certificate.

@@ -1,41 +1,39 @@
 //! What `plan` answers.
-ghost use Rattle.std.specs.Prelude.{◌≡◌, Some, None, length, map, IfOk};
+ghost use Rattle.std.specs.Prelude.{◌≡◌, ℕ, Option, Some, None, length, map, IfOk};
 ghost use Rattle.std.specs.Vec.{vec_items};
 ghost use Rattle.job_setup.specs.ValidJob.{IsJob};
-ghost use Rattle.plan_cert.specs.Cert.{cert_data};
 ghost use Rattle.command_runner.specs.Answers.{answer_data};
 ghost use Rattle.command_runner.specs.Delivery.{IsCutShort};
-ghost use Rattle.brake_cli.specs.PlanAnswer.{spent_line, claim_status, last_text, cert_answer, IsPlanCert, HasFewRows, IsPlanned, Finds, IsBlankSheet, IsPlanAnswer};
+ghost use Rattle.brake_cli.specs.PlanAnswer.{spent_line, claim_status, last_text, written_answer, IsPlanned, IsWrittenPlan, Finds, IsBlankSheet, IsPlanAnswer};
 
 use crate::job_files::job_at;
 use crate::refusal::stopped;
-use bb_search::{Outcome, Search, nodes};
+use bb_search::{Outcome, Search, WrittenCert, nodes};
 use brake_base::Worth;
 use brake_text::put_word;
 use command_runner::{Answer, Status, StoredText};
 use job_setup::Job;
-use plan_cert::{Cert, put_count, write_cert};
+use plan_cert::put_count;
 use setup_sheet::{blank_sheet, order_sheet, setup_sheet};
 use std::alloc::{AllocError, Global};
 use unfolder::unfold;
 
 /// What a search that settles at most so many keys finds: a certificate of the least cost or of
 /// there being no plan. None where more keys are reached.
-fn find_cert(alloc: Global, job: &Job, budget: u32) -> Result<Option<Cert>, AllocError>
+fn find_cert(alloc: Global, job: &Job, budget: u32) -> Result<Option<WrittenCert>, AllocError>
     ensures { IfOk result (Finds job.now budget) }
 {
     let mut search = Search::open(alloc, job, budget)?;
     match search.run(job) {
         Outcome::Spent => Ok(None),
-        _ => Ok(Some(search.certificate(alloc, job)?)),
+        _ => Ok(Some(search.write(alloc, job)?)),
     }
 }
 
 /// The certificate of the least cost or of there being no plan.
-pub fn least_cert(alloc: Global, job: &Job) -> Result<Cert, AllocError>
+pub fn least_cert(alloc: Global, job: &Job) -> Result<WrittenCert, AllocError>
     requires { IsJob job.now }
-    ensures proves { IfOk result (λ cert. IsPlanCert job.now (cert_data cert)) }
-    ensures few { IfOk result (λ cert. HasFewRows None job.now (cert_data cert)) }
+    ensures { IfOk result (IsWrittenPlan None job.now) }
 {
     let found = find_cert(alloc, job, nodes(job).max(1))?;
     match found {
@@ -57,8 +55,8 @@ fn blank_sheet_of(alloc: Global, job: &Job) -> Result<Vec<u8>, AllocError>
 
 /// The order sheet of a certificate's steps, or that there is no plan.
 #[tactic(auto, unfolding(crate::specs::PlanAnswer::no_plan_line))]
-pub fn last_text(alloc: Global, job: &Job, cert: &Cert) -> Result<Vec<u8>, AllocError>
-    requires { IsPlanCert job.now (cert_data cert.now) }
+fn last_text(alloc: Global, job: &Job, cert: &WrittenCert) -> Result<Vec<u8>, AllocError>
+    requires { (budget : Option ℕ) × IsWrittenPlan budget job.now cert.now }
     ensures { IfOk result (λ text.
         text.items ≡ last_text job.now cert.now.claim cert.now.steps.items) }
 {
@@ -85,25 +83,26 @@ fn cert_answer(
     name: &str,
     job: &Job,
     sheet: Vec<u8>,
-    cert: &Cert,
+    cert: WrittenCert,
 ) -> Result<Answer, AllocError>
-    requires { IsPlanCert job.now (cert_data cert.now) }
+    requires { (budget : Option ℕ) × IsWrittenPlan budget job.now cert }
     ensures answer { IfOk result (λ answer.
-        answer_data answer ≡ cert_answer name.now job.now sheet.items (cert_data cert.now)) }
+        answer_data answer ≡ written_answer name.now job.now sheet.items cert) }
     ensures status { IfOk result (λ answer. ¬ IsCutShort answer.status) }
 {
-    let mut stored = Vec::new(alloc);
-    stored.push(StoredText {
-        name: String::from_str(alloc, name)?,
-        text: write_cert(alloc, job, cert)?,
-    })?;
     let mut texts = Vec::new(alloc);
     texts.push(sheet)?;
     texts.push(setup_sheet(alloc, job)?)?;
-    texts.push(last_text(alloc, job, cert)?)?;
+    texts.push(last_text(alloc, job, &cert)?)?;
+    let status = claim_status(cert.claim);
+    let mut stored = Vec::new(alloc);
+    stored.push(StoredText {
+        name: String::from_str(alloc, name)?,
+        text: cert.text,
+    })?;
     Ok(Answer {
         stored,
-        status: claim_status(cert.claim),
+        status,
         texts,
     })
 }
@@ -136,7 +135,7 @@ fn plan_within(
 {
     let found = find_cert(alloc, job, budget)?;
     match found {
-        Some(cert) => cert_answer(alloc, name, job, sheet, &cert),
+        Some(cert) => cert_answer(alloc, name, job, sheet, cert),
         None => Answer::one_text(alloc, Status::Spent, spent_line(alloc, budget)?),
     }
 }
@@ -152,7 +151,7 @@ fn plan_job(alloc: Global, name: &str, budget: Option<u32>, job: &Job) -> Result
         Some(budget) => plan_within(alloc, name, budget, job, sheet),
         None => {
             let cert = least_cert(alloc, job)?;
-            cert_answer(alloc, name, job, sheet, &cert)
+            cert_answer(alloc, name, job, sheet, cert)
         }
     }
 }

@@ -1,11 +1,11 @@
 //! What `trial` answers.
 ghost use Rattle.std.specs.Prelude.{◌≡◌, IfOk};
-ghost use Rattle.job_setup.specs.ValidJob.{IsJob};
-ghost use Rattle.plan_cert.specs.Cert.{cert_data};
+ghost use Rattle.job_setup.specs.Setup.{JobData};
+ghost use Rattle.plan_cert.specs.Cert.{CertData};
 ghost use Rattle.plan_cert.specs.WellFormed.{IsWorth};
+ghost use Rattle.cert_check.specs.Checking.{IsGoodText};
 ghost use Rattle.command_runner.specs.Answers.{answer_data};
 ghost use Rattle.command_runner.specs.Delivery.{IsCutShort};
-ghost use Rattle.brake_cli.specs.PlanAnswer.{IsPlanCert};
 ghost use Rattle.brake_cli.specs.TrialAnswer.{trial_line, IsTrialAnswer};
 
 use crate::plan::{claim_status, least_cert};
@@ -13,18 +13,15 @@ use brake_base::Worth;
 use brake_text::put_word;
 use cert_check::{CheckFault, check};
 use command_runner::Answer;
-use job_setup::Job;
 use part_gen::made_job;
-use plan_cert::{Cert, put_count, put_worth, write_cert};
+use plan_cert::{put_count, put_worth};
 use std::alloc::{AllocError, Global};
 
 /// Checks a certificate by its text alone.
-fn confirm(alloc: Global, job: &Job, cert: &Cert) -> Result<(), AllocError>
-    requires valid { IsJob job.now }
-    requires proves { IsPlanCert job.now (cert_data cert.now) }
+fn confirm(alloc: Global, text: &[u8]) -> Result<(), AllocError>
+    requires { (job : JobData) × (cert : CertData) × IsGoodText text.now job cert }
 {
-    let text = write_cert(alloc, job, cert)?;
-    match check(alloc, text.as_slice()) {
+    match check(alloc, text) {
         Ok(_) => Ok(()),
         Err(fault) => match fault {
             CheckFault::NoMemory => Err(AllocError),
@@ -58,7 +55,7 @@ pub fn answer(alloc: Global, number: u32) -> Result<Answer, AllocError>
     let job = made_job(number);
     let bends = job.bends();
     let cert = least_cert(alloc, &job)?;
-    confirm(alloc, &job, &cert)?;
+    confirm(alloc, cert.text.as_slice())?;
     let line = trial_line(alloc, number, bends, cert.claim)?;
     Answer::one_text(alloc, claim_status(cert.claim), line)
 }

@@ -6,8 +6,9 @@ use brake_base::{Back, Quarter, Reason, Worth};
 use common_files::{L_SECTION, LID, MACHINE, STAGE, TOOLS, U_CHANNEL};
 use job_setup::Job;
 use part_gen::made_job;
-use plan_cert::{Cert, Note, RowHead};
+use plan_cert::{Cert, Note, RowHead, write_cert};
 use std::alloc::{AllocError, Global};
+use std::process::Abort;
 use std::test::Fail;
 use test_jobs::job_of;
 
@@ -120,12 +121,19 @@ fn outcome_of(alloc: Global, job: &Job, budget: u32) -> Result<Outcome, AllocErr
     Ok(search.run(job))
 }
 
-/// The certificate of the job, searched with ample budget; None where that is used up.
-fn certificate_of(alloc: Global, job: &Job) -> Result<Option<Cert>, AllocError> {
+/// The certificate of the job, searched with ample budget; None where that is used up. What the
+/// search writes has to be its text.
+fn certificate_of(rt: &impl Abort, alloc: Global, job: &Job) -> Result<Option<Cert>, AllocError> {
     let mut search = Search::open(alloc, job, nodes(job))?;
     match search.run(job) {
         Outcome::Spent => Ok(None),
-        _ => Ok(Some(search.certificate(alloc, job)?)),
+        _ => {
+            let cert = search.certificate(alloc, job)?;
+            let written = search.write(alloc, job)?;
+            let text = write_cert(alloc, job, &cert)?;
+            assert!(rt; written.text.as_slice() == text.as_slice());
+            Ok(Some(cert))
+        }
     }
 }
 
@@ -167,7 +175,7 @@ fn four_keys_settle_the_four_flanges(rt: HostRuntime) -> Result<(), Fail> {
     let job = job_with(alloc, FOUR_FLANGES, "[45000]")?;
     assert_eq!(rt; outcome_of(alloc, &job, 3)?, Outcome::Spent);
     assert_eq!(rt; outcome_of(alloc, &job, 4)?, Outcome::Best { cost: 400 });
-    let cert = certificate_of(alloc, &job)?.expect(&rt, "a certificate");
+    let cert = certificate_of(&rt, alloc, &job)?.expect(&rt, "a certificate");
     assert!(rt; cert.rows.len() == 4 && cert.steps.len() == 4);
     let steps = cert.steps.as_slice();
     let order = [steps[0], steps[1], steps[2], steps[3]].map(|step| step.action.bend);
@@ -202,7 +210,7 @@ fn the_most_nodes_of_a_job(rt: HostRuntime) -> Result<(), Fail> {
 fn the_u_channel_is_proved(rt: HostRuntime) -> Result<(), Fail> {
     let alloc = rt.alloc();
     let job = job_with(alloc, U_CHANNEL, "[100000]")?;
-    let cert = certificate_of(alloc, &job)?.expect(&rt, "a certificate");
+    let cert = certificate_of(&rt, alloc, &job)?.expect(&rt, "a certificate");
     let steps = [step(2, Back::Parent, 1), step(1, Back::Child, 1)];
     let rows = [
         row(0, Worth::Cost(200)),
@@ -225,7 +233,7 @@ fn the_high_u_channel_has_no_plan(rt: HostRuntime) -> Result<(), Fail> {
     let alloc = rt.alloc();
     let high = U_CHANNEL.replace(alloc, "length = 30000", "length = 80000")?;
     let job = job_with(alloc, &high, "[100000]")?;
-    let cert = certificate_of(alloc, &job)?.expect(&rt, "a certificate");
+    let cert = certificate_of(&rt, alloc, &job)?.expect(&rt, "a certificate");
     let keys = [key(0, 0), key(1, 0), key(1, 2), key(2, 0), key(2, 2)];
     let rows = keys.map(|key| RowHead {
         key,
@@ -248,6 +256,22 @@ fn the_first_made_jobs_have_no_plan(rt: HostRuntime) -> Result<(), Fail> {
     for n in 0..4 {
         let job = made_job(n);
         assert_eq!(rt; outcome_of(alloc, &job, nodes(&job))?, Outcome::Blocked);
+    }
+    Ok(())
+}
+
+#[test]
+fn a_search_writes_the_text_of_its_certificate(rt: HostRuntime) -> Result<(), Fail> {
+    let alloc = rt.alloc();
+    let high = U_CHANNEL.replace(alloc, "length = 30000", "length = 80000")?;
+    let jobs = [
+        job_with(alloc, U_CHANNEL, "[100000]")?,
+        job_with(alloc, &high, "[100000]")?,
+        job_with(alloc, FOUR_FLANGES, "[45000]")?,
+        job_with(alloc, LID, "[100000]")?,
+    ];
+    for job in &jobs {
+        let _ = certificate_of(&rt, alloc, job)?.expect(&rt, "a certificate");
     }
     Ok(())
 }

@@ -1,7 +1,7 @@
-mod ActionPlaces
-mod SetLists
+pub mod ActionPlaces
+pub mod SetLists
 mod WordLengths
-mod BlockTexts
+pub mod BlockTexts
 mod MoreRows
 mod RowLines
 mod WriterKept

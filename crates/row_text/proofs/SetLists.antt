@@ -7,14 +7,14 @@ use Rattle.std.proofs.lemmas.Bool.{cases_lt, cases_eq}
 use Rattle.stage_lanes.specs.declared.actions.ActionSet.{ActionSet}
 use Rattle.stage_lanes.specs.ActionSets.{has_place, has, place_of, ArePlaces, IsNone, IsFirst, numbers_below, places_of}
 
-skip : (f : ℕ → Bool) (k : ℕ) → f k ≡ false → filter f (k ∷ []) ≡ []
+pub skip : (f : ℕ → Bool) (k : ℕ) → f k ≡ false → filter f (k ∷ []) ≡ []
 skip f k fail = ap (λ (t : Bool). cond t (k ∷ []) []) fail
 
-keep : (f : ℕ → Bool) (k : ℕ) → f k ≡ true → filter f (k ∷ []) ≡ k ∷ []
+pub keep : (f : ℕ → Bool) (k : ℕ) → f k ≡ true → filter f (k ∷ []) ≡ k ∷ []
 keep f k pass = ap (λ (t : Bool). cond t (k ∷ []) []) pass
 
 -- one number more
-one_more : (f : ℕ → Bool) (n : ℕ) → filter f (numbers_below (suc n)) ≡ filter f (numbers_below n) ++ filter f (n ∷ [])
+pub one_more : (f : ℕ → Bool) (n : ℕ) → filter f (numbers_below (suc n)) ≡ filter f (numbers_below n) ++ filter f (n ∷ [])
 one_more f n = filter-append f (numbers_below n) (n ∷ [])
 
 none_below : (f : ℕ → Bool) (n : ℕ) → ((k : ℕ) → k < n → f k ≡ false) → filter f (numbers_below n) ≡ []

@@ -127,6 +127,13 @@ impl RowWriter {
         })
     }
 
+    /// The set of folded bends that is begun.
+    pub fn mask(&self) -> Mask
+        ensures { result ≡ self.now.mask }
+    {
+        self.mask
+    }
+
     /// Begins another set of folded bends: no action has a reason there yet. After a refusal the
     /// writer is as it was.
     pub fn begin(&mut self, mask: Mask) -> Result<(), AllocError>

@@ -1,12 +1,12 @@
-use Rattle.std.proofs.Common.{◌≡◌, ◌≢◌, ◌⊎◌, inl, inr, ◌<◌, ◌*◌, ◌+◌, ◌≤◌, ℕ, List, length, Some, arith, refl, sym, ◌∙◌, ap, subst, [], ◌∷◌, ◌++◌, take}
+use Rattle.std.proofs.Common.{◌≡◌, inl, inr, ◌<◌, ◌*◌, ◌≤◌, ℕ, length, Some, arith, refl, sym, ◌∙◌, ap, subst}
 use Rattle.std.specs.Prelude.{slice_get}
 use Rattle.brake_base.specs.declared.space.Place.{Place}
 use Rattle.brake_base.specs.declared.stroke.Key.{Key}
 use Rattle.undo_region.specs.Room.{ListWithRoom}
-use Rattle.bend_state.specs.State.{StateData, IsKept, last_fold}
+use Rattle.bend_state.specs.State.{StateData}
 use Rattle.job_setup.specs.Setup.{JobData}
 use Rattle.handling_cost.specs.StepCost.{left, IsKeyOf, IsFull}
-use Rattle.row_pool.specs.Rows.{Pool, PoolRow, new_row, keys, common_at, AreCommon}
+use Rattle.row_pool.specs.Rows.{new_row, keys, common_at, AreCommon}
 use Rattle.bb_search.specs.KnownActions.{IsChoice, TableData, AreKnown, IsRefusal, IsChangedAt}
 use Rattle.bb_search.proofs.OpenRowLemmas.{settling_starts}
 use Rattle.bb_search.proofs.CallLemmas.{spent_here, next_is, node_after}
@@ -24,7 +24,7 @@ use Rattle.bb_search.specs.OpenRows.{IsSameAbove}
 use Rattle.bb_search.proofs.ExploreLemmas.{cheapest_at, cheapest_unknown, cheapest_floor, later_gone, later_kept, open_later, least_later, slack_small, spent_since, fewer_since}
 use Rattle.bb_search.proofs.Measures.{fewer_places}
 use Rattle.stage_lanes.specs.ActionSets.{place_of}
-use Rattle.bb_search.proofs.FoldLemmas.{some_fold, is_kept, state_back, trail_back, room_left}
+use Rattle.bb_search.proofs.FoldLemmas.{room_left}
 use Rattle.bb_search.proofs.KnownLemmas.{at_set, place_small}
 use Rattle.bb_search.proofs.TryLemmas.{same_above_more, refused_told, refused_slack, next_range, next_small, next_bound, learnt_told, learnt_slack, learnt_above, learnt_settling, learnt_known}
 use Rattle.bb_search.proofs.settle.+settling.Goals as goal

@@ -1,4 +1,4 @@
-use Rattle.std.proofs.Common.{◌≡◌, ◌⊎◌, ℕ, ◌+◌, ◌*◌, ◌<◌, ◌≤◌, ◌&&◌, not, length}
+use Rattle.std.proofs.Common.{◌≡◌, ◌⊎◌, ℕ, ◌+◌, ◌*◌, ◌<◌, ◌≤◌, ◌&&◌, not}
 use Rattle.brake_base.specs.declared.stroke.Action.{Action}
 use Rattle.stage_lanes.specs.ActionSets.{has_place, ArePlaces}
 use Rattle.handling_cost.specs.StepCost.{IsActionAt, left}

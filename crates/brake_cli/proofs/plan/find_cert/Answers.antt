@@ -1,6 +1,8 @@
-use Rattle.std.proofs.Common.{sym, ◌∙◌}
-use Rattle.plan_cert.specs.Cert.{cert_data}
+use Rattle.std.proofs.Common.{sym, ◌∙◌, subst}
+use Rattle.job_setup.specs.Setup.{JobData}
+use Rattle.bb_search.specs.Certificates.{IsWrittenAs}
 use Rattle.brake_cli.proofs.Searching.{opened_job, opened_fresh, opened_budget, has_answer, is_plan_cert, is_within, spent_above}
+use Rattle.brake_cli.proofs.PlanAnswers.{few_within}
 use Rattle.brake_cli.proofs.plan.find_cert.Goals as goal
 
 pub run-requires-clause-job : goal.run-requires-clause-job
@@ -14,18 +16,24 @@ returns-in-Spent c =
     spent_above c.args.job.now c.run.new.self c.run.result c.args.budget c.in-Spent.is
     (c.run.ensures.budget ∙ opened_budget c.in_ok-search.search c.args.job.now c.args.budget c.in_ok-search.ensures) c.run.ensures.answer
 
-pub certificate-requires-clause-job : goal.certificate-requires-clause-job
-certificate-requires-clause-job c = opened_job c.in_ok-search.search c.args.job.now c.args.budget c.in_ok-search.ensures ∙ sym c.run.ensures.job
+pub write-requires-clause-job : goal.write-requires-clause-job
+write-requires-clause-job c = opened_job c.in_ok-search.search c.args.job.now c.args.budget c.in_ok-search.ensures ∙ sym c.run.ensures.job
 
-pub certificate-requires-clause-answered : goal.certificate-requires-clause-answered
-certificate-requires-clause-answered c =
+pub write-requires-clause-answered : goal.write-requires-clause-answered
+write-requires-clause-answered c =
     has_answer c.args.job.now c.run.new.self c.run.result c.in_default.not-Spent c.run.ensures.outcome
     (opened_job c.in_ok-search.search c.args.job.now c.args.budget c.in_ok-search.ensures ∙ sym c.run.ensures.job) c.run.ensures.answer
 
 pub returns : goal.returns
 returns c =
-    let same = opened_job c.in_ok-search.search c.args.job.now c.args.budget c.in_ok-search.ensures ∙ sym c.run.ensures.job in
-    let given = c.run.ensures.budget ∙ opened_budget c.in_ok-search.search c.args.job.now c.args.budget c.in_ok-search.ensures in
-    let cert = cert_data c.in_ok-certificate-in_default.field-0 in
-    let is = c.in_ok-certificate-in_default.ensures in
-    (is_plan_cert c.args.job.now c.run.new.self cert same is, is_within c.args.job.now c.run.new.self cert c.args.budget same given is)
+    let job = c.args.job.now in
+    let search = c.run.new.self in
+    let written = c.in_ok-write-in_default.field-0 in
+    let is = c.in_ok-write-in_default.ensures in
+    let same = opened_job c.in_ok-search.search job c.args.budget c.in_ok-search.ensures ∙ sym c.run.ensures.job in
+    let given = c.run.ensures.budget ∙ opened_budget c.in_ok-search.search job c.args.budget c.in_ok-search.ensures in (
+      is.0,
+      is_plan_cert job search is.0 same is.1,
+      few_within job c.args.budget is.0 (is_within job search is.0 c.args.budget same given is.1),
+      subst (λ (j : JobData). IsWrittenAs j is.0 written) (sym same) is.2,
+    )

@@ -1,7 +1,12 @@
-use Rattle.plan_cert.specs.Cert.{cert_data}
+use Rattle.std.proofs.Common.{List, sym, ◌∙◌, subst}
+use Rattle.brake_base.specs.declared.stroke.Step.{Step}
+use Rattle.handling_cost.specs.Plan.{start}
+use Rattle.setup_sheet.specs.OrderSheet.{AreSteps}
 use Rattle.brake_cli.proofs.Claims.{claimed_told}
 use Rattle.brake_cli.proofs.plan.last_text.Goals as goal
 
 pub order_sheet-requires : goal.order_sheet-requires
 order_sheet-requires c =
-    rw c.as_slice.ensures.value (claimed_told c.args.job.now (cert_data c.args.cert.now) c.in-Cost.field-0 c.requires.proves.proves c.in-Cost.is)
+    let found = c.requires.1 in
+    let told = claimed_told c.args.job.now found.0 c.in-Cost.field-0 found.1.proves.proves (sym found.3.claim ∙ c.in-Cost.is) in
+    rw c.as_slice.ensures.value (subst (λ (steps : List Step). AreSteps c.args.job.now start steps) (sym found.3.steps) told)

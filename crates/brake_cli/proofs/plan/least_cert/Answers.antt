@@ -1,5 +1,4 @@
 use Rattle.std.proofs.Common.{Some, None, arith}
-use Rattle.plan_cert.specs.Cert.{cert_data}
 use Rattle.brake_cli.specs.PlanAnswer.{Finds}
 use Rattle.brake_cli.proofs.Searching.{enough}
 use Rattle.brake_cli.proofs.PlanAnswers.{few_reached}
@@ -10,12 +9,7 @@ unreachable-requires c =
     let none : Finds c.args.job.now c.max.result None = rw c.in-None.is at c.in_ok-found.ensures in
     enough c.args.job.now c.requires c.max.result (omega (arith, c.nodes.ensures.value, c.max.ensures)) none
 
-pub returns-clause-proves : goal.returns-clause-proves
-returns-clause-proves c =
+pub returns : goal.returns
+returns c =
     let found : Finds c.args.job.now c.max.result (Some c.in-Some.cert) = rw c.in-Some.is at c.in_ok-found.ensures in
-    found.0
-
-pub returns-clause-few : goal.returns-clause-few
-returns-clause-few c =
-    let found : Finds c.args.job.now c.max.result (Some c.in-Some.cert) = rw c.in-Some.is at c.in_ok-found.ensures in
-    few_reached c.args.job.now c.max.result (cert_data c.in-Some.cert) found.1
+    (found.0, found.1, few_reached c.args.job.now c.max.result found.0 found.2, found.3)

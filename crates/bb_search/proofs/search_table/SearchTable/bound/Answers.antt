@@ -1,4 +1,4 @@
-use Rattle.std.proofs.Common.{◌≡◌, arith, ◌∙◌, ap, subst}
+use Rattle.std.proofs.Common.{arith, ◌∙◌, ap, subst}
 use Rattle.job_setup.specs.Setup.{JobData}
 use Rattle.set_facts.specs.LaneFacts.{HasBounds}
 use Rattle.bb_search.specs.KnownActions.{TableData}

@@ -1,13 +1,13 @@
-use Rattle.std.proofs.Common.{◌≡◌, ℕ, ◌+◌, ◌^◌, ◌<◌, List, ◌∙◌, ap, arith, subst, sym}
+use Rattle.std.proofs.Common.{ℕ, ◌+◌, ◌^◌, ◌<◌, ◌∙◌, ap, arith, subst, sym}
 use Rattle.std.specs.Prelude.{slice_index}
 use Rattle.brake_base.specs.declared.mask.Mask.{Mask}
 use Rattle.brake_base.specs.Masks.{union}
 use Rattle.job_setup.specs.Setup.{JobData, SetupData, bend_count}
-use Rattle.job_setup.specs.StrokeGroup.{group_of}
 use Rattle.set_facts.specs.LaneFacts.{HasBounds}
 use Rattle.handling_cost.proofs.Small.{prices}
 use Rattle.bb_search.specs.KnownActions.{TableData}
-use Rattle.bb_search.proofs.LaneSumLemmas.{after_in_range, still_sums}
+use Rattle.bb_search.proofs.BendSumLemmas.{after_in_range}
+use Rattle.bb_search.proofs.LaneSumLemmas.{still_sums}
 use Rattle.bb_search.proofs.search_table.SearchTable.onward.Goals as goal
 
 pub bounds-after-requires : goal.bounds-after-requires

@@ -1,6 +1,5 @@
-use Rattle.std.proofs.Common.{◌≡◌, ℕ, ◌^◌, List, replicate, ◌∙◌, ap}
+use Rattle.std.proofs.Common.{◌≡◌, ℕ, ◌^◌, replicate, ◌∙◌, ap}
 use Rattle.job_setup.specs.Setup.{bend_count}
-use Rattle.bb_search.specs.declared.known.KnownActions.{KnownActions}
 use Rattle.bb_search.specs.KnownActions.{TableData}
 use Rattle.bb_search.proofs.KnownTables.{none_known_anywhere}
 use Rattle.bb_search.proofs.search_table.SearchTable.open.Goals as goal

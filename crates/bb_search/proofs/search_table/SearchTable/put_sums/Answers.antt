@@ -1,4 +1,4 @@
-use Rattle.bb_search.proofs.LaneSumLemmas.{bend_sums}
+use Rattle.bb_search.proofs.BendSumLemmas.{bend_sums}
 use Rattle.bb_search.proofs.search_table.SearchTable.put_sums.Goals as goal
 
 pub returns : goal.returns

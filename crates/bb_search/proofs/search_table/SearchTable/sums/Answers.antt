@@ -1,5 +1,5 @@
 use Rattle.std.proofs.Common.{◌∙◌, sym, arith}
-use Rattle.bb_search.proofs.LaneSumLemmas.{bend_summed, bend_skipped}
+use Rattle.bb_search.proofs.BendSumLemmas.{bend_summed, bend_skipped}
 use Rattle.bb_search.proofs.search_table.SearchTable.sums.Goals as goal
 use Rattle.bb_search.proofs.search_table.SearchTable.sums.Goals.{then-contains, else-contains}
 

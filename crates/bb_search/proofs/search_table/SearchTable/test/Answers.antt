@@ -1,4 +1,4 @@
-use Rattle.std.proofs.Common.{◌≡◌, sym, subst, Some, None}
+use Rattle.std.proofs.Common.{sym, subst, None}
 use Rattle.handling_cost.proofs.Actions.{lead_is}
 use Rattle.bb_search.specs.declared.search_table.Tested.{Tested}
 use Rattle.bb_search.specs.Tested.{IsTested}

@@ -1,4 +1,4 @@
-use Rattle.std.proofs.Common.{◌≡◌, ℕ, ◌+◌, ◌∙◌, ap, arith, subst, sym}
+use Rattle.std.proofs.Common.{ℕ, ◌+◌, ◌∙◌, ap, arith, sym}
 use Rattle.std.specs.Prelude.{slice_index}
 use Rattle.job_setup.specs.Setup.{JobData}
 use Rattle.handling_cost.specs.StepCost.{attitude_at, change, change_cost}

@@ -1,0 +1,107 @@
+-- The notes of one row more, by the set of its actions.
+use Rattle.std.proofs.Common.{◌≡◌, inl, inr, ℕ, zero, suc, ◌+◌, ◌*◌, ◌/◌, ◌%◌, ◌<◌, ◌≤◌, true, false, List, [], ◌∷◌, ◌++◌, map, filter, Some, None, arith, refl, sym, ◌∙◌, ap, subst, append_assoc}
+use Rattle.std.proofs.lemmas.Bool.{cases_lt, cases_Bool}
+use Rattle.std.proofs.lemmas.List.{append-nil, map-append}
+use Rattle.stage_lanes.specs.declared.actions.ActionSet.{ActionSet}
+use Rattle.stage_lanes.specs.ActionSets.{has_place, numbers_below, places_of}
+use Rattle.row_pool.specs.Rows.{Pool, IsPool, reason_at}
+use Rattle.plan_cert.specs.declared.cert.Note.{Note}
+use Rattle.row_text.specs.Notes.{SetNotes, number_at, note_at, notes_of}
+use Rattle.row_text.specs.Notes.{reason_at as reason_of}
+use Rattle.row_text.proofs.ActionPlaces.{number_at_below}
+use Rattle.row_text.proofs.SetLists.{one_more, skip, keep}
+use Rattle.bb_search.specs.CertRows.{reason_in, note_order, AreNotes}
+use Rattle.bb_search.specs.WrittenRows.{AreNoted}
+use Rattle.bb_search.proofs.NoteLists.{notes_up_to, notes_more, notes_of_row}
+
+-- the end of the numbers below a place, before the next place: at a stage of the machine the number
+-- is taken, and past the machine's stages there is none
+next_inside : (stages n m : ℕ) → n % 8 < stages → stages ≤ 6 → (suc n % 8 ≤ stages → m ≡ suc n / 8 * stages + suc n % 8) → m ≡ number_at stages n + 1
+next_inside stages n m inside few low =
+    let side : suc n / 8 ≡ n / 8 = omega (arith, inside, few) in
+    let stage : suc n % 8 ≡ n % 8 + 1 = omega (arith, inside, few) in
+    low (omega (arith, stage, inside)) ∙ (λ i. side i * stages + stage i) ∙ later (n / 8 * stages) (n % 8)
+  where
+    later : (a b : ℕ) → a + (b + 1) ≡ a + b + 1
+    later a b = omega arith
+
+module _ (stages n m : ℕ) (outside : stages ≤ n % 8) (low : suc n % 8 ≤ stages → m ≡ suc n / 8 * stages + suc n % 8) (high : stages ≤ suc n % 8 → m ≡ suc n / 8 * stages + stages) where
+  next_outside : m ≡ n / 8 * stages + stages
+  next_outside = elim (cases_lt (n % 8) 7) [
+    | inl within ↦
+        let side : suc n / 8 ≡ n / 8 = omega (arith, within) in
+        high (omega (arith, within, outside)) ∙ ap (λ (q : ℕ). q * stages + stages) side
+    | inr last ↦
+        let side : suc n / 8 ≡ n / 8 + 1 = omega (arith, last) in
+        let stage : suc n % 8 ≡ 0 = omega (arith, last) in
+        low (omega (arith, stage)) ∙ (λ i. side i * stages + stage i) ∙ more (n / 8) stages
+  ]
+    where
+      more : (a b : ℕ) → (a + 1) * b + 0 ≡ a * b + b
+      more a b = grind arith
+
+  next_below : n % 8 ≤ stages → m ≡ n / 8 * stages + n % 8
+  next_below below = next_outside ∙ ap (λ (s : ℕ). n / 8 * stages + s) (omega (arith, below, outside))
+
+module _ (pool : Pool) (orders : List ℕ) (place row : ℕ) (here : (number : ℕ) → reason_in pool orders place number ≡ reason_at pool row number) (said : SetNotes) (set : ActionSet) (few : said.stages ≤ 6) (are : AreNoted pool said.stages row set)
+    (reasons : (k : ℕ) → k < 192 → has_place set k ≡ true → reason_at pool row (number_at said.stages k) ≡ Some (reason_of said (number_at said.stages k))) (notes : List Note) (before : AreNotes pool orders (note_order place 0) notes) where
+  abbrev so_far : ℕ → List Note
+  so_far n = notes ++ map (note_at said place) (filter (has_place set) (numbers_below n))
+
+  one_note : (n : ℕ) → has_place set n ≡ true → so_far (suc n) ≡ so_far n ++ note_at said place n ∷ []
+  one_note n member =
+      ap (λ (ks : List ℕ). notes ++ map (note_at said place) ks) (one_more (has_place set) n ∙ ap (λ (ks : List ℕ). filter (has_place set) (numbers_below n) ++ ks) (keep (has_place set) n member))
+      ∙ ap (λ (ns : List Note). notes ++ ns) (map-append (note_at said place) (filter (has_place set) (numbers_below n)) (n ∷ []))
+      ∙ sym (append_assoc notes (map (note_at said place) (filter (has_place set) (numbers_below n))) (note_at said place n ∷ []))
+
+  no_note : (n : ℕ) → has_place set n ≡ false → so_far (suc n) ≡ so_far n
+  no_note n out =
+      ap (λ (ks : List ℕ). notes ++ map (note_at said place) ks)
+      (one_more (has_place set) n ∙ ap (λ (ks : List ℕ). filter (has_place set) (numbers_below n) ++ ks) (skip (has_place set) n out) ∙ append-nil (filter (has_place set) (numbers_below n)))
+
+  nothing : (s : ℕ) → 0 * s + 0 ≡ 0
+  nothing s = omega arith
+
+  notes_to : (n : ℕ) → n ≤ 192 → (m : ℕ) → (n % 8 ≤ said.stages → m ≡ n / 8 * said.stages + n % 8) → (said.stages ≤ n % 8 → m ≡ n / 8 * said.stages + said.stages) → AreNotes pool orders (note_order place m) (so_far n)
+  notes_to zero within m low high =
+      subst (λ (k : ℕ). AreNotes pool orders (note_order place k) (notes ++ [])) (sym (low (omega arith) ∙ nothing said.stages)) (subst (AreNotes pool orders (note_order place 0)) (sym (append-nil notes)) before)
+  notes_to (suc n) within m low high = elim (cases_lt (n % 8) said.stages) [
+    | inl inside ↦
+        let number = number_at said.stages n in
+        let next : m ≡ number + 1 = next_inside said.stages n m inside few low in
+        let bounded = number_at_below said.stages n (omega (arith, within)) inside in
+        let small : number < 256 = omega (arith, bounded, few) in
+        let earlier = notes_to n (omega (arith, within)) number (λ _. refl) (λ over. absurd (omega (arith, over, inside))) in
+        subst (λ (k : ℕ). AreNotes pool orders (note_order place k) (so_far (suc n))) (sym next)
+        (elim (cases_Bool (has_place set n)) [
+          | inl member ↦
+              subst (AreNotes pool orders (note_order place (number + 1))) (sym (one_note n member))
+              (notes_more pool orders place number small (so_far n) earlier (reason_of said number) (here number ∙ reasons n (omega (arith, within)) member))
+          | inr out ↦
+              subst (AreNotes pool orders (note_order place (number + 1))) (sym (no_note n out))
+              (notes_up_to pool orders place number (number + 1) (so_far n) (omega arith) (omega (arith, small))
+              (λ other late early.
+              let same : number ≡ other = omega (arith, late, early) in
+              subst (λ (k : ℕ). reason_in pool orders place k ≡ None) same (here number ∙ are.none n (omega (arith, within)) inside out))
+              earlier)
+        ])
+    | inr outside ↦
+        let out : has_place set n ≡ false = elim (cases_Bool (has_place set n)) [
+          | inl member ↦ let inside = are.at_stages n (omega (arith, within)) member in absurd (omega (arith, inside, outside))
+          | inr out ↦ out
+        ] in
+        subst (AreNotes pool orders (note_order place m)) (sym (no_note n out))
+        (notes_to n (omega (arith, within)) m (next_below said.stages n m outside low high) (λ _. next_outside said.stages n m outside low high))
+  ]
+
+  pub row_noted : IsPool pool → pool.actions ≡ 24 * said.stages → AreNotes pool orders (note_order (place + 1) 0) (notes ++ notes_of said place set)
+  unfolding places_of
+  row_noted is_pool all =
+      notes_of_row pool orders is_pool place (so_far 192) (omega (arith, all, few))
+      (notes_to 192 (omega arith) pool.actions (λ _. all ∙ plain said.stages) (λ none. all ∙ no_stages said.stages none))
+    where
+      plain : (s : ℕ) → 24 * s ≡ 24 * s + 0
+      plain s = omega arith
+
+      no_stages : (s : ℕ) → s ≤ 0 → 24 * s ≡ 24 * s + s
+      no_stages s none = omega (arith, none)
