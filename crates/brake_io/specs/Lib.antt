@@ -1,4 +1,5 @@
 pub mod Rose
 pub mod Meanings
+pub mod Pieces
 pub mod MemShelfState
 pub mod MemSinkState

@@ -1,9 +1,12 @@
 //! Files of the current folder as a shelf.
-ghost use Rattle.std.specs.Prelude.{◌≡◌, ◌≤◌, None, IsErrOf, OnErr};
+ghost use Rattle.std.specs.Prelude.{◌≡◌, None, IsErrOf, OnErr};
 ghost use Rattle.brake_io.specs.Rose.{raised, Rose};
 ghost use Rattle.brake_io.specs.Meanings.{NoCountFalls};
 
-use crate::beside::store_whole;
+use crate::beside::store_content;
+use crate::content::{InPieces, Whole};
+use crate::dir_reader::{DirReader, open_reader};
+use crate::pieces::Pieces;
 use crate::shelf::{FetchFault, Shelf, StoreFault};
 use crate::whole::read_whole;
 use std::alloc::Global;
@@ -67,10 +70,53 @@ impl<R: Files + Drop> Shelf for DirShelf<R> {
         ensures counted { OnErr result (self.new.faults ≡ raised self.old.faults) }
     {
         self.calls = self.calls.saturating_add(1);
-        if store_whole(&self.rt, name, bytes) {
+        if store_content(&self.rt, name, &mut Whole::new(bytes)).is_ok() {
             return Ok(());
         }
         self.faults = self.faults.saturating_add(1);
         Err(StoreFault::Failed)
+    }
+
+    type File = DirReader<R::File>;
+
+    fn open(
+        &mut self,
+        alloc: Global,
+        name: &str,
+        limit: u64,
+    ) -> Result<DirReader<R::File>, FetchFault> {
+        self.calls = self.calls.saturating_add(1);
+        let outcome = open_reader(&self.rt, alloc, name, limit);
+        match outcome {
+            Err(FetchFault::Failed) => self.faults = self.faults.saturating_add(1),
+            Err(FetchFault::TooLong) => self.longs = self.longs.saturating_add(1),
+            _ => {}
+        }
+        outcome
+    }
+
+    fn count_fault(&mut self, fault: FetchFault) {
+        match fault {
+            FetchFault::Failed => self.faults = self.faults.saturating_add(1),
+            FetchFault::TooLong => self.longs = self.longs.saturating_add(1),
+            FetchFault::NoMemory => {}
+        }
+    }
+
+    fn store_by<P: Pieces>(
+        &mut self,
+        alloc: Global,
+        name: &str,
+        pieces: &mut P,
+    ) -> Result<(), StoreFault> {
+        self.calls = self.calls.saturating_add(1);
+        let outcome = match InPieces::new(alloc, pieces) {
+            Ok(mut content) => store_content(&self.rt, name, &mut content),
+            Err(_) => Err(StoreFault::NoMemory),
+        };
+        if outcome == Err(StoreFault::Failed) {
+            self.faults = self.faults.saturating_add(1);
+        }
+        outcome
     }
 }

@@ -1,8 +1,11 @@
 //! A shelf in memory.
-ghost use Rattle.std.specs.Prelude.{◌≡◌, ◌↔◌, ◌≤◌, IsTrue, OnOk, OnErr, IfOk, IsErrOf, option_map, vec_len};
+ghost use Rattle.std.specs.Prelude.{◌≡◌, ◌≢◌, ◌↔◌, ◌≤◌, IsTrue, OnOk, OnErr, IfOk, IsErrOf, option_map, vec_len};
 ghost use Rattle.brake_io.specs.Rose.{raised, Rose};
 ghost use Rattle.brake_io.specs.Meanings.{NoCountFalls, Holds, IsLonger, MayFail, MayFailAt, WhereTold, ChangesOnly, HoldsNow, HoldsPart};
+ghost use Rattle.brake_io.specs.Pieces.{GivesHeld};
 
+use crate::pieces::{Pieces, gather};
+use crate::reader::{HeldBytes, Reader};
 use crate::shelf::{FetchFault, Shelf, StoreFault};
 use std::alloc::{AllocError, Global};
 use std::collections::BTreeMap;
@@ -140,5 +143,80 @@ impl Shelf for MemShelf {
         }
         self.add(name, bytes)?;
         Ok(())
+    }
+
+    type File = HeldBytes;
+
+    fn open(&mut self, alloc: Global, name: &str, limit: u64) -> Result<HeldBytes, FetchFault>
+        ensures content { (state_of self.new).content ≡ (state_of self.old).content }
+        ensures calls { self.new.calls ≡ raised self.old.calls }
+        ensures bytes { IfOk result (λ file.
+            GivesHeld (state_of self.old) name.now (⟦<HeldBytes as Reader>⟧.left file)) }
+        ensures failed { IsErrOf result FetchFault.Failed → Rose self.old.faults self.new.faults }
+        ensures cause { IsErrOf result FetchFault.Failed →
+            MayFailAt name.now (state_of self.old) (state_of self.new) }
+        ensures longer { IsErrOf result FetchFault.TooLong →
+            IsLonger (state_of self.old) name.now limit }
+        ensures too_long { IsErrOf result FetchFault.TooLong
+            → self.new.longs ≡ raised self.old.longs }
+        ensures never_falls { NoCountFalls (state_of self.old) (state_of self.new) }
+        ensures faults { ¬ IsErrOf result FetchFault.Failed → self.new.faults ≡ self.old.faults }
+        ensures longs { ¬ IsErrOf result FetchFault.TooLong → self.new.longs ≡ self.old.longs }
+        // But for want of memory it fails exactly where it is to fail or the name isn't held.
+        ensures exactly { ¬ IsErrOf result FetchFault.NoMemory →
+            (IsErrOf result FetchFault.Failed ↔ IsToFailAt self.old name.now) }
+    {
+        let bytes = self.fetch(alloc, name, limit)?;
+        Ok(HeldBytes::new(bytes))
+    }
+
+    fn count_fault(&mut self, fault: FetchFault)
+        ensures content { (state_of self.new).content ≡ (state_of self.old).content }
+        ensures calls { self.new.calls ≡ self.old.calls }
+        ensures failed { fault ≡ FetchFault.Failed → Rose self.old.faults self.new.faults }
+        ensures too_long { fault ≡ FetchFault.TooLong → self.new.longs ≡ raised self.old.longs }
+        ensures never_falls { NoCountFalls (state_of self.old) (state_of self.new) }
+        ensures faults { fault ≢ FetchFault.Failed → self.new.faults ≡ self.old.faults }
+        ensures longs { fault ≢ FetchFault.TooLong → self.new.longs ≡ self.old.longs }
+    {
+        match fault {
+            FetchFault::Failed => self.faults = self.faults.saturating_add(1),
+            FetchFault::TooLong => self.longs = self.longs.saturating_add(1),
+            FetchFault::NoMemory => {}
+        }
+    }
+
+    fn store_by<P: Pieces>(
+        &mut self,
+        alloc: Global,
+        name: &str,
+        pieces: &mut P,
+    ) -> Result<(), StoreFault>
+        ensures others { WhereTold (state_of self.old) (state_of self.new) (ChangesOnly name.now) }
+        ensures ok { OnOk result
+            (WhereTold (state_of self.old) (state_of self.new) (HoldsNow name.now (P.left pieces.old))) }
+        ensures err { OnErr result
+            (WhereTold (state_of self.old) (state_of self.new) (HoldsPart name.now (P.left pieces.old))) }
+        ensures no_memory { IsErrOf result StoreFault.NoMemory →
+            (state_of self.new).content ≡ (state_of self.old).content }
+        ensures calls { self.new.calls ≡ raised self.old.calls }
+        ensures failed { IsErrOf result StoreFault.Failed → Rose self.old.faults self.new.faults }
+        ensures cause { IsErrOf result StoreFault.Failed →
+            MayFail (state_of self.old) (state_of self.new) }
+        ensures faults { ¬ IsErrOf result StoreFault.Failed → self.new.faults ≡ self.old.faults }
+        ensures longs { self.new.longs ≡ self.old.longs }
+        ensures never_falls { NoCountFalls (state_of self.old) (state_of self.new) }
+        // But for want of memory it fails exactly where it is to fail, and then changes nothing held.
+        ensures exactly { ¬ IsErrOf result StoreFault.NoMemory →
+            (IsErrOf result StoreFault.Failed ↔ IsToFail self.old) }
+        ensures unchanged { OnErr result (content_of self.new ≡ content_of self.old) }
+    {
+        match gather(alloc, pieces) {
+            Ok(text) => self.store(name, text.as_slice()),
+            Err(_) => {
+                self.count_call();
+                Err(StoreFault::NoMemory)
+            }
+        }
     }
 }

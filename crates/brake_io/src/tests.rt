@@ -1,7 +1,9 @@
 //! The shelves and sinks, once each.
+ghost use Rattle.std.specs.Prelude.{◌+◌, ◌^◌, ◌<◌, None};
 
 use crate::whole::write_whole;
 use crate::*;
+use std::alloc::{AllocError, Global};
 use std::fs::{self, Permissions};
 use std::io::{self, Write};
 use std::os::unix::fs::{PermissionsExt, symlink};
@@ -152,4 +154,127 @@ fn a_put_fails_midway(rt: HostRuntime) {
     assert_eq!(rt; out.put(b"two "), Err(PutFault::Failed));
     assert_eq!(rt; out.put(b"\n"), Ok(()));
     assert_eq!(rt; out.bytes(), b"one two\n".as_slice());
+}
+
+/// The whole text under a name, read in pieces.
+fn read_text<H: Shelf>(
+    alloc: Global,
+    shelf: &mut H,
+    name: &str,
+    limit: u64,
+) -> Result<Vec<u8>, FetchFault>
+    requires { limit + 1 < 2 ^ 64 }
+{
+    let mut window = open_window(alloc, shelf, name, limit)?;
+    let mut text = Vec::new(alloc);
+    for _ in 0..u64::MAX {
+        window.fill();
+        text.extend_from_slice(window.unread())?;
+        let count = window.unread().len();
+        window.pass(count);
+        if window.is_over() {
+            break;
+        }
+    }
+    close_window(shelf, window)?;
+    Ok(text)
+}
+
+/// A text of which no two long parts are alike.
+fn varied(alloc: Global, length: usize) -> Result<Vec<u8>, AllocError> {
+    let mut bytes = vec![in alloc; b'x'; length]?;
+    for place in (0..length).step_by(997) {
+        bytes[place] = (place % 251) as u8;
+    }
+    Ok(bytes)
+}
+
+#[test]
+fn a_text_in_pieces_is_the_whole_text(rt: HostRuntime) -> Result<(), Fail> {
+    let alloc = rt.alloc();
+    let mut shelf = DirShelf::new(&rt);
+    let mut held = MemShelf::new(alloc);
+    for length in [0, 8_191, 262_144, 262_145] {
+        let text = varied(alloc, length)?;
+        let mut pieces: &[u8] = text.as_slice();
+        assert_eq!(rt; shelf.store_by(alloc, "note", &mut pieces), Ok(()));
+        assert_eq!(rt; fs::read(&rt, "note")?.as_slice(), text.as_slice());
+        let mut pieces: &[u8] = text.as_slice();
+        assert_eq!(rt; held.store_by(alloc, "note", &mut pieces), Ok(()));
+        let limit = length as u64;
+        let read = read_text(alloc, &mut shelf, "note", limit);
+        assert_eq!(rt; read.ok().ok_or("a file")?.as_slice(), text.as_slice());
+        let read = read_text(alloc, &mut held, "note", limit);
+        assert_eq!(rt; read.ok().ok_or("a file")?.as_slice(), text.as_slice());
+    }
+    assert_eq!(rt;
+        read_text(alloc, &mut shelf, "note", 262_144).err(),
+        Some(FetchFault::TooLong)
+    );
+    assert_eq!(rt;
+        read_text(alloc, &mut held, "note", 262_144).err(),
+        Some(FetchFault::TooLong)
+    );
+    assert_eq!(rt;
+        read_text(alloc, &mut shelf, "none", 4).err(),
+        Some(FetchFault::Failed)
+    );
+    Ok(())
+}
+
+/// A reader whose file grows behind its limit, or that fails, as it is read.
+#[derive(Drop)]
+struct Growing {
+    parts: usize,
+    fails: bool,
+}
+
+impl Reader for Growing {
+    ghost left = { λ _. None };
+
+    fn read(&mut self, to: &mut [u8]) -> Option<usize> {
+        if self.parts == 0 {
+            return if self.fails { None } else { Some(0) };
+        }
+        self.parts -= 1;
+        Some(to.len().min(5_000))
+    }
+}
+
+#[test]
+fn a_text_that_ends_otherwise_than_it_began(rt: HostRuntime) -> Result<(), Fail> {
+    let alloc = rt.alloc();
+    for (parts, fails, limit, outcome) in [
+        (3, false, 15_000, Ok(())),
+        (3, false, 14_999, Err(FetchFault::TooLong)),
+        (3, true, 15_000, Err(FetchFault::Failed)),
+        (3, true, 14_999, Err(FetchFault::TooLong)),
+        (1, true, 15_000, Err(FetchFault::Failed)),
+    ] {
+        let mut window = Window::open(alloc, Growing { parts, fails }, limit)?;
+        window.fill();
+        assert_eq!(rt; window.unread().len(), (parts * 5_000).min(10_000));
+        assert_eq!(rt; window.finish(), outcome);
+    }
+    Ok(())
+}
+
+/// What is stored in place is made before the place is touched.
+#[test]
+fn pieces_are_stored_in_place(rt: HostRuntime) -> Result<(), Fail> {
+    let alloc = rt.alloc();
+    let mut shelf = DirShelf::new(&rt);
+    assert_eq!(rt; shelf.store("cert", b"old"), Ok(()));
+    symlink(&rt, "cert", "link")?;
+    let text = varied(alloc, 270_000)?;
+    let mut pieces: &[u8] = text.as_slice();
+    assert_eq!(rt; shelf.store_by(alloc, "link", &mut pieces), Ok(()));
+    assert_eq!(rt; fs::symlink_metadata(&rt, "link")?.is_symlink(), true);
+    assert_eq!(rt; fs::read(&rt, "cert")?.as_slice(), text.as_slice());
+    let mut pieces: &[u8] = text.as_slice();
+    assert_eq!(rt;
+        shelf.store_by(alloc, "/dev/full", &mut pieces),
+        Err(StoreFault::Failed)
+    );
+    Ok(())
 }

@@ -1,9 +1,9 @@
 -- What is stored before there is an answer, and the rest of the answer.
-use Rattle.std.proofs.Common.{◌≡◌, ◌⊎◌, inl, inr, ℕ, ◌+◌, ◌≤◌, List, [], ◌∷◌, ◌++◌, length, Option, Some, None, refl, sym, ap, ◌∙◌, subst, append_assoc, length-append, arith}
+use Rattle.std.proofs.Common.{◌≡◌, ◌⊎◌, inl, inr, ℕ, ◌≤◌, List, [], ◌∷◌, ◌++◌, length, Option, Some, None, refl, sym, ap, ◌∙◌, subst, append_assoc, length-append, arith}
 use Rattle.std.specs.Prelude.{IfSome, Any, map, Ok, Err}
 use Rattle.std.proofs.lemmas.List.{length-map}
 use Rattle.brake_io.specs.Rose.{Rose}
-use Rattle.brake_io.specs.Meanings.{Content, ShelfState, SinkState, NoCountFalls, WhereBothTold}
+use Rattle.brake_io.specs.Meanings.{Content, ShelfState, SinkState, WhereBothTold}
 use Rattle.command_runner.specs.declared.status.Status.{Status}
 use Rattle.command_runner.specs.Answers.{StoredData, AnswerData, after_storing, long_refused}
 use Rattle.command_runner.specs.declared.word_kind.WordKind.{WordKind}

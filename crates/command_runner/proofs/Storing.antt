@@ -8,7 +8,7 @@ use Rattle.std.proofs.lemmas.List.{map-append, map_more, take-append-drop}
 use Rattle.brake_io.specs.Rose.{raised}
 use Rattle.brake_io.specs.Meanings.{Names, Content, ShelfState, NoCountFalls, IsDue, MayFail, WhereBothTold, WhereTold, ChangesOnly, HoldsNow, HoldsPart, with_bytes}
 use Rattle.command_runner.specs.declared.answer.StoredText.{StoredText}
-use Rattle.command_runner.specs.Answers.{StoredData, stored_data}
+use Rattle.command_runner.specs.Answers.{StoredData, stored_data, one_stored}
 use Rattle.command_runner.specs.Fetching.{IsDueBetween, HasDueCall}
 use Rattle.command_runner.specs.Delivery.{held_after, HoldsAll, AreStored, AreStoredUpTo}
 
@@ -86,6 +86,27 @@ stored_up_to stored i one name text a b c within here name_is text_is first only
       last = record { others = only_one; part = part_of_one; calls = omega (arith, calls); longs = longs };
     }
 
+-- one text that is stored, or a part of it
+pub one_whole : (name text : List ℕ) (b c : ShelfState) → WhereTold b c (ChangesOnly name) → WhereTold b c (HoldsNow name text)
+    → c.calls ≡ raised b.calls → c.longs ≡ b.longs → AreStored (one_stored name text) b c
+one_whole name text b c only holds calls longs = record {
+  holds = stored_one (record { name = name; text = text }) b.content c.content only holds;
+  calls = omega (arith, calls);
+  longs = longs;
+}
+
+pub one_part : (name text : List ℕ) (b c : ShelfState) → WhereTold b c (ChangesOnly name) → WhereTold b c (HoldsPart name text)
+    → c.calls ≡ raised b.calls → c.longs ≡ b.longs → AreStoredUpTo (one_stored name text) b c
+one_part name text b c only part calls longs = record {
+  whole = [];
+  next = record { name = name; text = text };
+  rest = [];
+  split = refl;
+  between = b;
+  first = nothing_stored b;
+  last = record { others = only; part = part; calls = omega (arith, calls); longs = longs };
+}
+
 due_among : (stored : List StoredData) (first before now : ℕ) (a b : Option Content) → WhereBothTold a b (HoldsAll stored) → first ≤ before
     → IfSome b (λ content. IsDue content.due before now) → IfSome a (λ content. IsDueBetween first now content.due)
 due_among stored first before now None b is least due = tt
@@ -97,6 +118,9 @@ due_among stored first before now (Some a) (Some b) is least due =
 -- a call that was to fail is one of the run's
 pub stored_due : (stored : List StoredData) (a b c : ShelfState) → AreStored stored a b → NoCountFalls a b → MayFail b c → HasDueCall a c
 stored_due stored a b c first falls due = due_among stored a.calls b.calls c.calls a.content b.content first.holds falls.calls due
+
+pub one_due : (b c : ShelfState) → MayFail b c → HasDueCall b c
+one_due b c due = stored_due [] b b c (nothing_stored b) (record { calls = omega arith; faults = omega arith; longs = omega arith }) due
 
 -- counts that fall at neither of two steps
 pub none_falls : (a b c : ShelfState) → NoCountFalls a b → NoCountFalls b c → NoCountFalls a c

@@ -42,6 +42,10 @@ one_text status text = record { stored = []; status = status; texts = text ∷ [
 abbrev pub after_storing : List StoredData → AnswerData → AnswerData
 after_storing first answer = record answer { stored = first ++ answer.stored }
 
+-- one text that is stored
+abbrev pub one_stored : List ℕ → List ℕ → List StoredData
+one_stored name text = record { name = name; text = text } ∷ []
+
 -- a number behind a space
 unfoldable pub field : ℕ → List ℕ
 field n = codes " " ++ signed_decimal (pos n)

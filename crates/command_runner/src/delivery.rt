@@ -3,13 +3,14 @@ ghost use Rattle.std.specs.Prelude.{◌≡◌, ◌⊎◌, ◌≤◌, map, IsErrO
 ghost use Rattle.std.specs.Vec.{vec_items};
 ghost use Rattle.brake_io.specs.Rose.{Rose};
 ghost use Rattle.brake_io.specs.Meanings.{NoCountFalls, Puts, PutsPart};
-ghost use Rattle.command_runner.specs.Answers.{stored_data, answer_data, concatenation};
+ghost use Rattle.command_runner.specs.Answers.{stored_data, answer_data, concatenation, one_stored};
 ghost use Rattle.command_runner.specs.Fetching.{HasDueCall};
 ghost use Rattle.command_runner.specs.Delivery.{IsCutShort, Outside, AreStored, AreStoredUpTo, Delivers};
 
 use crate::answer::{Answer, StoredText};
 use crate::status::Status;
-use brake_io::{PutFault, Shelf, Sink, StoreFault};
+use brake_io::{Pieces, PutFault, Shelf, Sink, StoreFault};
+use std::alloc::Global;
 
 /// Stores the texts in order, up to the first that can't be stored.
 pub fn store_all<H: Shelf>(stored: &[StoredText], shelf: &mut H) -> Result<(), StoreFault>
@@ -28,6 +29,29 @@ pub fn store_all<H: Shelf>(stored: &[StoredText], shelf: &mut H) -> Result<(), S
     for one in stored {
         shelf.store(one.name.as_str(), one.text.as_slice())?;
     }
+    Ok(())
+}
+
+/// Stores a text that is made in pieces, and so isn't held whole: what `store_all` does of one text.
+pub fn store_pieces<H: Shelf, P: Pieces>(
+    alloc: Global,
+    name: &str,
+    pieces: &mut P,
+    shelf: &mut H,
+) -> Result<(), StoreFault>
+    ensures ok { OnOk result (AreStored (one_stored name.now (P.left pieces.old))
+        (H.state shelf.old) (H.state shelf.new)) }
+    ensures err { OnErr result (AreStoredUpTo (one_stored name.now (P.left pieces.old))
+        (H.state shelf.old) (H.state shelf.new)) }
+    ensures never_falls { NoCountFalls (H.state shelf.old) (H.state shelf.new) }
+    ensures faults { ¬ IsErrOf result StoreFault.Failed →
+        (H.state shelf.new).faults ≡ (H.state shelf.old).faults }
+    ensures failed { IsErrOf result StoreFault.Failed →
+        Rose (H.state shelf.old).faults (H.state shelf.new).faults }
+    ensures cause { IsErrOf result StoreFault.Failed →
+        HasDueCall (H.state shelf.old) (H.state shelf.new) }
+{
+    shelf.store_by(alloc, name, pieces)?;
     Ok(())
 }
 

@@ -11,7 +11,7 @@ mod status;
 mod word_kind;
 
 pub use answer::{Answer, StoredText, refusal};
-pub use delivery::{deliver, store_all};
+pub use delivery::{deliver, store_all, store_pieces};
 pub use fetching::word_at;
 pub use form::is_form;
 pub use running::{Command, run};

@@ -1,4 +1,4 @@
-use Rattle.std.proofs.Common.{◌≡◌, Ok, Err, map, string_bytes, ap, ◌∙◌, refl}
+use Rattle.std.proofs.Common.{◌≡◌, map, string_bytes, ap, ◌∙◌}
 use Rattle.std.specs.Vec.{vec_items}
 use Rattle.command_runner.specs.Answers.{answer_data}
 use Rattle.command_runner.specs.Fetching.{file_words}

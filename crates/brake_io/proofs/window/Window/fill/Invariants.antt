@@ -1,0 +1,8 @@
+use Rattle.brake_io.specs.Pieces.{GoesOn, reads_left}
+use Rattle.brake_io.proofs.window.Window.fill.Given as goal
+
+abbrev pub invariant-loop-self : goal.invariant-loop-self
+invariant-loop-self g l = GoesOn l.initial.self l.self
+
+abbrev pub decreases-loop-self : goal.decreases-loop-self
+decreases-loop-self g l = reads_left l.self

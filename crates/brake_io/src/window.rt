@@ -1,0 +1,226 @@
+//! A window on a text that is read in pieces.
+ghost use Rattle.std.specs.Prelude.{◌≡◌, ◌↔◌, ◌+◌, ◌^◌, ◌<◌, ◌≤◌, [], None, length, drop, slice_range, IfOk, IsTrue, IsFalse, OnOk, IsErrOf};
+ghost use Rattle.brake_io.specs.Rose.{raised, Rose};
+ghost use Rattle.brake_io.specs.Meanings.{NoCountFalls, IsLonger, MayFailAt};
+ghost use Rattle.brake_io.specs.declared.progress.Progress.TheVariants.{Reading};
+ghost use Rattle.brake_io.specs.Pieces.{WindowState, opened, IsOpened, IsOver, HasEnough, GoesOn, IsWhole, IsTooLong, IsReadSoFar, reads_left};
+
+use crate::buffer::{Buffer, CAPACITY};
+use crate::progress::Progress;
+use crate::reader::Reader;
+use crate::shelf::{FetchFault, Shelf};
+use std::alloc::{AllocError, Global};
+use std::marker::Model;
+
+/// How many bytes are at hand after `fill`, where so many are left.
+const AT_HAND: usize = 8192;
+
+/// A text that is read in pieces: what is at hand of it, and then what its reader has still to give,
+/// is what is left of the text.
+#[derive(Drop)]
+pub struct Window<R: Reader + Drop> {
+    from: R,
+    buffer: Buffer,
+    taken: u64,
+    limit: u64,
+    progress: Progress,
+}
+
+impl<R: Reader + Drop> Model for Window<R> {
+    ghost Value = { WindowState };
+
+    ghost view = { λ w. record {
+      unread = slice_range w.buffer.bytes.items w.buffer.start w.buffer.end;
+      taken = w.taken;
+      limit = w.limit;
+      left = R.left w.from;
+      progress = w.progress;
+    } };
+
+    ghost invariant = { λ w. (w.limit + 1 < 2 ^ 64)
+        × IsReadSoFar w.progress w.taken w.limit (R.left w.from) };
+}
+
+/// How many bytes to ask for where the text may have so many more: one more at most.
+fn wanted(room: u64) -> usize
+    ensures some { 0 < result }
+    ensures few { result ≤ 262144 }
+    ensures within { result ≤ room + 1 }
+{
+    if room < CAPACITY as u64 {
+        room as usize + 1
+    } else {
+        CAPACITY
+    }
+}
+
+impl<R: Reader + Drop> Window<R> {
+    /// A window on all that the reader gives, of which nothing is read yet. The text may have so many
+    /// bytes.
+    pub fn open(alloc: Global, from: R, limit: u64) -> Result<Window<R>, AllocError>
+        requires { limit + 1 < 2 ^ 64 }
+        ensures { IfOk result (λ window. window ≡ opened limit (R.left from)) }
+    {
+        Ok(Window {
+            from,
+            buffer: Buffer::new(alloc)?,
+            taken: 0,
+            limit,
+            progress: Progress::Reading,
+        })
+    }
+
+    /// The bytes at hand.
+    pub fn unread(&self) -> &[u8]
+        ensures { result.now ≡ self.now.unread }
+    {
+        self.buffer.as_slice()
+    }
+
+    /// How far the text is read.
+    pub fn progress(&self) -> Progress
+        ensures value { result ≡ self.now.progress }
+        ensures known { IsReadSoFar result self.now.taken self.now.limit self.now.left }
+    {
+        self.progress
+    }
+
+    /// Whether nothing more will come to hand.
+    pub fn is_over(&self) -> bool
+        ensures { IsTrue result ↔ IsOver self.now }
+    {
+        !matches!(self.progress(), Progress::Reading)
+    }
+
+    /// Whether less is at hand than is wanted, and more may come.
+    fn wants_more(&self) -> bool
+        ensures reading { IsTrue result → self.now.progress ≡ Reading }
+        ensures few { IsTrue result → length self.now.unread < 8192 }
+        ensures enough { IsFalse result → HasEnough self.now }
+    {
+        match self.progress() {
+            Progress::Reading => self.unread().len() < AT_HAND,
+            _ => false,
+        }
+    }
+
+    /// Passes the first of the bytes at hand.
+    pub fn pass(&mut self, count: usize)
+        requires { count ≤ length self.old.unread }
+        ensures { self.new ≡ record self.old { unread = drop count self.old.unread } }
+    {
+        self.buffer.pass(count);
+    }
+
+    /// Passes all bytes at hand.
+    fn pass_all(&mut self)
+        ensures { self.new ≡ record self.old { unread = [] } }
+    {
+        self.buffer.clear();
+    }
+
+    /// Reads once, at most one byte more than the limit.
+    fn read_once(&mut self)
+        requires reading { self.old.progress ≡ Reading }
+        requires room { length self.old.unread < 262144 }
+        ensures goes_on { GoesOn self.old self.new }
+        ensures nearer { reads_left self.new < reads_left self.old }
+    {
+        let room = self.limit - self.taken;
+        match self.buffer.append_from(&mut self.from, wanted(room)) {
+            Some(0) => self.progress = Progress::Ended,
+            Some(count) if count as u64 <= room => self.taken += count as u64,
+            Some(count) => {
+                self.taken += count as u64;
+                self.progress = Progress::TooLong;
+            }
+            None => self.progress = Progress::Failed,
+        }
+    }
+
+    /// Reads on until enough of the text is at hand.
+    pub fn fill(&mut self)
+        ensures goes_on { GoesOn self.old self.new }
+        ensures enough { HasEnough self.new }
+    {
+        while self.wants_more() {
+            self.read_once();
+        }
+    }
+
+    /// Reads on to the end, and says whether the whole text is within its limit.
+    pub fn finish(&mut self) -> Result<(), FetchFault>
+        ensures whole { OnOk result (IsWhole self.old) }
+        ensures failed { IsErrOf result FetchFault.Failed → self.old.left ≡ None }
+        ensures longer { IsErrOf result FetchFault.TooLong → IsTooLong self.old }
+        ensures no_memory { ¬ IsErrOf result FetchFault.NoMemory }
+    {
+        loop {
+            match self.progress() {
+                Progress::Reading => {
+                    self.pass_all();
+                    self.read_once();
+                }
+                Progress::Ended => return Ok(()),
+                Progress::Failed => return Err(FetchFault::Failed),
+                Progress::TooLong => return Err(FetchFault::TooLong),
+            }
+        }
+    }
+}
+
+/// A window on the bytes under `name`, which are read in pieces: what `fetch` gives, once it is
+/// closed. A name that is not held is a fault.
+pub fn open_window<H: Shelf>(
+    alloc: Global,
+    shelf: &mut H,
+    name: &str,
+    limit: u64,
+) -> Result<Window<H::File>, FetchFault>
+    requires { limit + 1 < 2 ^ 64 }
+    ensures content { (H.state shelf.new).content ≡ (H.state shelf.old).content }
+    ensures calls { (H.state shelf.new).calls ≡ raised (H.state shelf.old).calls }
+    ensures window { IfOk result (IsOpened (H.state shelf.old) name.now limit) }
+    ensures failed { IsErrOf result FetchFault.Failed →
+        Rose (H.state shelf.old).faults (H.state shelf.new).faults }
+    ensures cause { IsErrOf result FetchFault.Failed →
+        MayFailAt name.now (H.state shelf.old) (H.state shelf.new) }
+    ensures longer { IsErrOf result FetchFault.TooLong →
+        IsLonger (H.state shelf.old) name.now limit }
+    ensures too_long { IsErrOf result FetchFault.TooLong →
+        (H.state shelf.new).longs ≡ raised (H.state shelf.old).longs }
+    ensures never_falls { NoCountFalls (H.state shelf.old) (H.state shelf.new) }
+    ensures faults { ¬ IsErrOf result FetchFault.Failed →
+        (H.state shelf.new).faults ≡ (H.state shelf.old).faults }
+    ensures longs { ¬ IsErrOf result FetchFault.TooLong →
+        (H.state shelf.new).longs ≡ (H.state shelf.old).longs }
+{
+    let file = shelf.open(alloc, name, limit)?;
+    Ok(Window::open(alloc, file, limit)?)
+}
+
+/// Reads a text to its end, and says whether it was read whole and is within its limit. The outside
+/// may fail as long as it is read; a text that is told can't.
+pub fn close_window<H: Shelf>(shelf: &mut H, mut window: Window<H::File>) -> Result<(), FetchFault>
+    ensures content { (H.state shelf.new).content ≡ (H.state shelf.old).content }
+    ensures calls { (H.state shelf.new).calls ≡ (H.state shelf.old).calls }
+    ensures whole { OnOk result (IsWhole window) }
+    ensures failed { IsErrOf result FetchFault.Failed →
+        Rose (H.state shelf.old).faults (H.state shelf.new).faults }
+    ensures cause { IsErrOf result FetchFault.Failed → window.left ≡ None }
+    ensures longer { IsErrOf result FetchFault.TooLong → IsTooLong window }
+    ensures too_long { IsErrOf result FetchFault.TooLong →
+        (H.state shelf.new).longs ≡ raised (H.state shelf.old).longs }
+    ensures no_memory { ¬ IsErrOf result FetchFault.NoMemory }
+    ensures never_falls { NoCountFalls (H.state shelf.old) (H.state shelf.new) }
+    ensures faults { ¬ IsErrOf result FetchFault.Failed →
+        (H.state shelf.new).faults ≡ (H.state shelf.old).faults }
+    ensures longs { ¬ IsErrOf result FetchFault.TooLong →
+        (H.state shelf.new).longs ≡ (H.state shelf.old).longs }
+{
+    let outcome = window.finish();
+    if let Err(fault) = outcome {
+        shelf.count_fault(fault);
+    }
+    outcome
+}
