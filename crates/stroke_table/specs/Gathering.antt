@@ -1,5 +1,5 @@
 -- What is gathered of boxes of a stroke.
-use Rattle.std.specs.Prelude.{◌≡◌, ℕ, ◌<◌, List, length, map, All}
+use Rattle.std.specs.Prelude.{◌≡◌, ℕ, ◌<◌, List, map, All}
 use Rattle.brake_base.specs.declared.mask.Mask.{Mask}
 use Rattle.brake_base.specs.declared.reason.Reason.{Reason}
 use Rattle.brake_base.specs.Turns.{map_of}
@@ -9,20 +9,8 @@ use Rattle.job_setup.specs.Setup.{JobData, shape_of, stage_count}
 use Rattle.box_support.specs.Deciding.{IsNumberOfBox}
 use Rattle.stroke_table.specs.declared.keys.GroupKey.{GroupKey}
 use Rattle.stroke_table.specs.declared.keys.StrokeKey.{StrokeKey}
-use Rattle.stroke_table.specs.declared.known.FoundBox.{FoundBox}
 use Rattle.stroke_table.specs.declared.gathering.StrokeBoxes.{StrokeBoxes}
 use Rattle.stroke_table.specs.Codes.{AreLeastCodes, stroke_box, stroke_place, IsOfBox}
-
--- What is found is so of the box of a number in a stroke.
-pub record IsOfNumber (job : JobData) (stroke : StrokeKey) (number : ℕ) (found : FoundBox)
-    : Type 0 where
-  pub codes :
-      AreLeastCodes (stage_count job) (IsOfBox job stroke.mask stroke.of number) found.codes.0
-  pub body : found.body ≡ stroke_box job stroke.mask stroke.of number 0
-  pub near : IsNearPoseBox found.body
-  pub place :
-      number < length job.part.faces
-      → map_of found.place ≡ stroke_place job stroke.mask stroke.of number
 
 -- it is one of the reasons that a box with a number below this one gives by itself
 abbrev pub IsOfBoxBelow : JobData → Mask → GroupKey → ℕ → ℕ → Reason → Type 0

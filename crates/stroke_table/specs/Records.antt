@@ -9,6 +9,7 @@ use Rattle.fold_boxes.specs.Pose.{IsGroup, lead_of, face_of_box}
 use Rattle.fold_boxes.specs.Posing.{IsNearPoseBox}
 use Rattle.job_setup.specs.Setup.{JobData, shape_of, bend_count, stage_count}
 use Rattle.box_support.specs.Deciding.{is_deciding, IsNumberOfBox}
+use Rattle.stroke_table.specs.declared.keys.GroupKey.{GroupKey}
 use Rattle.stroke_table.specs.declared.keys.BoxKey.{BoxKey}
 use Rattle.stroke_table.specs.declared.known.FoundBox.{FoundBox}
 use Rattle.stroke_table.specs.declared.records.BoxRecord.{BoxRecord}
@@ -47,16 +48,18 @@ pub record IsBoxKey (job : JobData) (mask : Mask) (key : BoxKey) : Type 0 where
       ≡ (has mask bend
       && is_deciding job.part.faces (parent_of job key.of.group) key.number bend)
 
--- What is found of a box is so in a stroke that has it.
-pub record IsFoundBox (job : JobData) (mask : Mask) (key : BoxKey) (found : FoundBox)
+-- What is found of the box of a number is so in a stroke of this group and side.
+pub record IsFoundOf (job : JobData) (mask : Mask) (of : GroupKey) (number : ℕ) (found : FoundBox)
     : Type 0 where
-  pub codes :
-      AreLeastCodes (stage_count job) (IsOfBox job mask key.of key.number) found.codes.0
-  pub body : found.body ≡ stroke_box job mask key.of key.number 0
+  pub codes : AreLeastCodes (stage_count job) (IsOfBox job mask of number) found.codes.0
+  pub body : found.body ≡ stroke_box job mask of number 0
   pub near : IsNearPoseBox found.body
   pub place :
-      key.number < length job.part.faces
-      → map_of found.place ≡ stroke_place job mask key.of key.number
+      number < length job.part.faces → map_of found.place ≡ stroke_place job mask of number
+
+-- what is found of a box is so in a stroke that has it
+abbrev pub IsFoundBox : JobData → Mask → BoxKey → FoundBox → Type 0
+IsFoundBox job mask key = IsFoundOf job mask key.of key.number
 
 -- what is kept of a box is so in each stroke that has it
 abbrev pub IsBoxRecord : JobData → BoxRecord → Type 0

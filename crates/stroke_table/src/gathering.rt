@@ -12,8 +12,8 @@ ghost use Rattle.box_support.specs.Deciding.{IsNumberOfBox};
 ghost use Rattle.stage_lanes.specs.Lanes.{AreLanes};
 ghost use Rattle.stroke_table.specs.BoxReasons.{AreAround};
 ghost use Rattle.stroke_table.specs.Codes.{AreLeastCodes, HoldsAmong, IsOfBox, stroke_box, stroke_place};
-ghost use Rattle.stroke_table.specs.Records.{AreKept, IsBoxKey, IsFoundBox, parent_of};
-ghost use Rattle.stroke_table.specs.Gathering.{IsGathered, IsOfNumber};
+ghost use Rattle.stroke_table.specs.Records.{AreKept, IsBoxKey, IsFoundOf, IsFoundBox, parent_of};
+ghost use Rattle.stroke_table.specs.Gathering.{IsGathered};
 
 use crate::box_reasons::box_codes;
 use crate::finding::pose_at;
@@ -183,7 +183,7 @@ fn place_of_number(
     ensures kept { AreKept job.now kept.new }
     ensures some { IsSome (slice_index_or kept.new.boxes.items result None) }
     ensures found { IfSome (slice_index_or kept.new.boxes.items result None)
-        (λ one. IsOfNumber job.now stroke.now number one.found) }
+        (λ one. IsFoundOf job.now stroke.now.mask stroke.now.of number one.found) }
 {
     let key = kept.box_key(job, stroke, from, number);
     place_of_box(job, kept, places, stroke.mask, &key)

@@ -13,8 +13,8 @@ use Rattle.box_support.specs.Deciding.{IsNumberOfBox}
 use Rattle.stroke_table.specs.declared.gathering.StrokeBoxes.{StrokeBoxes}
 use Rattle.stroke_table.specs.Codes.{AreLeastCodes, HoldsAmong, stroke_box}
 use Rattle.stroke_table.specs.declared.records.BoxRecord.{BoxRecord}
-use Rattle.stroke_table.specs.Gathering.{IsOfBoxBelow, IsOfNumber}
-use Rattle.stroke_table.specs.Records.{AreKept}
+use Rattle.stroke_table.specs.Gathering.{IsOfBoxBelow}
+use Rattle.stroke_table.specs.Records.{AreKept, IsFoundOf}
 use Rattle.stroke_table.proofs.LeastCodes.{same_codes}
 use Rattle.stroke_table.proofs.BoxCodes.{all_below, below_all, box_more, no_box_more, no_corner, boxes_gathered}
 use Rattle.stroke_table.proofs.gathering.gather_corners.Goals.{then-contains, else-contains}
@@ -51,7 +51,7 @@ loop-bend-preserved c =
     elim c.if-contains.branch [
       | then-contains w ↦
           let found = w.box_at.result.now.found in
-          let of_number = subst (λ (one : Option BoxRecord). IfSome one (λ record_. IsOfNumber job stroke (12 + bend) record_.found)) w.box_at.ensures w.place_of_number-place.ensures.found in
+          let of_number = subst (λ (one : Option BoxRecord). IfSome one (λ record_. IsFoundOf job mask key (12 + bend) record_.found)) w.box_at.ensures w.place_of_number-place.ensures.found in
           let folded = sym c.contains.ensures ∙ w.if-contains.true in
           let is : IsNumberOfBox (shape_of job) mask (12 + bend) = inr (bend, some, inside, folded, refl) in
           let long = length-append before.boxes.items (found.body ∷ []) in

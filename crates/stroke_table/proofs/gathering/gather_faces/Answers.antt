@@ -9,7 +9,8 @@ use Rattle.unfolder.proofs.Listing.{push_next, all_pushed}
 use Rattle.job_setup.specs.Setup.{stage_count}
 use Rattle.stroke_table.specs.Codes.{stroke_box, stroke_place}
 use Rattle.stroke_table.specs.declared.records.BoxRecord.{BoxRecord}
-use Rattle.stroke_table.specs.Gathering.{IsOfBoxBelow, IsOfNumber}
+use Rattle.stroke_table.specs.Gathering.{IsOfBoxBelow}
+use Rattle.stroke_table.specs.Records.{IsFoundOf}
 use Rattle.stroke_table.proofs.LeastCodes.{none_hold}
 use Rattle.stroke_table.proofs.BoxCodes.{box_more, faces_alone}
 use Rattle.stroke_table.proofs.gathering.gather_faces.Goals as goal
@@ -38,7 +39,7 @@ loop-number-preserved c =
     let n = c.loop-number.number in
     let before = c.loop-number.gathered in
     let found = c.box_at.result.now.found in
-    let of_number = subst (λ (one : Option BoxRecord). IfSome one (λ record_. IsOfNumber job stroke n record_.found)) c.box_at.ensures c.place_of_number-place.ensures.found in
+    let of_number = subst (λ (one : Option BoxRecord). IfSome one (λ record_. IsFoundOf job stroke.mask stroke.of n record_.found)) c.box_at.ensures c.place_of_number-place.ensures.found in
     let inside : n < length job.part.faces = omega (arith, c.loop-number-test.true, c.bends-number-end.ensures.value) in
     let long = length-append before.boxes.items (found.body ∷ []) in
     let far = length-append before.places.items (found.place ∷ []) in
