@@ -1,8 +1,10 @@
 -- What is kept in a list of records, of which each is true: nothing to begin with, and then one more.
-use Rattle.std.proofs.Common.{◌≡◌, ◌⊎◌, inl, inr, ℕ, zero, suc, ◌<◌, List, length, get_or, replicate, Option, Some, None, refl, sym, ap, subst, ◌∙◌, arith}
-use Rattle.std.specs.Prelude.{unwrap_or, slice_set, slice_index_or}
+use Rattle.std.proofs.Common.{◌≡◌, ◌⊎◌, inl, inr, ℕ, zero, suc, ◌<◌, List, [], ◌∷◌, ◌++◌, length, get_or, replicate, Option, Some, None, refl, sym, ap, subst, ◌∙◌, arith}
+use Rattle.std.specs.Prelude.{All, unwrap_or, slice_set, slice_get, slice_index_or}
 use Rattle.std.proofs.lemmas.Bool.{cases_lt}
-use Rattle.std.proofs.lemmas.List.{get_or-set_same, get_or-set_other, length-replicate}
+use Rattle.std.proofs.lemmas.List.{get_or-set_same, get_or-set_other, get_or_push, length-set, length_push, length-replicate}
+use Rattle.std.proofs.lemmas.List.Elements.{All-get_or}
+use Rattle.std.proofs.lemmas.Option.{get_or_from_slice_get, slice_get_within, slice_get-get_or}
 
 none_at : {X : Type 0} (n i : ℕ) → ◌≡◌ {A = Option X} (get_or (replicate n None) i None) None
 none_at zero i = refl
@@ -38,3 +40,19 @@ record_more Is records place one within is each other found here = elim (after_p
   | inl same ↦ subst Is same is
   | inr kept ↦ each other found kept
 ]
+
+-- what is true of all records is true of that at an index
+pub record_at : {X : Type 0} (Is : X → Type 0) (records : List X) (index : ℕ) (one : X) → slice_get records index ≡ Some one → All Is records → Is one
+record_at Is records index one here all = subst Is (get_or_from_slice_get records index one one here) (All-get_or Is records index one (slice_get_within records index one here) all)
+
+-- the record that was put at an index, and that which was put behind all
+module _ {X : Type 0} (records : List X) (index : ℕ) (one : X) where
+  pub put_here : index < length records → slice_get (slice_set records index one) index ≡ Some one
+  put_here within =
+      let long = length-set records index one in
+      slice_get-get_or (slice_set records index one) index one (omega (arith, long, within)) ∙ ap Some (get_or-set_same records index one one within)
+
+  pub pushed_here : length records ≡ index → slice_get (records ++ one ∷ []) index ≡ Some one
+  pushed_here is =
+      let long = length_push records one in
+      slice_get-get_or (records ++ one ∷ []) index one (omega (arith, long, is)) ∙ ap Some (get_or_push records one one index is)

@@ -1,6 +1,6 @@
 -- What is kept of a job for its strokes: of groups, and of boxes.
 use Rattle.std.specs.Prelude.{◌≡◌, ℕ, ◌+◌, ◌*◌, ◌^◌, ◌<◌, ◌≤◌, ◌&&◌, List, length}
-use Rattle.std.specs.Prelude.{slice_index_or, Option, Some, None}
+use Rattle.std.specs.Prelude.{slice_index_or, slice_get, All, Some, None, vec_capacity}
 use Rattle.brake_base.specs.declared.mask.Mask.{Mask}
 use Rattle.brake_base.specs.Masks.{has}
 use Rattle.brake_base.specs.Turns.{map_of}
@@ -67,10 +67,10 @@ IsBoxRecord job known =
     (mask : Mask) → mask.0 < 2 ^ bend_count job → IsBoxKey job mask known.key
     → IsFoundBox job mask known.key known.found
 
--- the record of the box of this key stands at this place
-abbrev pub HasRecordAt : List (Option BoxRecord) → BoxKey → ℕ → Type 0
-HasRecordAt records key place =
-    (one : BoxRecord) × (slice_index_or records place None ≡ Some one) × (one.key ≡ key)
+-- the record at this index is that of the box of this key
+abbrev pub HasRecordAt : List BoxRecord → BoxKey → ℕ → Type 0
+HasRecordAt records key index =
+    (one : BoxRecord) × (slice_get records index ≡ Some one) × (one.key ≡ key)
 
 -- What is kept of a group is so of each of its strokes.
 pub record IsGroupRecord (job : JobData) (known : GroupRecord) : Type 0 where
@@ -81,15 +81,15 @@ pub record IsGroupRecord (job : JobData) (known : GroupRecord) : Type 0 where
       (mask : Mask)
       → AreLeastCodes (stage_count job) (HoldsAmong job mask known.key 8 8) known.load.0
 
--- What is kept for a job: what stands around the part, the deciding bends, and true records.
+-- What is kept for a job: what stands around the part, the deciding bends, and true records of groups
+-- and boxes. For boxes there are 16,384 places of an index, and memory for as many records.
 pub record AreKept (job : JobData) (kept : StrokeRecords) : Type 0 where
   pub around : AreAround job kept.around.items
   pub deciding : AreAllDeciding job kept.deciding.items
-  pub group_count : length kept.groups.items ≡ 8192
-  pub box_count : length kept.boxes.items ≡ 16384
+  pub some_place : 0 < length kept.groups.items
+  pub index_count : length kept.indices.items ≡ 16384
+  pub room : 16384 ≤ vec_capacity kept.boxes
   pub groups :
       (place : ℕ) (one : GroupRecord) → slice_index_or kept.groups.items place None ≡ Some one
       → IsGroupRecord job one
-  pub boxes :
-      (place : ℕ) (one : BoxRecord) → slice_index_or kept.boxes.items place None ≡ Some one
-      → IsBoxRecord job one
+  pub boxes : All (IsBoxRecord job) kept.boxes.items

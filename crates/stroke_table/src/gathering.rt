@@ -1,5 +1,5 @@
 //! The boxes of a stroke are gathered: what each gives, and where it lies at stage 0.
-ghost use Rattle.std.specs.Prelude.{◌≡◌, ◌+◌, ◌<◌, ◌≤◌, ◌^◌, [], ◌∷◌, ◌++◌, min, map, length, slice_index, slice_index_or, None, IfSome, IsSome, All, Any};
+ghost use Rattle.std.specs.Prelude.{◌≡◌, ◌+◌, ◌<◌, ◌≤◌, ◌^◌, [], ◌∷◌, ◌++◌, min, map, length, slice_index, slice_index_or, slice_get, None, IfSome, IsSome, All, Any};
 ghost use Rattle.fold_boxes.specs.Places.{ArePlaces};
 ghost use Rattle.brake_base.specs.Turns.{map_of};
 ghost use Rattle.fold_boxes.specs.Pose.{IsGroup, lead_of, pose_data};
@@ -11,7 +11,7 @@ ghost use Rattle.job_setup.specs.Reasons.{pose_at};
 ghost use Rattle.box_support.specs.Deciding.{IsNumberOfBox};
 ghost use Rattle.stage_lanes.specs.Lanes.{AreLanes};
 ghost use Rattle.stroke_table.specs.BoxReasons.{AreAround};
-ghost use Rattle.stroke_table.specs.Codes.{AreLeastCodes, HoldsAmong, IsOfBox, stroke_box, stroke_place};
+ghost use Rattle.stroke_table.specs.Codes.{AreLeastCodes, HoldsAmong};
 ghost use Rattle.stroke_table.specs.Records.{AreKept, IsBoxKey, IsFoundOf, IsFoundBox, parent_of};
 ghost use Rattle.stroke_table.specs.Gathering.{IsGathered};
 
@@ -124,8 +124,8 @@ fn gather_faces(
 {
     let mut gathered = StrokeBoxes::none();
     for number in 0..job.bends() + 1 {
-        let place = place_of_number(job, kept, places, stroke, from, number);
-        gathered.take_face(&kept.box_at(place).found);
+        let index = index_of_number(job, kept, places, stroke, from, number);
+        gathered.take_face(&kept.box_at(index).found);
     }
     gathered
 }
@@ -158,14 +158,14 @@ fn gather_corners(
 {
     for bend in 1..job.bends() + 1 {
         if stroke.mask.contains(bend) {
-            let place = place_of_number(job, kept, places, stroke, from, 12 + bend);
-            gathered.take(&kept.box_at(place).found);
+            let index = index_of_number(job, kept, places, stroke, from, 12 + bend);
+            gathered.take(&kept.box_at(index).found);
         }
     }
 }
 
-/// The place of the record of the box of a number, which is kept where it isn't yet.
-fn place_of_number(
+/// The index of the record of the box of a number, which is kept where it isn't yet.
+fn index_of_number(
     job: &Job,
     kept: &mut StrokeRecords,
     places: &[Place],
@@ -181,12 +181,12 @@ fn place_of_number(
     requires from { from ≡ parent_of job.now stroke.now.of.group }
     requires number { IsNumberOfBox (shape_of job.now) stroke.now.mask number }
     ensures kept { AreKept job.now kept.new }
-    ensures some { IsSome (slice_index_or kept.new.boxes.items result None) }
-    ensures found { IfSome (slice_index_or kept.new.boxes.items result None)
+    ensures some { IsSome (slice_get kept.new.boxes.items result) }
+    ensures found { IfSome (slice_get kept.new.boxes.items result)
         (λ one. IsFoundOf job.now stroke.now.mask stroke.now.of number one.found) }
 {
     let key = kept.box_key(job, stroke, from, number);
-    place_of_box(job, kept, places, stroke.mask, &key)
+    index_of_box(job, kept, places, stroke.mask, &key)
 }
 
 /// The part on the machine at stage 0, from what is gathered of the boxes of a stroke.
@@ -235,8 +235,8 @@ fn lead_of(job: &Job, stroke: &StrokeKey) -> u8
     }
 }
 
-/// The place of the record of a box, which is kept where it isn't yet.
-fn place_of_box(
+/// The index of the record of a box, which is kept where it isn't yet.
+fn index_of_box(
     job: &Job,
     kept: &mut StrokeRecords,
     places: &[Place],
@@ -249,16 +249,15 @@ fn place_of_box(
     requires mask { mask.0 < 2 ^ bend_count job.now }
     requires box_ { IsBoxKey job.now mask key.now }
     ensures kept { AreKept job.now kept.new }
-    ensures some { IsSome (slice_index_or kept.new.boxes.items result None) }
-    ensures found { IfSome (slice_index_or kept.new.boxes.items result None)
+    ensures some { IsSome (slice_get kept.new.boxes.items result) }
+    ensures found { IfSome (slice_get kept.new.boxes.items result)
         (λ one. IsFoundBox job.now mask key.now one.found) }
 {
     match kept.search_box(key) {
-        Ok(place) => place,
+        Ok(index) => index,
         Err(place) => {
             let found = find_box(job, &kept.around, places, mask, key);
-            kept.keep_box(place, BoxRecord { key: *key, found });
-            place
+            kept.keep_box(place, BoxRecord { key: *key, found })
         }
     }
 }

@@ -1,7 +1,7 @@
 //! What is kept of a job for its strokes.
-ghost use Rattle.std.specs.Prelude.{◌≡◌, ◌↔◌, ℕ, ◌<◌, ◌≤◌, ◌^◌, length, replicate, slice_index_or, Some, None, IfOk, IfErr, IfSome, IsSome, IsTrue};
+ghost use Rattle.std.specs.Prelude.{◌≡◌, ◌↔◌, ◌*◌, ◌<◌, ◌≤◌, ◌^◌, length, replicate, slice_index_or, slice_get, Some, None, IfOk, IfErr, IfSome, IsSome, IsTrue, All, vec_capacity};
 ghost use Rattle.fold_boxes.specs.Pose.{IsGroup};
-ghost use Rattle.job_setup.specs.Setup.{JobData, shape_of};
+ghost use Rattle.job_setup.specs.Setup.{JobData, shape_of, bend_count};
 ghost use Rattle.box_support.specs.Deciding.{IsNumberOfBox};
 ghost use Rattle.stroke_table.specs.BoxReasons.{AreAround};
 ghost use Rattle.stroke_table.specs.Records.{IsBoxRecord, IsGroupRecord, IsBoxKey, AreKept, HasRecordAt, parent_of};
@@ -15,14 +15,14 @@ use stage_lanes::StageCodes;
 use std::alloc::{AllocError, Global};
 use sweep_check::Surroundings;
 
-/// How many records of boxes are kept at most.
+/// How many records of boxes are kept at most, and at how many places their indices stand.
 const BOX_RECORDS: usize = 16_384;
 
-/// At how many places in a row a box's record may stand.
+/// At how many places in a row the index of a box's record may stand.
 const BOX_PLACES: usize = 8;
 
-/// How many records of groups are kept at most.
-const GROUP_RECORDS: usize = 8192;
+/// An index at which no record of a box stands.
+const NO_INDEX: u16 = 65_535;
 
 /// What is found of a box.
 #[derive(Clone, Copy)]
@@ -41,36 +41,40 @@ pub struct GroupRecord {
 }
 
 /// What is kept of a job for its strokes: what stands around the part at each stage, which bends
-/// decide where a box lies, and records of groups and of boxes. A record stands at a place that
-/// follows from its key, or shortly behind it, until another takes it.
+/// decide where a box lies, and records of groups and of boxes. A group's record stands at a place
+/// that follows from its key, until another takes it. The records of boxes stand as they came: the
+/// index of one stands at a place that follows from its key, or shortly behind it.
 #[derive(Drop)]
 pub struct StrokeRecords {
     pub around: Vec<Surroundings>,
     pub deciding: Vec<Mask>,
     pub groups: Vec<Option<GroupRecord>>,
-    pub boxes: Vec<Option<BoxRecord>>,
+    pub boxes: Vec<BoxRecord>,
+    pub indices: Vec<u16>,
 }
 
 impl StrokeRecords {
-    /// What stands around the part of a job, and no record. It takes all memory that will be used.
+    /// What stands around the part of a job, and no record. It takes all memory that will be used;
+    /// that for the records of boxes is touched only as they come.
     pub(crate) fn open(alloc: Global, job: &Job) -> Result<StrokeRecords, AllocError>
         ensures { IfOk result (λ kept. AreKept job.now kept) }
     {
         Ok(StrokeRecords {
             around: all_surroundings(alloc, job)?,
             deciding: deciding_bends(alloc, job)?,
-            groups: no_groups(alloc, GROUP_RECORDS)?,
-            boxes: no_boxes(alloc, BOX_RECORDS)?,
+            groups: no_groups(alloc, group_places(job))?,
+            boxes: Vec::with_capacity(alloc, BOX_RECORDS)?,
+            indices: no_indices(alloc, BOX_RECORDS)?,
         })
     }
 
     /// What is kept of a group, where that is.
     pub(crate) fn known_group(&self, key: &GroupKey) -> Option<GroupRecord>
-        requires { length self.now.groups.items ≡ 8192 }
+        requires { 0 < length self.now.groups.items }
         ensures { IfSome result (λ known. (known.key ≡ key.now)
             × ((job : JobData) → AreKept job self.now → IsGroupRecord job known)) }
     {
-        match group_at(&self.groups, group_place(key)) {
+        match group_at(&self.groups, group_place(key, self.groups.len())) {
             Some(known) => {
                 if is_same_group(&known.key, key) {
                     Some(known)
@@ -84,11 +88,11 @@ impl StrokeRecords {
 
     /// Keeps what is true of a group.
     pub(crate) fn keep_group(&mut self, found: GroupRecord)
-        requires { length self.old.groups.items ≡ 8192 }
+        requires { 0 < length self.old.groups.items }
         ensures { (job : JobData) → AreKept job self.old → IsGroupRecord job found
             → AreKept job self.new }
     {
-        let place = group_place(&found.key);
+        let place = group_place(&found.key, self.groups.len());
         self.groups[place] = Some(found);
     }
 
@@ -112,19 +116,20 @@ impl StrokeRecords {
         }
     }
 
-    /// The place at which the record of a box stands; as an error that at which it is to be kept.
+    /// The index of the record of a box; as an error the place at which its index is to stand.
     pub(crate) fn search_box(&self, key: &BoxKey) -> Result<usize, usize>
-        requires { length self.now.boxes.items ≡ 16384 }
-        ensures found { IfOk result (λ place. HasRecordAt self.now.boxes.items key.now place) }
+        requires { length self.now.indices.items ≡ 16384 }
+        ensures found { IfOk result (λ index. HasRecordAt self.now.boxes.items key.now index) }
         ensures free { IfErr result (λ place. place < 16384) }
     {
         let own = own_place(key);
         for step in 0..BOX_PLACES {
             let place = (own + step) % BOX_RECORDS;
-            match &self.boxes[place] {
+            let index = usize::from(self.indices[place]);
+            match self.boxes.get(index) {
                 Some(known) => {
                     if is_same_box(&known.key, key) {
-                        return Ok(place);
+                        return Ok(index);
                     }
                 }
                 None => return Err(place),
@@ -133,25 +138,63 @@ impl StrokeRecords {
         Err(own)
     }
 
-    /// The record that stands at a place.
-    pub(crate) fn box_at(&self, place: usize) -> &BoxRecord
-        requires { IsSome (slice_index_or self.now.boxes.items place None) }
-        ensures { slice_index_or self.now.boxes.items place None ≡ Some result.now }
+    /// The record of a box at an index.
+    pub(crate) fn box_at(&self, index: usize) -> &BoxRecord
+        requires { IsSome (slice_get self.now.boxes.items index) }
+        ensures { slice_get self.now.boxes.items index ≡ Some result.now }
     {
-        match &self.boxes[place] {
+        match self.boxes.get(index) {
             Some(known) => known,
             None => unreachable!(),
         }
     }
 
-    /// Keeps at a place what is true of a box.
-    pub(crate) fn keep_box(&mut self, place: usize, found: BoxRecord)
-        requires { place < length self.old.boxes.items }
+    /// Keeps what is true of a box, with its index at this place. The result is the index.
+    pub(crate) fn keep_box(&mut self, place: usize, found: BoxRecord) -> usize
+        requires place { place < 16384 }
+        requires count { length self.old.indices.items ≡ 16384 }
+        requires room { 16384 ≤ vec_capacity self.old.boxes }
         ensures kept { (job : JobData) → AreKept job self.old → IsBoxRecord job found
             → AreKept job self.new }
-        ensures here { slice_index_or self.new.boxes.items place None ≡ Some found }
+        ensures here { slice_get self.new.boxes.items result ≡ Some found }
     {
-        self.boxes[place] = Some(found);
+        let free = free_index(self.boxes.len(), self.indices[place], place);
+        self.indices[place] = free;
+        let index = usize::from(free);
+        put_box(&mut self.boxes, index, found);
+        index
+    }
+}
+
+/// The index for a record where there are so many others, and this index stands at its place: that
+/// of the record that it takes the place of, else the next, or where there is none that of its place.
+fn free_index(count: usize, standing: u16, place: usize) -> u16
+    requires { place < 16384 }
+    ensures within { result ≤ count }
+    ensures room { result ≡ count → result < 16384 }
+{
+    if usize::from(standing) < count {
+        standing
+    } else if count < BOX_RECORDS {
+        count as u16
+    } else {
+        place as u16
+    }
+}
+
+/// Puts a record in the place of that at an index, or behind all.
+fn put_box(boxes: &mut Vec<BoxRecord>, index: usize, found: BoxRecord)
+    requires within { index ≤ length boxes.old.items }
+    requires room { index ≡ length boxes.old.items → index < vec_capacity boxes.old }
+    ensures here { slice_get boxes.new.items index ≡ Some found }
+    ensures each { (job : JobData) → All (IsBoxRecord job) boxes.old.items
+        → IsBoxRecord job found → All (IsBoxRecord job) boxes.new.items }
+    ensures same_memory { vec_capacity boxes.new ≡ vec_capacity boxes.old }
+{
+    if index < boxes.len() {
+        boxes[index] = found;
+    } else {
+        boxes.push_reserved(found);
     }
 }
 
@@ -166,6 +209,13 @@ fn all_surroundings(alloc: Global, job: &Job) -> Result<Vec<Surroundings>, Alloc
     Ok(around)
 }
 
+/// How many places there are for records of groups: one for each set of the job's bends and each side.
+fn group_places(job: &Job) -> usize
+    ensures { result ≡ 2 * 2 ^ bend_count job.now }
+{
+    2 << job.bends()
+}
+
 /// So many places at which no record of a group stands.
 fn no_groups(alloc: Global, places: usize) -> Result<Vec<Option<GroupRecord>>, AllocError>
     ensures { IfOk result (λ records. records.items ≡ replicate places None) }
@@ -177,15 +227,15 @@ fn no_groups(alloc: Global, places: usize) -> Result<Vec<Option<GroupRecord>>, A
     Ok(records)
 }
 
-/// So many places at which no record of a box stands.
-fn no_boxes(alloc: Global, places: usize) -> Result<Vec<Option<BoxRecord>>, AllocError>
-    ensures { IfOk result (λ records. records.items ≡ replicate places None) }
+/// So many places at which no index of a record stands.
+fn no_indices(alloc: Global, places: usize) -> Result<Vec<u16>, AllocError>
+    ensures { IfOk result (λ indices. indices.items ≡ replicate places 65535) }
 {
-    let mut records = Vec::with_capacity(alloc, places)?;
+    let mut indices = Vec::with_capacity(alloc, places)?;
     for _ in 0..places {
-        records.push_reserved(None);
+        indices.push_reserved(NO_INDEX);
     }
-    Ok(records)
+    Ok(indices)
 }
 
 /// The set of deciding bends at a place.
@@ -218,14 +268,16 @@ fn is_same_box(first: &BoxKey, second: &BoxKey) -> bool
     *first == *second
 }
 
-/// The place of a group's record.
-fn group_place(key: &GroupKey) -> usize
-    ensures { result < 8192 }
+/// The place of a group's record among so many.
+fn group_place(key: &GroupKey, places: usize) -> usize
+    requires { 0 < places }
+    ensures { result < places }
 {
-    (2 * usize::from(key.group.0) + side(key)) % GROUP_RECORDS
+    (2 * usize::from(key.group.0) + side(key)) % places
 }
 
-/// The first place at which a box's record may stand: such that boxes that differ seldom share one.
+/// The first place at which the index of a box's record may stand: such that boxes that differ seldom
+/// share one.
 fn own_place(key: &BoxKey) -> usize
     ensures { result < 16384 }
 {

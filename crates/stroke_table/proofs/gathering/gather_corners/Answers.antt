@@ -30,8 +30,8 @@ loop-bend-init c = record {
   places = refl;
 }
 
-pub place_of_number-place-requires-clause-number : goal.place_of_number-place-requires-clause-number
-place_of_number-place-requires-clause-number c =
+pub index_of_number-index-requires-clause-number : goal.index_of_number-index-requires-clause-number
+index_of_number-index-requires-clause-number c =
     inr (c.loop-bend.bend, omega (arith, c.loop-bend.auto.bend), omega (arith, c.loop-bend-test.true, c.bends-bend-end.ensures.value), sym c.contains.ensures ∙ c.if-contains.true, refl)
 
 pub loop-bend-preserved : goal.loop-bend-preserved
@@ -51,14 +51,14 @@ loop-bend-preserved c =
     elim c.if-contains.branch [
       | then-contains w ↦
           let found = w.box_at.result.now.found in
-          let of_number = subst (λ (one : Option BoxRecord). IfSome one (λ record_. IsFoundOf job mask key (12 + bend) record_.found)) w.box_at.ensures w.place_of_number-place.ensures.found in
+          let of_number = subst (λ (one : Option BoxRecord). IfSome one (λ record_. IsFoundOf job mask key (12 + bend) record_.found)) w.box_at.ensures w.index_of_number-index.ensures.found in
           let folded = sym c.contains.ensures ∙ w.if-contains.true in
           let is : IsNumberOfBox (shape_of job) mask (12 + bend) = inr (bend, some, inside, folded, refl) in
           let long = length-append before.boxes.items (found.body ∷ []) in
           let items : c.if-contains.gathered.boxes.items ≡ before.boxes.items ++ found.body ∷ [] = ap (λ (g : StrokeBoxes). g.boxes.items) w.gathered-is ∙ w.take.ensures.boxes in
           let len = ap length items in
           record {
-            kept = subst (AreKept job) (sym w.kept-is) w.place_of_number-place.ensures.kept;
+            kept = subst (AreKept job) (sym w.kept-is) w.index_of_number-index.ensures.kept;
             codes = subst (λ (g : StrokeBoxes). AreLeastCodes (stage_count job) (λ stage. IsOfBoxBelow job mask key stage (12 + (bend + 1))) g.codes.0) (sym w.gathered-is)
                 (subst (λ (n : ℕ). AreLeastCodes (stage_count job) (λ stage. IsOfBoxBelow job mask key stage n) w.take.new.self.codes.0) next
                 (box_more job mask key (12 + bend) before.codes.0 found.codes.0 w.take.new.self.codes.0 few is c.loop-bend.invariant.codes of_number.codes w.take.ensures.codes));

@@ -29,8 +29,8 @@ loop-number-init c =
       placed = ap length c.none-gathered.ensures.places;
     }
 
-pub place_of_number-place-requires-clause-number : goal.place_of_number-place-requires-clause-number
-place_of_number-place-requires-clause-number c = inl (omega (arith, c.loop-number-test.true, c.bends-number-end.ensures.value))
+pub index_of_number-index-requires-clause-number : goal.index_of_number-index-requires-clause-number
+index_of_number-index-requires-clause-number c = inl (omega (arith, c.loop-number-test.true, c.bends-number-end.ensures.value))
 
 pub loop-number-preserved : goal.loop-number-preserved
 loop-number-preserved c =
@@ -39,12 +39,12 @@ loop-number-preserved c =
     let n = c.loop-number.number in
     let before = c.loop-number.gathered in
     let found = c.box_at.result.now.found in
-    let of_number = subst (λ (one : Option BoxRecord). IfSome one (λ record_. IsFoundOf job stroke.mask stroke.of n record_.found)) c.box_at.ensures c.place_of_number-place.ensures.found in
+    let of_number = subst (λ (one : Option BoxRecord). IfSome one (λ record_. IsFoundOf job stroke.mask stroke.of n record_.found)) c.box_at.ensures c.index_of_number-index.ensures.found in
     let inside : n < length job.part.faces = omega (arith, c.loop-number-test.true, c.bends-number-end.ensures.value) in
     let long = length-append before.boxes.items (found.body ∷ []) in
     let far = length-append before.places.items (found.place ∷ []) in
     record {
-      kept = c.place_of_number-place.ensures.kept;
+      kept = c.index_of_number-index.ensures.kept;
       codes = box_more job stroke.mask stroke.of n before.codes.0 found.codes.0 c.take_face.new.self.codes.0 (omega (arith, c.requires.kept.around.few)) (inl inside) c.loop-number.invariant.codes of_number.codes c.take_face.ensures.codes;
       boxes = push_next (λ k. stroke_box job stroke.mask stroke.of k 0) 0 n n _ _ _ c.take_face.ensures.boxes c.loop-number.invariant.boxes of_number.body (omega arith);
       count = ap length c.take_face.ensures.boxes ∙ omega (arith, long, c.loop-number.invariant.count);

@@ -1,4 +1,4 @@
-use Rattle.std.proofs.Common.{◌∙◌, ◌<◌, length, Some, arith}
+use Rattle.std.proofs.Common.{◌<◌, length, Some, arith}
 use Rattle.std.proofs.lemmas.List.{length-set}
 use Rattle.stroke_table.specs.Records.{IsGroupRecord}
 use Rattle.stroke_table.proofs.TrueRecords.{record_more}
@@ -9,11 +9,13 @@ returns c = λ job kept is.
     let records = c.args.self.now.groups.items in
     let place = c.group_place-place.result in
     let within : place < length records = omega (arith, c.group_place-place.ensures, c.requires) in
+    let long = length-set records place (Some c.args.found) in
     record {
       around = kept.around;
       deciding = kept.deciding;
-      box_count = kept.box_count;
+      index_count = kept.index_count;
+      room = kept.room;
       boxes = kept.boxes;
-      group_count = length-set records place (Some c.args.found) ∙ kept.group_count;
+      some_place = omega (arith, long, kept.some_place);
       groups = record_more (IsGroupRecord job) records place c.args.found within is kept.groups;
     }

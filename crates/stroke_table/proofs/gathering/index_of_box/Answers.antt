@@ -2,9 +2,10 @@ use Rattle.std.proofs.Common.{Option, refl, sym, subst}
 use Rattle.std.specs.Prelude.{IfSome, IsSome}
 use Rattle.stroke_table.specs.declared.keys.BoxKey.{BoxKey}
 use Rattle.stroke_table.specs.declared.records.BoxRecord.{BoxRecord}
-use Rattle.stroke_table.specs.Records.{IsBoxKey, IsFoundBox}
+use Rattle.stroke_table.specs.Records.{IsBoxKey, IsBoxRecord, IsFoundBox}
 use Rattle.stroke_table.proofs.BoxCodes.{box_carried}
-use Rattle.stroke_table.proofs.gathering.place_of_box.Goals as goal
+use Rattle.stroke_table.proofs.TrueRecords.{record_at}
+use Rattle.stroke_table.proofs.gathering.index_of_box.Goals as goal
 
 pub returns-in-Ok-clause-some : goal.returns-in-Ok-clause-some
 returns-in-Ok-clause-some c = subst IsSome (sym c.in-Ok.ensures.found.1) refl
@@ -16,7 +17,7 @@ returns-in-Ok-clause-found c =
     let at = c.in-Ok.ensures.found in
     let one : BoxRecord = at.0 in
     let same = at.2 in
-    let found = c.requires.kept.boxes c.in-Ok.place one at.1 mask c.requires.mask (subst (IsBoxKey job mask) (sym same) c.requires.box_) in
+    let found = record_at (IsBoxRecord job) c.args.kept.now.boxes.items c.in-Ok.index one at.1 c.requires.kept.boxes mask c.requires.mask (subst (IsBoxKey job mask) (sym same) c.requires.box_) in
     subst (λ (o : Option BoxRecord). IfSome o (λ record_. IsFoundBox job mask c.args.key.now record_.found)) (sym at.1) (subst (λ (key : BoxKey). IsFoundBox job mask key one.found) same found)
 
 pub returns-in-Err-clause-kept : goal.returns-in-Err-clause-kept

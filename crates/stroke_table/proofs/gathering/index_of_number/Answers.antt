@@ -3,7 +3,7 @@ use Rattle.std.specs.Prelude.{IfSome}
 use Rattle.stroke_table.specs.declared.keys.GroupKey.{GroupKey}
 use Rattle.stroke_table.specs.declared.records.BoxRecord.{BoxRecord}
 use Rattle.stroke_table.specs.Records.{IsFoundOf}
-use Rattle.stroke_table.proofs.gathering.place_of_number.Goals as goal
+use Rattle.stroke_table.proofs.gathering.index_of_number.Goals as goal
 
 where_some : (P Q : BoxRecord → Type 0) (o : Option BoxRecord) → ((one : BoxRecord) → P one → Q one) → IfSome o P → IfSome o Q
 where_some P Q None each is = is
@@ -15,4 +15,4 @@ returns-clause-found c =
     let mask = c.args.stroke.now.mask in
     where_some _ _ _
     (λ one found. subst (λ (of : GroupKey). IsFoundOf job mask of c.args.number one.found) c.box_key-key.ensures.of (subst (λ (n : ℕ). IsFoundOf job mask c.box_key-key.result.of n one.found) c.box_key-key.ensures.number found))
-    c.place_of_box.ensures.found
+    c.index_of_box.ensures.found
