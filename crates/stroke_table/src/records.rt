@@ -42,8 +42,8 @@ pub struct GroupRecord {
 
 /// What is kept of a job for its strokes: what stands around the part at each stage, which bends
 /// decide where a box lies, and records of groups and of boxes. A group's record stands at a place
-/// that follows from its key, until another takes it. The records of boxes stand as they came: the
-/// index of one stands at a place that follows from its key, or shortly behind it.
+/// that follows from its key. The records of boxes stand as they came: the index of one stands at a
+/// place that follows from its key, or shortly behind it, until another takes it.
 #[derive(Drop)]
 pub struct StrokeRecords {
     pub around: Vec<Surroundings>,
