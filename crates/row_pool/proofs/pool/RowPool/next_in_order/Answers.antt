@@ -1,4 +1,4 @@
-use Rattle.std.proofs.Common.{◌≡◌, ℕ, Option, sym, subst}
+use Rattle.std.proofs.Common.{ℕ, Option, sym, subst}
 use Rattle.std.specs.Prelude.{IfSome, IfNone}
 use Rattle.row_pool.specs.Order.{IsNextRow, HasNoNext}
 use Rattle.row_pool.proofs.NextRowLemmas.{found_so, none_so, placed_by, first_row, no_first}
