@@ -1,7 +1,10 @@
 -- What is written of a pool after a run is its certificate.
-use Rattle.std.proofs.Common.{◌≡◌, inl, inr, ℕ, ◌*◌, ◌≤◌, List, ◌++◌, codes, min, Some, arith, refl, sym, ◌∙◌, ap, subst}
+use Rattle.std.proofs.Common.{◌≡◌, inl, inr, ℕ, ◌*◌, ◌^◌, ◌≤◌, List, ◌++◌, get_or, codes, min, Some, arith, refl, sym, ◌∙◌, ap, subst}
 use Rattle.std.specs.Prelude.{slice_get, option_and_then}
-use Rattle.std.proofs.lemmas.Option.{slice_get_cases, same_Some, none-some}
+use Rattle.std.proofs.Math.Pow.{pow_mono}
+use Rattle.std.proofs.lemmas.List.Elements.{All-map}
+use Rattle.std.proofs.lemmas.Option.{slice_get_cases, slice_get-get_or, same_Some, none-some}
+use Rattle.brake_base.specs.declared.stroke.Key.{Key}
 use Rattle.brake_base.specs.declared.stroke.Half.{Half}
 use Rattle.brake_base.specs.declared.stroke.Half.TheVariants.{Back, Front}
 use Rattle.brake_base.specs.declared.stroke.Step.{Step}
@@ -9,10 +12,13 @@ use Rattle.brake_base.specs.declared.stroke.Worth.{Worth}
 use Rattle.brake_base.specs.declared.reason.Reason.{Reason}
 use Rattle.brake_base.specs.declared.reason.Reason.TheVariants.{Cover, Rest, Frame, Upper, Nose, Lower, SelfHit, NoGauge, Load}
 use Rattle.stage_lanes.specs.Codes.{IsCoded}
-use Rattle.job_setup.specs.Setup.{JobData, stage_count}
+use Rattle.job_setup.specs.Setup.{JobData, bend_count, stage_count}
 use Rattle.job_setup.specs.ValidJob.{IsJob}
+use Rattle.handling_cost.specs.StepCost.{IsKeyOf}
 use Rattle.handling_cost.specs.Reach.{nodes}
+use Rattle.handling_cost.proofs.Actions.{few_bends}
 use Rattle.handling_cost.proofs.Nodes.{reached_in_range}
+use Rattle.row_pool.specs.Index.{HasPlace}
 use Rattle.row_pool.specs.Rows.{Pool, PoolRow, IsPool}
 use Rattle.plan_cert.specs.Cert.{CertData}
 use Rattle.plan_cert.specs.CertText.{rows_lines, cert_text2}
@@ -48,6 +54,14 @@ module _ (job : JobData) (is_job : IsJob job) (pool : Pool) (budget : ℕ) (step
   few : stage_count job ≤ 6
   few = is_job.setup.stages.few_stages
 
+  -- a key in range is one of 12 bends at a stage of the machine
+  key_placed : (key : Key) → pool.actions ≡ 24 * stage_count job → IsKeyOf job key → HasPlace pool.actions key
+  key_placed key actions is =
+      let wide = is.mask in
+      let most : 2 ^ bend_count job ≤ 2 ^ 12 = pow_mono (few_bends job is_job) in
+      let stage = is.stage in
+      record { mask = omega (arith, wide, most); attitude = is.attitude; stage = omega (arith, actions, stage) }
+
   -- the rows that a run with a claim leaves can be written
   pub can_write : pool.actions ≡ 24 * stage_count job → AreWritable (stage_count job) pool
   can_write actions =
@@ -57,7 +71,8 @@ module _ (job : JobData) (is_job : IsJob job) (pool : Pool) (budget : ℕ) (step
         actions = actions;
         done = all_done job pool budget steps claim answer;
         worths = λ i row worth at is. worth_ranged worth (λ cost same. good.most i row cost at (is ∙ ap Some same));
-        at_stages = λ i row at. (reached_in_range job is_job row.key (good.nodes i row at).reached).stage;
+        placed = All-map (HasPlace pool.actions) (λ (r : PoolRow). r.key) pool.rows (λ i d within.
+            key_placed (get_or pool.rows i d).key actions (reached_in_range job is_job (get_or pool.rows i d).key (good.nodes i (get_or pool.rows i d) (slice_get-get_or pool.rows i d within)).reached));
         coded = λ row action reason has. elim (slice_get_cases pool.rows row).1 [
           | inl here ↦
               let noted = good.noted row here.0 here.2 action reason (sym (reason_of_row pool row action here.0 here.2) ∙ has) in

@@ -31,4 +31,5 @@ pub mod CertForms
 pub mod WriterLemmas
 pub mod WrittenNotes
 pub mod WrittenLemmas
+pub mod NextRows
 pub mod CertWritten

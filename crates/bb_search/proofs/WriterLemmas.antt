@@ -1,6 +1,7 @@
 -- What a writer knows of a pool's reasons.
 use Rattle.std.proofs.Common.{◌≡◌, ◌≢◌, inl, inr, ◌⊎◌, ℕ, ◌+◌, ◌*◌, ◌/◌, ◌%◌, ◌<◌, ◌||◌, ◌&&◌, ◌==◌, not, nat_lt, Bool, true, false, if◌then◌else◌, List, Option, Some, None, IsTrue, arith, refl, sym, ◌∙◌, ap, subst, true≢false}
-use Rattle.std.specs.Prelude.{slice_get, is_some}
+use Rattle.std.specs.Prelude.{slice_get, is_some, All}
+use Rattle.std.proofs.lemmas.Option.{slice_get_within, get_or_from_slice_get}
 use Rattle.std.proofs.lemmas.Bool.{cases_eq, or_left, or_right, and_from, and_parts}
 use Rattle.brake_base.specs.declared.mask.Mask.{Mask}
 use Rattle.brake_base.specs.declared.stroke.Key.{Key}
@@ -10,12 +11,13 @@ use Rattle.brake_base.specs.Actions.{IsActionAmong, number_of_action}
 use Rattle.stage_lanes.specs.declared.actions.ActionSet.{ActionSet}
 use Rattle.stage_lanes.specs.ActionSets.{has_place, place_of, ArePlaces, IsNone}
 use Rattle.plan_cert.specs.declared.cert.RowHead.{RowHead}
+use Rattle.row_pool.specs.Index.{HasPlace}
 use Rattle.row_pool.specs.Rows.{Pool, PoolRow, keys, reason_at, common_at}
 use Rattle.row_text.specs.Notes.{SetNotes, IsAmong, number_at, GoOnAs}
 use Rattle.row_text.specs.Notes.{reason_at as reason_of}
 use Rattle.row_text.proofs.ActionPlaces.{number_of_place}
 use Rattle.bb_search.specs.CertRows.{IsHeadOf}
-use Rattle.bb_search.specs.WrittenRows.{AreNoted, IsWriterOf, IsRowWritten}
+use Rattle.bb_search.specs.WrittenRows.{AreWritable, AreNoted, IsWriterOf, IsRowWritten}
 use Rattle.bb_search.proofs.CertLemmas.{mapped}
 
 -- ---- one reason more
@@ -154,3 +156,16 @@ row_written pool stages row head notes said old new is are writer among common g
   where
     noted : AreNoted pool said.stages row notes
     noted = subst (λ (s : ℕ). AreNoted pool s row notes) (sym writer.its_stages) are
+
+-- ---- the keys of rows
+pub placed_at : (pool : Pool) (places : ℕ) → All (HasPlace places) (keys pool) → (row : ℕ) (it : PoolRow) → slice_get pool.rows row ≡ Some it → HasPlace places it.key
+placed_at pool places placed row it at =
+    let there = mapped (λ (r : PoolRow). r.key) pool.rows row it at in
+    subst (HasPlace places) (get_or_from_slice_get (keys pool) row it.key it.key there) (placed row it.key (slice_get_within (keys pool) row it.key there))
+
+pub stage_of_head : (pool : Pool) (stages : ℕ) → AreWritable stages pool → (row : ℕ) (head : RowHead) → IsHeadOf pool.rows row head → head.key.stage < stages
+stage_of_head pool stages writable row head is =
+    let has = placed_at pool pool.actions writable.placed row is.0 is.1 in
+    let stage = subst (λ (k : Key). k.stage < pool.actions / 24) is.2 has.stage in
+    let actions = writable.actions in
+    omega (arith, stage, actions)

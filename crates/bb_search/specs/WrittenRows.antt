@@ -1,13 +1,14 @@
 -- The text of a pool's rows and of their reasons.
 use Rattle.std.specs.Prelude.{◌≡◌, ◌≢◌, ℕ, ◌+◌, ◌*◌, ◌/◌, ◌%◌, ◌<◌, ◌≤◌, true, false, IsTrue}
-use Rattle.std.specs.Prelude.{Some, None, List, [], ◌∷◌, ◌++◌, length, map, slice_get}
+use Rattle.std.specs.Prelude.{Some, None, List, [], ◌∷◌, ◌++◌, length, map, slice_get, All}
 use Rattle.brake_base.specs.declared.stroke.Step.{Step}
 use Rattle.brake_base.specs.declared.stroke.Worth.{Worth}
 use Rattle.brake_base.specs.declared.reason.Reason.{Reason}
 use Rattle.stage_lanes.specs.declared.actions.ActionSet.{ActionSet}
 use Rattle.stage_lanes.specs.ActionSets.{has_place}
 use Rattle.stage_lanes.specs.Codes.{IsCoded}
-use Rattle.row_pool.specs.Rows.{Pool, PoolRow, worth_at, reason_at, common_at}
+use Rattle.row_pool.specs.Index.{HasPlace}
+use Rattle.row_pool.specs.Rows.{Pool, PoolRow, keys, worth_at, reason_at, common_at}
 use Rattle.plan_cert.specs.declared.cert.RowHead.{RowHead}
 use Rattle.plan_cert.specs.declared.cert.Note.{Note}
 use Rattle.job_setup.specs.Setup.{JobData}
@@ -31,7 +32,8 @@ beginning_text job claim steps =
 abbrev pub without_rows : Worth → List Step → CertData
 without_rows claim steps = record { claim = claim; steps = steps; rows = []; notes = [] }
 
--- each row has a worth and is at a stage of the machine, and all that is written of it is in range
+-- each row has a worth, its key is one of 12 bends at a stage of the machine, and all that is
+-- written of it is in range
 pub record AreWritable (stages : ℕ) (pool : Pool) : Type 0 where
   pub few : stages ≤ 6
   pub actions : pool.actions ≡ 24 * stages
@@ -39,8 +41,7 @@ pub record AreWritable (stages : ℕ) (pool : Pool) : Type 0 where
   pub worths :
       (i : ℕ) (row : PoolRow) (worth : Worth) → slice_get pool.rows i ≡ Some row
       → row.worth ≡ Some worth → IsWorth worth
-  pub at_stages :
-      (i : ℕ) (row : PoolRow) → slice_get pool.rows i ≡ Some row → row.key.stage < stages
+  pub placed : All (HasPlace pool.actions) (keys pool)
   pub coded :
       (row action : ℕ) (reason : Reason) → reason_at pool row action ≡ Some reason
       → IsCoded reason

@@ -6,7 +6,7 @@ ghost use Rattle.plan_cert.specs.WellFormed.{IsWellFormed};
 ghost use Rattle.row_text.specs.Notes.{IsAmong, AreOfStages, number_at};
 ghost use Rattle.bb_search.specs.WrittenRows.{beginning_text, without_rows, AreWritable, IsWriterOf, IsRowWritten, AreAllRowsWritten};
 
-use crate::certificate::{row_head, row_of_order, sorted_rows};
+use crate::certificate::row_head;
 use arrayvec::ArrayVec;
 use brake_base::{Mask, Reason, Step, Worth, action_number};
 use job_setup::Job;
@@ -137,11 +137,12 @@ pub(crate) fn put_rows(
     ensures rows { OnOk result (AreAllRowsWritten pool.now stages out.old.items out.new.items) }
     ensures pool { OnOk result (IsPool pool.now) }
 {
-    let orders = sorted_rows(alloc, pool)?;
     out.reserve(pool.len() as usize * ROW_ROOM)?;
     let mut writer = RowWriter::open(alloc, stages, Mask::empty())?;
-    for order in &orders {
-        put_row(pool, row_of_order(*order), stages, &mut writer, out)?;
+    let mut next = pool.next_in_order(None);
+    while let Some(row) = next {
+        put_row(pool, row, stages, &mut writer, out)?;
+        next = pool.next_in_order(Some(row));
     }
     Ok(())
 }

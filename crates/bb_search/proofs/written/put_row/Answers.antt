@@ -1,6 +1,6 @@
-use Rattle.std.proofs.Common.{◌≡◌, ◌/◌, ◌∙◌, arith}
+use Rattle.std.proofs.Common.{◌≡◌, ◌/◌, ◌<◌, ℕ, sym, ◌∙◌, subst, arith}
 use Rattle.std.proofs.lemmas.Result.{on_ok_weaker}
-use Rattle.bb_search.proofs.WriterLemmas.{noted_at, commons, all_known, row_written}
+use Rattle.bb_search.proofs.WriterLemmas.{noted_at, commons, all_known, row_written, stage_of_head}
 use Rattle.bb_search.proofs.written.put_row.Goals as goal
 
 pub set_reasons-requires-clause-writer : goal.set_reasons-requires-clause-writer
@@ -9,6 +9,11 @@ set_reasons-requires-clause-writer c = c.in_ok-turn_to.ensures.writer c.args.poo
 pub set_reasons-requires-clause-common : goal.set_reasons-requires-clause-common
 set_reasons-requires-clause-common c =
     commons c.args.pool.now c.args.row c.row_head-head.result c.turn_to.new.writer.mask c.row_head-head.ensures c.in_ok-turn_to.ensures.mask c.notes-notes.ensures.common
+
+pub put_row-requires-clause-stage : goal.put_row-requires-clause-stage
+put_row-requires-clause-stage c =
+    subst (λ (n : ℕ). c.row_head-head.result.key.stage < n) (sym c.in_ok-set_reasons.ensures.writer.its_stages)
+    (stage_of_head c.args.pool.now c.args.stages c.requires.writable c.args.row c.row_head-head.result c.row_head-head.ensures)
 
 pub returns-clause-text : goal.returns-clause-text
 returns-clause-text c =
