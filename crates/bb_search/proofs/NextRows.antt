@@ -1,11 +1,10 @@
 -- The rows of a pool one after the other, in the order of their keys.
-use Rattle.std.proofs.Common.{◌≡◌, ◌≢◌, inl, inr, ℕ, zero, suc, ◌+◌, ◌-◌, ◌*◌, ◌/◌, ◌<◌, ◌≤◌, nat_lt, if◌then◌else◌, Bool, true, false, List, [], ◌∷◌, ◌++◌, length, get_or, Option, Some, None, arith, refl, sym, ◌∙◌, ap, subst}
+use Rattle.std.proofs.Common.{◌≡◌, ◌≢◌, inl, inr, ℕ, zero, suc, ◌+◌, ◌-◌, ◌*◌, ◌<◌, ◌≤◌, nat_lt, if◌then◌else◌, Bool, true, false, List, [], ◌∷◌, ◌++◌, length, get_or, Option, Some, None, arith, refl, sym, ◌∙◌, ap, subst}
 use Rattle.std.specs.Prelude.{slice_get, All, IfSome, IfNone, IsPermutation}
 use Rattle.std.specs.List.{insert}
 use Rattle.std.specs.List.Sorted.{IsNonDecreasing}
 use Rattle.std.proofs.lemmas.Bool.{cases_lt}
 use Rattle.std.proofs.lemmas.Bool.Decides.{eqb_tells}
-use Rattle.std.proofs.lemmas.List.{length-map}
 use Rattle.std.proofs.lemmas.List.Sorted.{IsNonDecreasingBy-insert, IsPermutation-refl, IsPermutation-cons, IsPermutation-insert, IsPermutation-trans}
 use Rattle.std.proofs.lemmas.Option.{slice_get-get_or, slice_get_within, get_or_from_slice_get, same_Some, none-some}
 use Rattle.brake_base.specs.declared.stroke.Key.{Key}
@@ -69,7 +68,7 @@ in_order (x ∷ xs) =
       insert ys place x,
       IsPermutation-trans (x ∷ xs) (x ∷ ys) (insert ys place x) (IsPermutation-cons x xs ys rest.1) (IsPermutation-insert ys place x),
       IsNonDecreasingBy-insert (λ (n : ℕ). n) ys place x rest.2 (place_within x ys) (lesser_before x ys)
-      (λ k d later within. let here = greater_here x ys d (omega (arith, later, within)) in let up = rest.2 place k d later within in omega (arith, here, up)),
+          (λ k d later within. let here = greater_here x ys d (omega (arith, later, within)) in let up = rest.2 place k d later within in omega (arith, here, up)),
     )
 
 -- ---- the places of all rows in the order of keys
@@ -80,13 +79,16 @@ some_at (row ∷ rows) (suc i) low = some_at rows i (omega (arith, low))
 
 module _ (rows : List PoolRow) (few : length rows < 4294967296) where
   orders_of : (count : ℕ) → count ≤ length rows → (orders : List ℕ) × AreRowOrders rows count orders
-  orders_of zero low = ([], record {
-    all = refl;
-    each = λ i row before at. absurd (omega (arith, before));
-    only = λ k d within. absurd (omega (arith, within));
-    below = λ k d within. absurd (omega (arith, within));
-    distinct = λ i j d before within. absurd (omega (arith, within));
-  })
+  orders_of zero low = (
+    [],
+    record {
+      all = refl;
+      each = λ i row before at. absurd (omega (arith, before));
+      only = λ k d within. absurd (omega (arith, within));
+      below = λ k d within. absurd (omega (arith, within));
+      distinct = λ i j d before within. absurd (omega (arith, within));
+    },
+  )
   orders_of (suc count) low =
       let before = orders_of count (omega (arith, low)) in
       let row = some_at rows count (omega (arith, low)) in

@@ -1,4 +1,4 @@
-use Rattle.std.proofs.Common.{◌≡◌, ◌<◌, ℕ, length, Option, sym, ◌∙◌, subst, arith, true≢false}
+use Rattle.std.proofs.Common.{◌<◌, ℕ, length, Option, sym, ◌∙◌, subst, arith, true≢false}
 use Rattle.bb_search.proofs.NextRows.{AreWrittenBefore, left_from, none_before, one_more, row_before, less_left, all_before}
 use Rattle.bb_search.proofs.written.put_rows.Goals as goal
 
