@@ -1,123 +1,132 @@
--- The cheapest action of a set, place by place.
-use Rattle.std.proofs.Common.{◌≡◌, ℕ, ◌+◌, ◌-◌, ◌<◌, ◌≤◌, true, false, IsTrue, Option, Some, None, IfSome, IfNone, ap, sym, ◌∙◌, subst, arith, inl, inr, true≢false}
-use Rattle.std.proofs.lemmas.Bool.{cases_lt, cases_eq, false_from_ne_true}
+-- The least cost of a set's actions, side by side, and the first action with it.
+use Rattle.std.proofs.Common.{◌≡◌, ℕ, ◌+◌, ◌*◌, ◌/◌, ◌%◌, ◌<◌, ◌≤◌, true, false, Bool, ◌&&◌, ◌==◌, nat_le, min, refl, if◌then◌else◌, IsTrue, Option, Some, None, IfNone, List, slice_index, ap, sym, ◌∙◌, arith, inl, inr, true≢false}
+use Rattle.std.proofs.lemmas.Bool.{cases_lt, cases_eq, cases_Bool, eqb-true, eq-eqb, le-leb}
+use Rattle.brake_base.specs.declared.mask.Mask.{Mask}
+use Rattle.brake_base.specs.Masks
+use Rattle.brake_base.specs.declared.stroke.Back.{Back}
+use Rattle.brake_base.specs.declared.stroke.Back.TheVariants.{Parent, Child}
+use Rattle.brake_base.specs.Actions.{IsActionAmong, back_number}
 use Rattle.brake_base.specs.declared.stroke.Action.{Action}
-use Rattle.brake_base.specs.Actions.{IsActionAmong}
 use Rattle.stage_lanes.specs.declared.actions.ActionSet.{ActionSet}
-use Rattle.stage_lanes.specs.ActionSets.{has_place, place_of, IsNone}
+use Rattle.stage_lanes.specs.declared.stages.StageSet.{StageSet}
+use Rattle.stage_lanes.specs.Stages
+use Rattle.stage_lanes.specs.Stages.{AreStages}
+use Rattle.stage_lanes.specs.Lanes.{AreLanes, IsLeastLane}
+use Rattle.stage_lanes.specs.ActionSets.{has_place, place_of, ArePlaces, IsNone, IsFirst}
 use Rattle.action_lanes.specs.declared.costs.ActionCosts.{ActionCosts}
-use Rattle.action_lanes.specs.Costs.{cost_at, IsEarlier, IsCheapest}
-use Rattle.action_lanes.specs.Cheapest.{IsCheapestTo, IsNoneCheaper, IsCheaper}
+use Rattle.action_lanes.specs.Costs.{cost_at, is_of, IsCheapest}
+use Rattle.action_lanes.specs.Cheapest.{IsLeastIn}
+use Rattle.action_lanes.proofs.CostLemmas.{place_is}
 
--- none comes before itself
-irreflexive : (costs : ActionCosts) (a b : ℕ) → a ≡ b → IsEarlier costs a b → ⊥
-irreflexive costs a b e (inl low) = let f = ap (cost_at costs) e in omega (arith, low, f)
-irreflexive costs a b e (inr tie) = let p = tie.1 in omega (arith, p, e)
+-- each lane is the cost of one of the set's actions, and the least of its stage at the sides before
+-- a side
+pub record AreLowIn (costs : ActionCosts) (set : ActionSet) (sides : ℕ) (low : List ℕ) : Type 0 where
+  pub least : (place : ℕ) → place / 8 < sides → IsTrue (has_place set place) → slice_index low (place % 8) ≤ cost_at costs place
+  pub attained : (stage : ℕ) → stage < 8 → (place : ℕ) × (place < 192) × IsTrue (has_place set place) × (cost_at costs place ≡ slice_index low stage)
 
--- one before a cheaper action comes before the dearer one
-before_cheaper : (costs : ActionCosts) (place second first : ℕ) → IsEarlier costs place second → cost_at costs second < cost_at costs first → IsEarlier costs place first
-before_cheaper costs place second first (inl low) less = inl (omega (arith, low, less))
-before_cheaper costs place second first (inr tie) less = let e = tie.0 in inl (omega (arith, e, less))
+back_few : (back : Back) → back_number back < 2
+back_few Parent = omega arith
+back_few Child = omega arith
 
--- one at a later place that costs no less doesn't come before
-later_stays : (costs : ActionCosts) (place first : ℕ) → first < place → cost_at costs first ≤ cost_at costs place → IsEarlier costs place first → ⊥
-later_stays costs place first late most (inl low) = omega (arith, low, most)
-later_stays costs place first late most (inr tie) = let p = tie.1 in omega (arith, p, late)
+place_low : (action : Action) → IsActionAmong 12 8 action → place_of action < 192
+place_low action among = omega (arith, place_is action, back_few action.back, among.last, among.stage)
 
 module _ (costs : ActionCosts) (set : ActionSet) where
-  pub at_place : (m n : ℕ) (first : Option Action) → m ≡ n → IsCheapestTo costs set m first → IsCheapestTo costs set n first
-  at_place m n first e cheapest = subst (λ k. IsCheapestTo costs set k first) e cheapest
-
-  pub among_of : (n : ℕ) (action : Action) → IsCheapestTo costs set n (Some action) → IsActionAmong 12 8 action
-  among_of n action cheapest = cheapest.among
-
-  -- the place isn't in the set
-  pub left_out : (n : ℕ) (first : Option Action) → has_place set n ≡ false → IsCheapestTo costs set n first → IsCheapestTo costs set (n + 1) first
-  left_out n None out before = λ place h. elim (cases_eq place n) [
-    | inl same ↦ ap (has_place set) same ∙ out
-    | inr apart ↦ before place (omega (arith, h, apart))
-  ]
-  left_out n (Some action) out before = record {
-    among = before.among;
-    member = before.member;
-    below = let b = before.below in omega (arith, b);
-    none_earlier = λ place h t. elim (cases_eq place n) [
-      | inl same ↦ absurd (true≢false (sym t ∙ ap (has_place set) same ∙ out))
-      | inr apart ↦ before.none_earlier place (omega (arith, h, apart)) t
-    ];
+  pub one_low_in : (one : Action) (low : List ℕ) (cost : ℕ) → IsActionAmong 12 8 one → IsTrue (has_place set (place_of one)) → cost ≡ cost_at costs (place_of one)
+      → AreLanes low (λ stage. cost) → AreLowIn costs set 0 low
+  one_low_in one low cost among its is all = record {
+    least = λ place past. absurd (omega (arith, past));
+    attained = λ stage h. (place_of one, place_low one among, its, sym is ∙ sym (all stage h));
   }
 
-  -- the action at the place is the cheapest now
-  taken : (n : ℕ) (second : Action) → has_place set n ≡ true → IsActionAmong 12 8 second → place_of second ≡ n
-      → ((place : ℕ) → place < n → IsTrue (has_place set place) → IsEarlier costs place (place_of second) → ⊥)
-      → IsCheapestTo costs set (n + 1) (Some second)
-  taken n second its among at none = record {
-    among = among;
-    member = ap (has_place set) at ∙ its;
-    below = omega (arith, at);
-    none_earlier = λ place h t. elim (cases_eq place n) [
-      | inl same ↦ irreflexive costs place (place_of second) (same ∙ sym at)
-      | inr apart ↦ none place (omega (arith, h, apart)) t
+  -- the set has no action at the side
+  pub side_empty : (side : ℕ) (stages : StageSet) (low : List ℕ) → AreStages stages (λ stage. has_place set (8 * side + stage)) → AreStages stages (λ stage. false)
+      → AreLowIn costs set side low → AreLowIn costs set (side + 1) low
+  side_empty side stages low are none before = record {
+    least = λ place past t. elim (cases_eq (place / 8) side) [
+      | inl same ↦
+          let at : 8 * side + place % 8 ≡ place = omega (arith, same) in
+          absurd (true≢false (sym t ∙ sym (ap (has_place set) at) ∙ sym (are (place % 8) (omega arith)) ∙ none (place % 8) (omega arith)))
+      | inr apart ↦ before.least place (omega (arith, past, apart)) t
     ];
+    attained = before.attained;
   }
 
-  pub compared : (n : ℕ) (first : Option Action) (second one : Action) → has_place set n ≡ true → IsActionAmong 12 8 second → place_of second ≡ n
-      → IsCheaper costs first second one → IsCheapestTo costs set n first → IsCheapestTo costs set (n + 1) (Some one)
-  compared n None second one its among at is before =
-      subst (λ a. IsCheapestTo costs set (n + 1) (Some a)) (sym is) (taken n second its among at (λ place h t _. true≢false (sym t ∙ before place h)))
-  compared n (Some first) second one its among at (inl cheaper) before =
-      subst (λ a. IsCheapestTo costs set (n + 1) (Some a)) (sym cheaper.1)
-      (taken n second its among at (λ place h t e. before.none_earlier place h t (before_cheaper costs place (place_of second) (place_of first) e cheaper.0)))
-  compared n (Some first) second one its among at (inr kept) before =
-      subst (λ a. IsCheapestTo costs set (n + 1) (Some a)) (sym kept.1) (record {
-        among = before.among;
-        member = before.member;
-        below = let b = before.below in omega (arith, b);
-        none_earlier = λ place h t. elim (cases_eq place n) [
-          | inl same ↦
-              let b = before.below in
-              let most = kept.0 in
-              let e = ap (cost_at costs) (same ∙ sym at) in
-              later_stays costs place (place_of first) (omega (arith, b, same)) (omega (arith, most, e))
-          | inr apart ↦ before.none_earlier place (omega (arith, h, apart)) t
+  pub side_lowered : (side : ℕ) (stages : StageSet) (low next kept lanes : List ℕ) → side < 24 → AreStages stages (λ stage. has_place set (8 * side + stage))
+      → AreLanes lanes (λ stage. cost_at costs (8 * side + stage))
+      → AreLanes kept (λ stage. if Stages.has stages stage then slice_index lanes stage else slice_index low stage)
+      → AreLanes next (λ stage. min (slice_index low stage) (slice_index kept stage))
+      → AreLowIn costs set side low → AreLowIn costs set (side + 1) next
+  side_lowered side stages low next kept lanes h are costed only both before = record {
+    least = λ place past t. let e = both (place % 8) (omega arith) in elim (cases_eq (place / 8) side) [
+      | inl same ↦
+          let at : 8 * side + place % 8 ≡ place = omega (arith, same) in
+          let f = member (place % 8) (omega arith) (ap (has_place set) at ∙ t) ∙ ap (cost_at costs) at in
+          omega (arith, e, f)
+      | inr apart ↦ let c = before.least place (omega (arith, past, apart)) t in omega (arith, e, c)
+    ];
+    attained = λ stage s. let e = both stage s in elim (cases_Bool (has_place set (8 * side + stage))) [
+      | inl its ↦ let f = member stage s its in elim (cases_lt (slice_index kept stage) (slice_index low stage)) [
+        | inl less ↦ (8 * side + stage, omega (arith, h, s), its, omega (arith, e, f, less))
+        | inr more ↦ stays stage s (omega (arith, e, more))
+      ]
+      | inr out ↦ let f = stranger stage s out in stays stage s (omega (arith, e, f))
+    ];
+  }
+    where
+      member : (stage : ℕ) → stage < 8 → has_place set (8 * side + stage) ≡ true → slice_index kept stage ≡ cost_at costs (8 * side + stage)
+      member stage s its = only stage s ∙ ap (λ t. if t then slice_index lanes stage else slice_index low stage) (are stage s ∙ its) ∙ costed stage s
+
+      stranger : (stage : ℕ) → stage < 8 → has_place set (8 * side + stage) ≡ false → slice_index kept stage ≡ slice_index low stage
+      stranger stage s out = only stage s ∙ ap (λ t. if t then slice_index lanes stage else slice_index low stage) (are stage s ∙ out)
+
+      stays : (stage : ℕ) → stage < 8 → slice_index low stage ≡ slice_index next stage → (place : ℕ) × (place < 192) × IsTrue (has_place set place) × (cost_at costs place ≡ slice_index next stage)
+      stays stage s same = let found = before.attained stage s in (found.0, found.1, found.2, found.3 ∙ same)
+
+  pub least_in_found : (sides : ℕ) (low : List ℕ) (value : ℕ) → 24 ≤ sides → AreLowIn costs set sides low → IsLeastLane low value → IsLeastIn costs set value
+  least_in_found sides low value past all least = record {
+    least = λ place h t. let l = least.least (place % 8) (omega arith) in let c = all.least place (omega (arith, h, past)) t in omega (arith, l, c);
+    attained = let found = all.attained least.lane.0 least.lane.1 in (found.0, found.1, found.2, found.3 ∙ least.lane.2);
+  }
+
+both_true : (a b c : Bool) → (a && b) && c ≡ true → (b ≡ true) × (c ≡ true)
+both_true true true true e = (refl, refl)
+both_true true true false e = absurd (true≢false (sym e))
+both_true true false c e = absurd (true≢false (sym e))
+both_true false b c e = absurd (true≢false (sym e))
+
+-- the first of the set's actions that have the least cost
+module _ (costs : ActionCosts) (set same both : ActionSet) (bends : Mask) (least : ℕ) (full : (bend : ℕ) → Masks.has bends bend ≡ (nat_le 1 bend && nat_le bend 12))
+    (equal : ArePlaces same (λ place. is_of bends place && (cost_at costs place == least))) (common : ArePlaces both (λ place. has_place same place && has_place set place))
+    (its : IsLeastIn costs set least) where
+  of_both : (place : ℕ) → place < 192 → has_place both place ≡ true → (cost_at costs place ≡ least) × IsTrue (has_place set place)
+  of_both place h t =
+      let tests = both_true (is_of bends place) (cost_at costs place == least) (has_place set place) (ap (λ b. b && has_place set place) (sym (equal place h)) ∙ sym (common place h) ∙ t) in
+      (eqb-true (cost_at costs place) least tests.0, tests.1)
+
+  to_both : (place : ℕ) → place < 192 → IsTrue (has_place set place) → cost_at costs place ≡ least → has_place both place ≡ true
+  to_both place h t e =
+      let folds : is_of bends place ≡ true = full (place / 16 + 1) ∙ (λ i. le-leb 1 (place / 16 + 1) (omega arith) i && le-leb (place / 16 + 1) 12 (omega (arith, h)) i) in
+      common place h ∙ (λ i. (equal place h ∙ (λ j. folds j && eq-eqb (cost_at costs place) least e j)) i && t i)
+
+  pub first_cheapest : (action : Action) → IsFirst both action → IsCheapest costs set action
+  first_cheapest action first =
+      let low = place_low action first.among in
+      let own = of_both (place_of action) low first.member in
+      record {
+        among = first.among;
+        member = own.1;
+        none_earlier = λ place h t earlier. elim earlier [
+          | inl less ↦ let l = its.least place h t in let e = own.0 in omega (arith, less, l, e)
+          | inr tie ↦ true≢false (sym (to_both place h t (tie.0 ∙ own.0)) ∙ first.none_before place tie.1)
         ];
-      })
+      }
 
-  -- none of the eight places from one on has an action that costs less
-  pub side_left : (n : ℕ) (first : Option Action) → ((stage : ℕ) → stage < 8 → IsTrue (has_place set (n + stage)) → IsNoneCheaper costs (n + stage) first)
-      → IsCheapestTo costs set n first → IsCheapestTo costs set (n + 8) first
-  side_left n None none before = λ place h. elim (cases_lt place n) [
-    | inl low ↦ before place low
-    | inr high ↦
-        let at : n + (place - n) ≡ place = omega (arith, high) in
-        false_from_ne_true (has_place set place) (λ t. none (place - n) (omega (arith, h, high)) (ap (has_place set) at ∙ t))
-  ]
-  side_left n (Some first) none before = record {
-    among = before.among;
-    member = before.member;
-    below = let b = before.below in omega (arith, b);
-    none_earlier = λ place h t. elim (cases_lt place n) [
-      | inl low ↦ before.none_earlier place low t
-      | inr high ↦
-          let at : n + (place - n) ≡ place = omega (arith, high) in
-          let b = before.below in
-          let most = none (place - n) (omega (arith, h, high)) (ap (has_place set) at ∙ t) in
-          let e = ap (cost_at costs) at in
-          later_stays costs place (place_of first) (omega (arith, b, high)) (omega (arith, most, e))
-    ];
-  }
+  pub none_cheapest : IsNone both → IsNone set
+  none_cheapest none place h =
+      let found = its.attained in
+      absurd (true≢false (sym (to_both found.0 found.1 found.2 found.3) ∙ none found.0 found.1))
 
-  pub none_yet : IsCheapestTo costs set 0 None
-  none_yet place h = absurd (omega (arith, h))
-
-  pub some_found : (until : ℕ) (first : Option Action) → 192 ≤ until → IsCheapestTo costs set until first → IfSome first (IsCheapest costs set)
-  some_found until None past found = tt
-  some_found until (Some action) past found = record {
-    among = found.among;
-    member = found.member;
-    none_earlier = λ place h. found.none_earlier place (omega (arith, h, past));
-  }
-
-  pub none_found : (until : ℕ) (first : Option Action) → 192 ≤ until → IsCheapestTo costs set until first → IfNone first (IsNone set)
-  none_found until None past found = λ place h. found place (omega (arith, h, past))
-  none_found until (Some action) past found = tt
+pub none_then : (action : Option Action) {P Q : Type 0} → (P → Q) → IfNone action P → IfNone action Q
+none_then None p h = p h
+none_then (Some a) p h = h

@@ -3,9 +3,9 @@ ghost use Rattle.std.specs.Prelude.{◌≡◌, ◌≢◌, ℕ, ◌+◌, ◌-◌,
 ghost use Rattle.brake_base.specs.Actions.{IsActionAmong};
 ghost use Rattle.stage_lanes.specs.Lanes.{AreLanes};
 ghost use Rattle.stage_lanes.specs.Stages;
-ghost use Rattle.stage_lanes.specs.ActionSets.{side_of, place_of, has_place, ArePlaces, IsNone};
+ghost use Rattle.stage_lanes.specs.ActionSets.{side_of, place_of, has_place, has, ArePlaces, IsNone};
 ghost use Rattle.action_lanes.specs.Costs.{cost_at, AreCosts, is_of, IsLeastCost, IsCheapest};
-ghost use Rattle.action_lanes.specs.Cheapest.{IsCheapestTo, IsNoneCheaper, IsCheaper};
+ghost use Rattle.action_lanes.specs.Cheapest.{IsLeastIn};
 
 use brake_base::{Action, Back, Mask};
 use stage_lanes::{ActionSet, BLOCKED, StageCosts, StageSet};
@@ -132,77 +132,24 @@ impl ActionCosts {
         ensures some { IfSome result (IsCheapest self.now set) }
         ensures none { IfNone result (IsNone set) }
     {
-        let mut first = None;
-        for bend in 1..13u8 {
-            first = self.first_with(set, bend, Back::Parent, first);
-            first = self.first_with(set, bend, Back::Child, first);
-        }
-        first
+        let least = self.least_in(set, set.first()?);
+        self.equal(Mask::full(12), least).intersection(set).first()
     }
 
-    /// The cheapest of an action and of the set's actions of a bend with this side at the back.
-    fn first_with(
-        &self,
-        set: ActionSet,
-        bend: u8,
-        back: Back,
-        first: Option<Action>,
-    ) -> Option<Action>
-        requires first { 1 ≤ bend }
-        requires last { bend ≤ 12 }
-        requires before { IsCheapestTo self.now set (8 * side_of bend back) first }
-        ensures { IsCheapestTo self.now set (8 * side_of bend back + 8) result }
+    /// The least cost of the set's actions, of which this is one.
+    fn least_in(&self, set: ActionSet, one: Action) -> u32
+        requires among { IsActionAmong 12 8 one }
+        requires member { IsTrue (has set one) }
+        ensures least { IsLeastIn self.now set result }
     {
-        if !self.has_cheaper(set, bend, back, first) {
-            return first;
-        }
-        let stages = set.stages(bend, back);
-        let mut first = first;
-        for stage in 0..8u8 {
-            if stages.contains(stage) {
-                first = Some(self.cheaper(first, Action { bend, back, stage }));
+        let mut low = StageCosts::all(self.cost(one));
+        for side in 0..24u8 {
+            let stages = set.stages_at(side);
+            if !stages.is_empty() {
+                low = low.lesser(self.lanes(side).only(stages, low));
             }
         }
-        first
-    }
-
-    /// Whether one of the set's actions of a bend with this side at the back costs less than an
-    /// action; where there is no action, whether the set has one.
-    fn has_cheaper(&self, set: ActionSet, bend: u8, back: Back, first: Option<Action>) -> bool
-        requires first { 1 ≤ bend }
-        requires last { bend ≤ 12 }
-        requires among { IfSome first (IsActionAmong 12 8) }
-        ensures { result ≡ false → (stage : ℕ) → stage < 8
-            → IsTrue (has_place set (8 * side_of bend back + stage))
-            → IsNoneCheaper self.now (8 * side_of bend back + stage) first }
-    {
-        let stages = set.stages(bend, back);
-        if stages.is_empty() {
-            return false;
-        }
-        let cheaper = match first {
-            Some(action) => { stages.intersection(self.side(bend, back).below(self.cost(action))) }
-            None => stages,
-        };
-        !cheaper.is_empty()
-    }
-
-    /// The second action where it costs less than the first or there is no first, else the first.
-    fn cheaper(&self, first: Option<Action>, second: Action) -> Action
-        requires first { IfSome first (IsActionAmong 12 8) }
-        requires second { IsActionAmong 12 8 second }
-        ensures { IsCheaper self.now first second result }
-    {
-        match first {
-            Some(action) => {
-                if self.cost(second) < self.cost(action) {
-                    second
-                } else {
-                    action
-                }
-            }
-            None => second,
-        }
+        low.least()
     }
 
     /// The costs at a side, by stage.

@@ -41,6 +41,9 @@ fn costs_of_actions(rt: HostRuntime) {
     assert_eq!(rt; sums.least(Mask::empty().with(1)), BLOCKED);
     let both = ActionSet::empty().with(action(2, 1)).with(action(3, 1));
     assert_eq!(rt; sums.equal(leads(), 50), both);
+    assert_eq!(rt; sums.first_of(both), Some(action(2, 1)));
+    assert_eq!(rt; sums.first_of(both.with(action(2, 0))), Some(action(2, 0)));
+    assert_eq!(rt; sums.first_of(ActionSet::empty()), None);
     assert_eq!(rt;
         sums.below(leads(), 50),
         ActionSet::empty().with(action(2, 0))

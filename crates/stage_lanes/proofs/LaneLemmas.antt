@@ -17,19 +17,19 @@ lesser_is x y = grind arith
 greater_is : (x y : ℕ) → cond (ltb x y) y x ≡ max x y
 greater_is x y = grind arith
 
-chosen : (w : Width) (xs ys us vs : List ℕ) → length xs ≡ 8 → length ys ≡ 8 → length us ≡ 8 → length vs ≡ 8 → (stage : ℕ) → stage < 8
-    → slice_index (sel_l (compared w ltb xs ys) us vs) stage ≡ cond (ltb (slice_index xs stage) (slice_index ys stage)) (slice_index us stage) (slice_index vs stage)
-chosen w xs ys us vs p q r s stage h =
-    let long : length (zip2 ltb xs ys) ≡ length xs = length-zip2 ltb xs ys (omega (arith, p, q)) in
-    ap (λ ms. get_or (sel_l ms us vs) stage 0) (tops_compared w ltb xs ys)
-    ∙ get_or-sel_l (zip2 ltb xs ys) us vs stage 0 (omega (arith, long, p, h)) (omega (arith, r, h)) (omega (arith, s, h))
-    ∙ ap (λ m. cond m (get_or us stage 0) (get_or vs stage 0)) (get_or-zip2 ltb xs ys stage 0 0 false (omega (arith, p, h)) (omega (arith, q, h)))
+pub chosen : (w : Width) (t : ℕ → ℕ → Bool) (xs ys us vs : List ℕ) → length xs ≡ 8 → length ys ≡ 8 → length us ≡ 8 → length vs ≡ 8 → (stage : ℕ) → stage < 8
+    → slice_index (sel_l (compared w t xs ys) us vs) stage ≡ cond (t (slice_index xs stage) (slice_index ys stage)) (slice_index us stage) (slice_index vs stage)
+chosen w t xs ys us vs p q r s stage h =
+    let long : length (zip2 t xs ys) ≡ length xs = length-zip2 t xs ys (omega (arith, p, q)) in
+    ap (λ ms. get_or (sel_l ms us vs) stage 0) (tops_compared w t xs ys)
+    ∙ get_or-sel_l (zip2 t xs ys) us vs stage 0 (omega (arith, long, p, h)) (omega (arith, r, h)) (omega (arith, s, h))
+    ∙ ap (λ m. cond m (get_or us stage 0) (get_or vs stage 0)) (get_or-zip2 t xs ys stage 0 0 false (omega (arith, p, h)) (omega (arith, q, h)))
 
 pub lesser_lanes : (w : Width) (xs ys : List ℕ) → length xs ≡ 8 → length ys ≡ 8 → AreLanes (sel_l (compared w ltb xs ys) xs ys) (λ stage. min (slice_index xs stage) (slice_index ys stage))
-lesser_lanes w xs ys p q stage h = chosen w xs ys xs ys p q p q stage h ∙ lesser_is (slice_index xs stage) (slice_index ys stage)
+lesser_lanes w xs ys p q stage h = chosen w ltb xs ys xs ys p q p q stage h ∙ lesser_is (slice_index xs stage) (slice_index ys stage)
 
 pub greater_lanes : (w : Width) (xs ys : List ℕ) → length xs ≡ 8 → length ys ≡ 8 → AreLanes (sel_l (compared w ltb xs ys) ys xs) (λ stage. max (slice_index xs stage) (slice_index ys stage))
-greater_lanes w xs ys p q stage h = chosen w xs ys ys xs p q q p stage h ∙ greater_is (slice_index xs stage) (slice_index ys stage)
+greater_lanes w xs ys p q stage h = chosen w ltb xs ys ys xs p q q p stage h ∙ greater_is (slice_index xs stage) (slice_index ys stage)
 
 -- ---- the least lane
 -- a lane has this value

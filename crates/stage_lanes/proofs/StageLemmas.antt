@@ -1,16 +1,17 @@
 -- Sets of stages and the bits of their numbers.
-use Rattle.std.proofs.Common.{◌≡◌, ℕ, zero, suc, ◌-◌, ◌*◌, ◌/◌, ◌%◌, ◌^◌, ◌<◌, ◌≤◌, Bool, true, false, ◌&&◌, cond, nat_lt, nat_eq, ◌==◌, bit_and, List, length, map, get_or, slice_index, replicate, refl, ap, sym, ◌∙◌, arith, ◌↔◌, inl, inr, min}
-use mir.Syntax.{Width}
+use Rattle.std.proofs.Common.{◌≡◌, ℕ, zero, suc, ◌-◌, ◌*◌, ◌/◌, ◌%◌, ◌^◌, ◌<◌, ◌≤◌, if◌then◌else◌, [], ◌∷◌, Bool, true, false, ◌&&◌, cond, nat_lt, nat_eq, ◌==◌, bit_and, List, length, map, get_or, slice_index, replicate, refl, ap, sym, ◌∙◌, arith, ◌↔◌, inl, inr, min}
+use mir.Syntax.{Width, w32}
 use Rattle.std.specs.Int.{bit_at}
-use lib.Lanes.{mask_l}
+use lib.Lanes.{mask_l, sel_l, zip2}
 use Rattle.std.proofs.lemmas.List.{get_or-map, length-map}
 use Rattle.std.proofs.lemmas.Simd.{bitmask_splat, bit_mask_l, mask_l-lt}
-use Rattle.std.proofs.lemmas.Nat.Bits.{bit_at_and, bit_at-lt, bit_at_ones, bit_at_ones_above, bit_at-zero, shr_and_one, same_from_bits_below}
-use Rattle.std.proofs.lemmas.Nat.{one_shl}
+use Rattle.std.proofs.lemmas.Nat.Bits.{bit_at_and, bit_at-lt, bit_at_ones, bit_at_ones_above, bit_at-zero, shr_and_one, same_from_bits_below, and_pow}
+use Rattle.std.proofs.lemmas.Nat.{one_shl, pow_pos}
 use Rattle.std.proofs.lemmas.Bool.{cases_lt}
 use Rattle.stage_lanes.specs.declared.stages.StageSet.{StageSet}
 use Rattle.stage_lanes.specs.Stages.{has, AreStages}
-use Rattle.stage_lanes.proofs.LaneLemmas.{compared}
+use Rattle.stage_lanes.specs.Lanes.{AreLanes}
+use Rattle.stage_lanes.proofs.LaneLemmas.{compared, chosen, each_stage}
 
 -- the bits of a comparison with one value in all lanes
 abbrev pub compared_bits : Width → (ℕ → ℕ → Bool) → List ℕ → ℕ → ℕ
@@ -85,3 +86,33 @@ empty_is stages fits = (forward, backward)
 
 pub shifted_one : (count : ℕ) → count ≤ 8 → 1 * 2 ^ count % 65536 ≡ 2 ^ count
 shifted_one count h = omega (arith, h, one_shl count 16)
+
+-- ---- the lanes of a set
+positive_test : (m : ℕ) → 0 < m → nat_eq m 0 ≡ false
+positive_test m h = grind arith
+
+kept_by : (b m x y : ℕ) → b < 2 → 0 < m → cond (nat_eq (b * m) 0) y x ≡ (if b == 1 then x else y)
+kept_by zero m x y h p = let e : 0 * m ≡ 0 = omega arith in rw e refl
+kept_by (suc zero) m x y h p = let e : 1 * m ≡ m = omega arith in ap (λ k. cond (nat_eq k 0) y x) e ∙ ap (λ t. cond t y x) (positive_test m p)
+kept_by (suc (suc b)) m x y h p = absurd (omega (arith, h))
+
+kept_at : (n k x y : ℕ) → cond (nat_eq (bit_and n (2 ^ k)) 0) y x ≡ (if bit_at n k == 1 then x else y)
+kept_at n k x y = ap (λ m. cond (nat_eq m 0) y x) (and_pow n k) ∙ kept_by (bit_at n k) (2 ^ k) x y (bit_at-lt n k) (pow_pos k)
+
+-- the bit of each stage
+abbrev pub stage_bits : List ℕ
+stage_bits = 1 ∷ 2 ∷ 4 ∷ 8 ∷ 16 ∷ 32 ∷ 64 ∷ 128 ∷ []
+
+abbrev pub kept_lanes : ℕ → List ℕ → List ℕ → List ℕ
+kept_lanes n xs ys = sel_l (compared w32 nat_eq (zip2 bit_and (replicate 8 n) stage_bits) (replicate 8 0)) ys xs
+
+pub only_lanes : (stages : StageSet) (n : ℕ) (xs ys : List ℕ) → n ≡ stages.0 → length xs ≡ 8 → length ys ≡ 8
+    → AreLanes (kept_lanes n xs ys) (λ stage. if has stages stage then slice_index xs stage else slice_index ys stage)
+unfolding has
+only_lanes stages n xs ys e long even stage h =
+    chosen w32 nat_eq (zip2 bit_and (replicate 8 n) stage_bits) (replicate 8 0) ys xs refl refl even long stage h
+    ∙ each_stage (λ k. cond (nat_eq (slice_index (zip2 bit_and (replicate 8 n) stage_bits) k) (slice_index (replicate 8 0) k)) (slice_index ys k) (slice_index xs k) ≡ (if bit_at stages.0 k == 1 then slice_index xs k else slice_index ys k))
+    (at 0) (at 1) (at 2) (at 3) (at 4) (at 5) (at 6) (at 7) stage h
+  where
+    at : (k : ℕ) → cond (nat_eq (bit_and n (2 ^ k)) 0) (slice_index ys k) (slice_index xs k) ≡ (if bit_at stages.0 k == 1 then slice_index xs k else slice_index ys k)
+    at k = ap (λ m. cond (nat_eq (bit_and m (2 ^ k)) 0) (slice_index ys k) (slice_index xs k)) e ∙ kept_at stages.0 k (slice_index xs k) (slice_index ys k)

@@ -83,7 +83,15 @@ impl ActionSet {
         ensures stages { AreStages result
             (λ stage. has_place self (8 * side_of bend back + stage)) }
     {
-        let side = side(bend, back);
+        self.stages_at(side(bend, back))
+    }
+
+    /// The stages of the set's actions at a side, a bend's place with one side at the back among the
+    /// 24: those of the eight places from `8 * side` on.
+    pub fn stages_at(self, side: u8) -> StageSet
+        requires { side < 24 }
+        ensures stages { AreStages result (λ stage. has_place self (8 * side + stage)) }
+    {
         StageSet(((self.words[usize::from(side / 8)] >> (8 * (side % 8))) & 255) as u8)
     }
 

@@ -1,7 +1,7 @@
 //! A cost for each of eight stages.
 ghost use Rattle.std.specs.Prelude.{◌≡◌, ℕ, ◌+◌, ◌%◌, ◌^◌, ◌<◌, ◌≤◌, min, max, nat_lt, ◌==◌, if◌then◌else◌, length, slice_index, slice_index_or};
 ghost use Rattle.stage_lanes.specs.Lanes.{AreLanes, IsLeastLane};
-ghost use Rattle.stage_lanes.specs.Stages.{AreStages};
+ghost use Rattle.stage_lanes.specs.Stages.{has, AreStages};
 
 use crate::stages::StageSet;
 use std::simd::u32x8;
@@ -75,6 +75,16 @@ impl StageCosts {
             (λ stage. max (slice_index self.0 stage) (slice_index other.0 stage)) }
     {
         StageCosts(self.lanes().simd_max(other.lanes()).to_array())
+    }
+
+    /// These costs at the stages of a set, and the others at all other stages.
+    pub fn only(self, stages: StageSet, others: StageCosts) -> StageCosts
+        ensures lanes { AreLanes result.0 (λ stage. if has stages stage
+            then slice_index self.0 stage else slice_index others.0 stage) }
+    {
+        let bits = u32x8::from_array([1, 2, 4, 8, 16, 32, 64, 128]);
+        let outside = (u32x8::splat(u32::from(stages.0)) & bits).simd_eq(u32x8::splat(0));
+        StageCosts(outside.select(others.lanes(), self.lanes()).to_array())
     }
 
     /// The least cost of the eight stages.

@@ -27,6 +27,8 @@ fn costs_by_stage(rt: HostRuntime) {
     assert_eq!(rt; costs().below(60), StageSet(0b0000_0111));
     assert_eq!(rt; costs().equal(20), StageSet(0b0000_0110));
     assert_eq!(rt; costs().cost(4), 90);
+    let some = costs().only(StageSet(0b1000_0101), StageCosts::all(7));
+    assert_eq!(rt; some.0, [50, 7, 20, 7, 7, 7, 7, BLOCKED]);
 }
 
 #[test]
