@@ -12,8 +12,7 @@ use Rattle.brake_base.specs.declared.reason.Reason.{Reason}
 use Rattle.brake_base.specs.Actions.{number_of_action}
 use Rattle.brake_base.proofs.Actions.{same_number}
 use Rattle.std.proofs.lemmas.List.{length-replicate}
-use Rattle.stage_lanes.specs.ActionSets.{place_of, has, IsNone}
-use Rattle.action_lanes.specs.Costs.{AreCosts}
+use Rattle.stage_lanes.specs.ActionSets.{place_of, has}
 use Rattle.job_setup.specs.Setup.{JobData, bend_count, stage_count}
 use Rattle.job_setup.specs.ValidJob.{IsJob}
 use Rattle.set_facts.specs.LaneFacts.{key_at}
@@ -23,7 +22,7 @@ use Rattle.row_pool.specs.Rows.{Pool, common_place, common_at, first_reason, wit
 use Rattle.row_pool.proofs.PoolLemmas.{slice_get-set_same, slice_get-set_other}
 use Rattle.bb_search.specs.declared.known.KnownActions.{KnownActions}
 use Rattle.bb_search.specs.Table.{Extends}
-use Rattle.bb_search.specs.KnownActions.{TableData, slack_of, HasCommon, IsFreeWith, AreKnownAt, CommonHold, AreKnown}
+use Rattle.bb_search.specs.KnownActions.{TableData, KnowsNothing, slack_of, HasCommon, IsFreeWith, AreKnownAt, CommonHold, AreKnown}
 use Rattle.bb_search.specs.KnownActions.{IsToldOf, HasSmallSlack}
 use Rattle.bb_search.proofs.KnownLemmas.{number_low, place_in, among_lanes, free_kept}
 
@@ -206,17 +205,16 @@ module _ (job : JobData) (pool : Pool) (mask : Mask) (action : Action) (reason :
 
 -- nothing is known
 pub none_known :
-    (job : JobData) (mask : Mask) (pool : Pool) (at : KnownActions) → IsNone at.known
-    → IsNone at.refused → AreCosts at.slack (λ place. 536870912) → IsJob job
+    (job : JobData) (mask : Mask) (pool : Pool) (at : KnownActions) → KnowsNothing at → IsJob job
     → AreKnownAt job pool mask at
-none_known job mask pool at none free slack is_job = record {
+none_known job mask pool at nothing is_job = record {
   unknown = λ action here is. (
-    free (place_of action) (place_in job is_job (key_at mask 0) action here),
-    slack (place_of action) (place_in job is_job (key_at mask 0) action here),
+    nothing.refused (place_of action) (place_in job is_job (key_at mask 0) action here),
+    nothing.slack (place_of action) (place_in job is_job (key_at mask 0) action here),
   );
-  refused = λ action here is refused. absurd (let no = none (place_of action) (place_in job is_job (key_at mask 0) action here) in cc);
-  free = λ action here is refused. absurd (let no = none (place_of action) (place_in job is_job (key_at mask 0) action here) in cc);
-  small = λ place within. let is = slack place within in omega (arith, is);
+  refused = λ action here is refused. absurd (let no = nothing.known (place_of action) (place_in job is_job (key_at mask 0) action here) in cc);
+  free = λ action here is refused. absurd (let no = nothing.known (place_of action) (place_in job is_job (key_at mask 0) action here) in cc);
+  small = λ place within. let is = nothing.slack place within in omega (arith, is);
 }
 
 same_in_replicate : {X : Type 0} (n i : ℕ) (x y : X) → slice_get (replicate n x) i ≡ Some y → x ≡ y
@@ -231,18 +229,17 @@ none_in_replicate (suc n) (suc i) reason at = none_in_replicate n i reason at
 
 pub none_known_anywhere :
     (job : JobData) → IsJob job → (table : TableData) (at : KnownActions) (limit : ℕ)
-    → table.job ≡ job → table.known ≡ replicate (2 ^ bend_count job) at → IsNone at.known
-    → IsNone at.refused → AreCosts at.slack (λ place. 536870912)
+    → table.job ≡ job → table.known ≡ replicate (2 ^ bend_count job) at → KnowsNothing at
     → AreKnown job (empty_pool limit (24 * stage_count job)) table
 unfolding no_common
-none_known_anywhere job is_job table at limit its list none free slack = record {
+none_known_anywhere job is_job table at limit its list nothing = record {
   its_job = its;
   places = ap length list ∙ length-replicate (2 ^ bend_count job) at;
   each = λ mask other here.
       let one : at ≡ other = same_in_replicate (2 ^ bend_count job) mask.0 at other
       (sym (ap (λ (xs : List KnownActions). slice_get xs mask.0) list) ∙ here) in
       subst (λ (k : KnownActions). AreKnownAt job (empty_pool limit (24 * stage_count job)) mask k) one
-      (none_known job mask (empty_pool limit (24 * stage_count job)) at none free slack is_job);
+      (none_known job mask (empty_pool limit (24 * stage_count job)) at nothing is_job);
   actions = refl;
   commons = length-replicate (65536 * (24 * stage_count job)) None;
   hold = λ mask action reason is_action is_common. absurd

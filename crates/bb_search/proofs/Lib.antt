@@ -5,6 +5,7 @@ pub mod AddedLemmas
 pub mod TableLemmas
 pub mod KnownLemmas
 pub mod ToldLemmas
+pub mod SetPlaces
 pub mod KnownTables
 pub mod ChoiceLemmas
 pub mod LaneSumLemmas

@@ -10,9 +10,9 @@ use Rattle.brake_base.specs.declared.stroke.Worth.TheVariants.{Cost, Blocked}
 use Rattle.brake_base.specs.declared.reason.Reason.{Reason}
 use Rattle.brake_base.specs.Actions.{number_of_action}
 use Rattle.stage_lanes.specs.declared.actions.ActionSet.{ActionSet}
-use Rattle.stage_lanes.specs.ActionSets.{place_of, has, has_place}
+use Rattle.stage_lanes.specs.ActionSets.{place_of, has, has_place, IsNone}
 use Rattle.action_lanes.specs.declared.costs.ActionCosts.{ActionCosts}
-use Rattle.action_lanes.specs.Costs.{cost_at, is_of}
+use Rattle.action_lanes.specs.Costs.{cost_at, is_of, AreCosts}
 use Rattle.job_setup.specs.Setup.{JobData, bend_count, stage_count}
 use Rattle.set_facts.specs.LaneFacts.{key_at}
 use Rattle.handling_cost.specs.StepCost.{IsActionOf, IsActionAt, key_after}
@@ -44,6 +44,12 @@ slack_of at action = cost_at at.slack (place_of action)
 -- no slack is above what no way on costs
 abbrev pub HasSmallSlack : KnownActions → Type 0
 HasSmallSlack at = (place : ℕ) → place < 192 → cost_at at.slack place ≤ 536870912
+
+-- nothing is known of any action
+pub record KnowsNothing (at : KnownActions) : Type 0 where
+  pub known : IsNone at.known
+  pub refused : IsNone at.refused
+  pub slack : AreCosts at.slack (λ place. 536870912)
 
 -- the action is legal with some gauge, and this is the slack of its next key's worth
 pub record IsFreeWith (job : JobData) (rows : List PoolRow) (mask : Mask) (action : Action)

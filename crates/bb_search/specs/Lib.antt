@@ -4,6 +4,7 @@ pub mod Tested
 pub mod Settling
 pub mod LaneSums
 pub mod KnownActions
+pub mod KnownSets
 pub mod OpenRows
 pub mod Onward
 pub mod Outcomes

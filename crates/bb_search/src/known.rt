@@ -1,9 +1,8 @@
 //! What is known of the actions at a set of folded bends.
 ghost use Rattle.std.specs.Prelude.{◌≡◌, ℕ, ◌+◌, ◌<◌, ◌≤◌, false, if◌then◌else◌};
 ghost use Rattle.brake_base.specs.Actions.{IsActionAmong};
-ghost use Rattle.stage_lanes.specs.ActionSets.{IsNone};
 ghost use Rattle.action_lanes.specs.Costs.{cost_at, is_of, AreCosts};
-ghost use Rattle.bb_search.specs.KnownActions.{HasSmallSlack, IsRefusal, IsLearnt};
+ghost use Rattle.bb_search.specs.KnownActions.{KnowsNothing, HasSmallSlack, IsRefusal, IsLearnt};
 
 use action_lanes::ActionCosts;
 use brake_base::{Action, Mask};
@@ -26,9 +25,7 @@ pub struct KnownActions {
 impl KnownActions {
     /// Nothing is known.
     pub fn none() -> KnownActions
-        ensures known { IsNone result.known }
-        ensures refused { IsNone result.refused }
-        ensures slack { AreCosts result.slack (λ place. 536870912) }
+        ensures { KnowsNothing result }
     {
         KnownActions {
             known: ActionSet::empty(),

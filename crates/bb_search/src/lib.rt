@@ -4,6 +4,7 @@
 
 mod certificate;
 mod known;
+mod known_sets;
 mod orders;
 mod outcome;
 mod plan;

@@ -16,6 +16,7 @@ ghost use Rattle.bb_search.specs.LaneSums.{AreSums, AreBendSums, AreStillSums, A
 ghost use Rattle.brake_base.specs.Actions.{IsActionAmong};
 
 use crate::known::KnownActions;
+use crate::known_sets::KnownSets;
 use action_lanes::ActionCosts;
 use bend_state::BendState;
 use brake_base::{Action, Back, Gauge, Key, Mask, Reason, Turn};
@@ -40,7 +41,7 @@ pub struct SearchTable {
     strokes: StrokeTable,
     facts: FactTable,
     lanes: LaneFacts,
-    known: Vec<KnownActions>,
+    known: KnownSets,
 }
 
 impl Model for SearchTable {
@@ -49,7 +50,7 @@ impl Model for SearchTable {
 
     ghost Value = { TableData };
 
-    ghost view = { λ t. record { job = t.strokes; known = t.known.items } };
+    ghost view = { λ t. record { job = t.strokes; known = t.known } };
 
     ghost invariant = { λ t. (t.facts ≡ t.strokes) × (t.lanes ≡ t.strokes) };
 }
@@ -57,6 +58,7 @@ impl Model for SearchTable {
 /// The number of the sets of a job's bends.
 fn set_count(job: &Job) -> usize
     ensures value { result ≡ 2 ^ bend_count job.now }
+    ensures few { result ≤ 4096 }
     ensures valid { IsJob job.now }
 {
     1 << job.bends()
@@ -87,7 +89,7 @@ impl SearchTable {
         let strokes = StrokeTable::open(alloc, job)?;
         let facts = FactTable::open(alloc, job)?;
         let lanes = LaneFacts::open(alloc, job)?;
-        let known = vec![in alloc; KnownActions::none(); set_count(job)]?;
+        let known = KnownSets::open(alloc, set_count(job))?;
         Ok(SearchTable {
             strokes,
             facts,
@@ -203,7 +205,7 @@ impl SearchTable {
         requires { mask.0 < length self.now.known }
         ensures { slice_get self.now.known mask.0 ≡ Some result.now }
     {
-        &self.known[usize::from(mask.0)]
+        self.known.at(mask)
     }
 
     /// A reason refuses an action at a set.
@@ -214,8 +216,7 @@ impl SearchTable {
         ensures known { IsChangedAt (IsRefusal action) mask.0
             self.old.known self.new.known }
     {
-        let known = &mut self.known[usize::from(mask.0)];
-        known.refuse(action);
+        self.known.refuse(mask, action);
     }
 
     /// The slack of an action at a set is known.
@@ -226,8 +227,7 @@ impl SearchTable {
         ensures known { IsChangedAt (IsLearnt action slack) mask.0
             self.old.known self.new.known }
     {
-        let known = &mut self.known[usize::from(mask.0)];
-        known.learn(action, slack);
+        self.known.learn(mask, action, slack);
     }
 
     /// What a test of an action tells at a key, whose bends are folded as the part stands.
