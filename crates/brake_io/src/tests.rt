@@ -264,13 +264,13 @@ fn a_text_that_ends_otherwise_than_it_began(rt: HostRuntime) -> Result<(), Fail>
 fn pieces_are_stored_in_place(rt: HostRuntime) -> Result<(), Fail> {
     let alloc = rt.alloc();
     let mut shelf = DirShelf::new(&rt);
-    assert_eq!(rt; shelf.store("cert", b"old"), Ok(()));
-    symlink(&rt, "cert", "link")?;
+    assert_eq!(rt; shelf.store("held", b"old"), Ok(()));
+    symlink(&rt, "held", "held-link")?;
     let text = varied(alloc, 270_000)?;
     let mut pieces: &[u8] = text.as_slice();
-    assert_eq!(rt; shelf.store_by(alloc, "link", &mut pieces), Ok(()));
-    assert_eq!(rt; fs::symlink_metadata(&rt, "link")?.is_symlink(), true);
-    assert_eq!(rt; fs::read(&rt, "cert")?.as_slice(), text.as_slice());
+    assert_eq!(rt; shelf.store_by(alloc, "held-link", &mut pieces), Ok(()));
+    assert_eq!(rt; fs::symlink_metadata(&rt, "held-link")?.is_symlink(), true);
+    assert_eq!(rt; fs::read(&rt, "held")?.as_slice(), text.as_slice());
     let mut pieces: &[u8] = text.as_slice();
     assert_eq!(rt;
         shelf.store_by(alloc, "/dev/full", &mut pieces),
