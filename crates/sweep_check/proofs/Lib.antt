@@ -13,6 +13,7 @@ pub mod KindsOf
 pub mod StrokeBoxes
 pub mod PoseBoxes
 pub mod Sweeps
+mod Swept
 pub mod HitTests
 pub mod Strokes
 pub mod Sunk

@@ -1,6 +1,7 @@
 -- The lists of pieces: in order, covered, and complete.
-use Rattle.std.proofs.Common.{◌≡◌, inl, inr, ◌<◌, ◌≤ℤ◌, pos, List, [], ◌∷◌, get_or, Some, refl, arith}
+use Rattle.std.proofs.Common.{◌≡◌, inl, inr, ◌<◌, ◌≤ℤ◌, pos, List, [], ◌∷◌, get_or, Some, refl, sym, arith}
 use Rattle.std.specs.Prelude.{All, Any, AllPairs, option_to_list}
+use Rattle.std.proofs.lemmas.List.{append-nil}
 use Rattle.std.proofs.lemmas.List.Elements.{All-nil, All-cons}
 use Rattle.brake_base.specs.declared.plane.Rect.{Rect}
 use Rattle.brake_base.specs.declared.plane.Quarter.{Quarter}
@@ -62,6 +63,10 @@ of_some_box P job sweep box some =
     let found = any_option_to P (piece_from job sweep box at.1) (piece_at job box at.1) at.4 in
     (at.1, found.0, found.1, found.2)
 
+-- one box's pieces, as those of a list
+pub of_one : (job : JobData) (sweep : Sweep) (box : PoseBox) → box_pieces job sweep box ≡ pieces_of job sweep (box ∷ [])
+of_one job sweep box = sym (append-nil (box_pieces job sweep box))
+
 -- ---- in order
 pub box_ascends : (job : JobData) (sweep : Sweep) (box : PoseBox) → AllPairs PieceIsBefore (box_pieces job sweep box)
 box_ascends job sweep box =
@@ -71,13 +76,6 @@ box_ascends job sweep box =
     all_option (PieceIsBefore (piece_from job sweep box p r)) (piece_from job sweep box q) (piece_at job box q) (λ s found. inr (refl, inl before))))
     quarters_ascend
 
-boxes_apart : (job : JobData) (sweep : Sweep) (x y : PoseBox) → x.id < y.id → All (λ a. All (PieceIsBefore a) (box_pieces job sweep y)) (box_pieces job sweep x)
-boxes_apart job sweep x y before =
-    all_of_box (λ a. All (PieceIsBefore a) (box_pieces job sweep y)) job sweep x (λ q r is. all_of_box (PieceIsBefore (piece_from job sweep x q r)) job sweep y (λ p s found. inl before))
-
-pub pieces_ascend : (job : JobData) (sweep : Sweep) (boxes : List PoseBox) → AllPairs (λ a b. a.id < b.id) boxes → AllPairs PieceIsBefore (pieces_of job sweep boxes)
-pieces_ascend job sweep boxes ascend = pairs_flat (λ a b. a.id < b.id) PieceIsBefore (box_pieces job sweep) boxes (box_ascends job sweep) (boxes_apart job sweep) ascend
-
 pub all_back : {X : Type 0} (P : X → Type 0) (half : Half) (xs : List X) → All P xs → All P (if_back half xs)
 all_back P Back xs all = all
 all_back P Front xs all = All-nil P
@@ -86,22 +84,9 @@ all_front : {X : Type 0} (P : X → Type 0) (half : Half) (xs : List X) → All 
 all_front P Back xs all = All-nil P
 all_front P Front xs all = all
 
-pairs_back : {X : Type 0} (R : X → X → Type 0) (half : Half) (xs : List X) → AllPairs R xs → AllPairs R (if_back half xs)
-pairs_back R Back xs pairs = pairs
-pairs_back R Front xs pairs = pairs_nil R
-
 pairs_front : {X : Type 0} (R : X → X → Type 0) (half : Half) (xs : List X) → AllPairs R xs → AllPairs R (if_front half xs)
 pairs_front R Back xs pairs = pairs_nil R
 pairs_front R Front xs pairs = pairs
-
-pub back_ascends : (job : JobData) (boxes : List PoseBox) → AllPairs (λ a b. a.id < b.id) boxes → AllPairs PieceIsBefore (back_pieces job boxes)
-back_ascends job boxes ascend =
-    pairs_flat (λ a b. a.id < b.id) PieceIsBefore (λ box. if_back box.half (box_pieces job Fourth box)) boxes
-    (λ box. pairs_back PieceIsBefore box.half (box_pieces job Fourth box) (box_ascends job Fourth box))
-    (λ x y before.
-    all_back (λ a. All (PieceIsBefore a) (if_back y.half (box_pieces job Fourth y))) x.half (box_pieces job Fourth x)
-    (λ k d inside. all_back (PieceIsBefore (get_or (box_pieces job Fourth x) k d)) y.half (box_pieces job Fourth y) (boxes_apart job Fourth x y before k d inside)))
-    ascend
 
 abbrev ObstacleIsBefore : Obstacle → Obstacle → Type 0
 ObstacleIsBefore a b = a.index < b.index
@@ -121,7 +106,7 @@ front_ascends job boxes ascend =
 abbrev IsBy : Sweep → Piece → Type 0
 IsBy sweep piece = IsCoverBy sweep piece.cover
 
-box_covered : (job : JobData) (sweep : Sweep) (box : PoseBox) → widening job ≤ℤ pos 100000 → IsSolidBox box → All (IsBy sweep) (box_pieces job sweep box)
+pub box_covered : (job : JobData) (sweep : Sweep) (box : PoseBox) → widening job ≤ℤ pos 100000 → IsSolidBox box → All (IsBy sweep) (box_pieces job sweep box)
 box_covered job sweep box small solid =
     all_of_box (IsBy sweep) job sweep box (λ quarter rect is.
     let piece = piece_is quarter (moving_rect job box) rect (moving_in_range job box small solid) is in

@@ -1,5 +1,6 @@
 -- The first reason against a stroke.
-use Rattle.std.specs.Prelude.{◌≢◌, ℕ, ◌≤◌, pos, List, [], slice_index_or, Option, Some, None}
+use Rattle.std.specs.Prelude.{◌≡◌, ◌≢◌, ◌⊎◌, ℕ, ◌≤◌, pos, List, [], slice_index_or, Option, Some}
+use Rattle.std.specs.Prelude.{None, ⊤}
 use Rattle.brake_base.specs.declared.mask.Mask.{Mask}
 use Rattle.brake_base.specs.declared.stroke.Back.{Back}
 use Rattle.brake_base.specs.declared.stroke.Back.TheVariants.{Parent, Child}
@@ -77,3 +78,15 @@ pose_of_boxes boxes =
       x0 = pos 0;
       x1 = pos 0;
     }
+
+-- where there is a reason, it doesn't stand before this one
+abbrev pub IsNotBefore : Option Reason → Reason → Type 0
+IsNotBefore None reason = ⊤
+IsNotBefore (Some other) reason = ReasonIsBefore other reason → ⊥
+
+-- Of two reasons the one that stands first; nothing exactly where there are none.
+abbrev pub IsEarlier : Option Reason → Option Reason → Option Reason → Type 0
+IsEarlier first second None = (first ≡ None) × (second ≡ None)
+IsEarlier first second (Some reason) =
+    ((first ≡ Some reason) ⊎ (second ≡ Some reason))
+    × IsNotBefore first reason × IsNotBefore second reason

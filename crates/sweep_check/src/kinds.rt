@@ -1,22 +1,23 @@
 //! The first reason of each kind, in the order of kinds.
-ghost use Rattle.std.specs.Prelude.{ℕ, ◌<◌, length};
+ghost use Rattle.std.specs.Prelude.{ℕ, ◌<◌, [], ◌∷◌, Some, length};
 ghost use Rattle.brake_base.specs.declared.stroke.Back.{Back};
 ghost use Rattle.fold_boxes.specs.Pose.{pose_data};
 ghost use Rattle.sweep_check.specs.Around.{AreSurroundings};
-ghost use Rattle.sweep_check.specs.FirstReasons.{IsFirstAmong, pose_of_boxes};
+ghost use Rattle.sweep_check.specs.FirstReasons.{IsFirstAmong, IsEarlier, pose_of_boxes};
 ghost use Rattle.sweep_check.specs.Hits.{IsPieceMet, IsFirstHit};
-ghost use Rattle.sweep_check.specs.Pieces.{AreSolidBoxes, back_pieces, front_obstacles};
+ghost use Rattle.sweep_check.specs.Pieces.{IsSolidBox, AreSolidBoxes, back_pieces, front_obstacles};
 
 use crate::frames::first_in_frame;
 use crate::hits::{Hit, first_hit};
 use crate::noses::first_nose_hit;
-use crate::pieces::all_pieces;
+use crate::pieces::box_pieces;
 use crate::self_hits::{first_back_hit, front_obstacles};
 use crate::sides::side_in;
 use crate::surroundings::Surroundings;
 use brake_base::{Back, Half, Reason};
 use fold_boxes::{Pose, PoseBox};
 use job_setup::{Job, is_overloaded_at, is_uncovered_at, lacks_rest_at};
+use sector_geom::Sweep;
 
 /// The first reason of the kinds 1 to 7 and 9, where this side is at the back.
 pub(crate) fn first_of(job: &Job, pose: &Pose, back: Back, stage: u8) -> Option<Reason>
@@ -80,14 +81,29 @@ fn first_frame(job: &Job, boxes: &[PoseBox]) -> Option<Reason>
     }
 }
 
-/// The first reason of the kinds Upper, Nose and Lower.
+/// The first reason of the kinds Upper, Nose and Lower, box by box.
 fn first_sweep(job: &Job, around: &Surroundings, boxes: &[PoseBox]) -> Option<Reason>
     requires around { AreSurroundings job.now around.now }
     requires boxes { AreSolidBoxes boxes.now }
     ensures { (back : Back)
         → IsFirstAmong job.now (pose_of_boxes boxes.now) back around.now.stage 4 6 result }
 {
-    let found = all_pieces(job, boxes);
+    let mut first = None;
+    for body in boxes {
+        let found = first_of_box(job, around, body);
+        first = earlier(first, found);
+    }
+    first
+}
+
+/// The first reason of the kinds Upper, Nose and Lower that a box gives.
+fn first_of_box(job: &Job, around: &Surroundings, body: &PoseBox) -> Option<Reason>
+    requires around { AreSurroundings job.now around.now }
+    requires solid { IsSolidBox body.now }
+    ensures { (back : Back)
+        → IsFirstAmong job.now (pose_of_boxes (body.now ∷ [])) back around.now.stage 4 6 result }
+{
+    let found = box_pieces(job, Sweep::Eighth, body);
     let pieces = found.as_slice();
     if let Some(hit) = first_hit(pieces, around.upper.as_slice()) {
         return Some(Reason::Upper(hit.body, hit.quarter, hit.other));
@@ -99,6 +115,24 @@ fn first_sweep(job: &Job, around: &Surroundings, boxes: &[PoseBox]) -> Option<Re
         return Some(Reason::Lower(hit.body, hit.quarter, hit.other));
     }
     None
+}
+
+/// Of two reasons, each where there is one, the one that stands first.
+fn earlier(first: Option<Reason>, second: Option<Reason>) -> Option<Reason>
+    ensures { IsEarlier first second result }
+{
+    match (first, second) {
+        (Some(one), Some(other)) => Some(earlier_of(one, other)),
+        (Some(one), None) => Some(one),
+        (None, other) => other,
+    }
+}
+
+/// The reason of two that stands first.
+fn earlier_of(one: Reason, other: Reason) -> Reason
+    ensures { IsEarlier (Some one) (Some other) (Some result) }
+{
+    if other.is_before(one) { other } else { one }
 }
 
 /// The first SelfHit: the boxes of the back half of a pose against those of the front half. It's the

@@ -1,5 +1,5 @@
 //! The pieces of the part's boxes, with the sectors that they sweep. They don't depend on the
-//! obstacles, and are found once for a pose.
+//! obstacles.
 ghost use Rattle.std.specs.Prelude.{◌≡◌, ◌+◌, ◌^◌, ◌≤◌, ◌++◌, pos, ◌≤ℤ◌, unsigned_abs, length, option_to_list};
 ghost use Rattle.sector_geom.specs.declared.sector.Sweep.TheVariants.{Eighth};
 ghost use Rattle.sector_geom.specs.Plane.{IsInRange};
@@ -67,6 +67,18 @@ pub(crate) fn all_pieces(job: &Job, boxes: &[PoseBox]) -> ArrayVec<Piece, 100>
     pieces
 }
 
+/// The pieces of a box by quarters, swept like this.
+pub(crate) fn box_pieces(job: &Job, sweep: Sweep, body: &PoseBox) -> ArrayVec<Piece, 4>
+    requires solid { IsSolidBox body.now }
+    ensures value { result.items ≡ box_pieces job.now sweep body.now }
+    ensures valid { IsJob job.now }
+{
+    let _ = job.q();
+    let mut pieces = ArrayVec::new();
+    put_pieces(job, sweep, body, &mut pieces);
+    pieces
+}
+
 /// Puts the pieces of a box.
 pub(crate) fn put_pieces<const N: usize>(
     job: &Job,
@@ -94,20 +106,6 @@ fn put<const N: usize>(piece: Option<Piece>, pieces: &mut ArrayVec<Piece, N>)
 {
     if let Some(piece) = piece {
         pieces.push(piece);
-    }
-}
-
-/// The piece of a box in a quarter, where the box has an interior there.
-pub(crate) fn piece_in(job: &Job, sweep: Sweep, body: &PoseBox, quarter: Quarter) -> Option<Piece>
-    requires solid { IsSolidBox body.now }
-    ensures { result ≡ piece_in job.now sweep body.now quarter }
-{
-    let [first, second, third, fourth] = split(moving_rect(job, body));
-    match quarter {
-        Quarter::Q1 => piece_with(job, sweep, body, quarter, first),
-        Quarter::Q2 => piece_with(job, sweep, body, quarter, second),
-        Quarter::Q3 => piece_with(job, sweep, body, quarter, third),
-        Quarter::Q4 => piece_with(job, sweep, body, quarter, fourth),
     }
 }
 

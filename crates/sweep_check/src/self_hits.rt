@@ -6,7 +6,7 @@ ghost use Rattle.sweep_check.specs.Hits.{IsPieceMet, IsFirstHit, IsSolidObstacle
 ghost use Rattle.sweep_check.specs.Pieces.{IsSolidBox, AreSolidBoxes, box_pieces, if_back, if_front, back_pieces, front_obstacle, front_obstacles};
 
 use crate::hits::{Hit, first_hit};
-use crate::pieces::{Piece, across, put_pieces, widening};
+use crate::pieces::{Piece, across, box_pieces, put_pieces, widening};
 use arrayvec::ArrayVec;
 use brake_base::Half;
 use fold_boxes::PoseBox;
@@ -66,21 +66,9 @@ fn first_of_back(job: &Job, body: &PoseBox, obstacles: &[Obstacle]) -> Option<Hi
         (if_back body.now.half (box_pieces job.now Fourth body.now)) obstacles.now result }
 {
     match body.half {
-        Half::Back => first_hit(fourths(job, body).as_slice(), obstacles),
+        Half::Back => first_hit(box_pieces(job, Sweep::Fourth, body).as_slice(), obstacles),
         Half::Front => None,
     }
-}
-
-/// The pieces of a box, each swept by a fourth.
-fn fourths(job: &Job, body: &PoseBox) -> ArrayVec<Piece, 4>
-    requires { IsSolidBox body.now }
-    ensures value { result.items ≡ box_pieces job.now Fourth body.now }
-    ensures valid { IsJob job.now }
-{
-    let _ = job.q();
-    let mut pieces = ArrayVec::new();
-    put_pieces(job, Sweep::Fourth, body, &mut pieces);
-    pieces
 }
 
 /// The boxes of the front half as obstacles of the back half.

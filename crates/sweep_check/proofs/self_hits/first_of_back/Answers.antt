@@ -11,13 +11,13 @@ use Rattle.sweep_check.proofs.self_hits.first_of_back.Goals as goal
 
 pub first_hit-requires-clause-covered : goal.first_hit-requires-clause-covered
 first_hit-requires-clause-covered c =
-    subst (All IsCovered) (sym (c.as_slice.ensures.value ∙ c.fourths.ensures.value)) (box_kept c.args.job.now Fourth c.args.body.now c.fourths.ensures.valid c.requires.body)
+    subst (All IsCovered) (sym (c.as_slice.ensures.value ∙ c.box_pieces.ensures.value)) (box_kept c.args.job.now Fourth c.args.body.now c.box_pieces.ensures.valid c.requires.body)
 
 pub first_hit-requires-clause-pieces_ascend : goal.first_hit-requires-clause-pieces_ascend
-first_hit-requires-clause-pieces_ascend c = subst (AllPairs PieceIsBefore) (sym (c.as_slice.ensures.value ∙ c.fourths.ensures.value)) (box_ascends c.args.job.now Fourth c.args.body.now)
+first_hit-requires-clause-pieces_ascend c = subst (AllPairs PieceIsBefore) (sym (c.as_slice.ensures.value ∙ c.box_pieces.ensures.value)) (box_ascends c.args.job.now Fourth c.args.body.now)
 
 pub returns-in-Back : goal.returns-in-Back
 returns-in-Back c =
     let box = c.args.body.now in
     subst (λ (half : Half). IsFirstHit (λ (o : Obstacle). o.index) IsPieceMet (if_back half (box_pieces c.args.job.now Fourth box)) c.args.obstacles.now c.first_hit.result) (sym c.in-Back.is)
-    (subst (λ (ps : List Piece). IsFirstHit (λ (o : Obstacle). o.index) IsPieceMet ps c.args.obstacles.now c.first_hit.result) (c.as_slice.ensures.value ∙ c.fourths.ensures.value) c.first_hit.ensures)
+    (subst (λ (ps : List Piece). IsFirstHit (λ (o : Obstacle). o.index) IsPieceMet ps c.args.obstacles.now c.first_hit.result) (c.as_slice.ensures.value ∙ c.box_pieces.ensures.value) c.first_hit.ensures)
