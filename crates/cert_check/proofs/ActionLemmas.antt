@@ -9,6 +9,7 @@ use Rattle.brake_base.specs.declared.reason.Reason.{Reason}
 use Rattle.job_setup.specs.Setup.{JobData, stage_count}
 use Rattle.handling_cost.specs.StepCost.{key_after}
 use Rattle.handling_cost.specs.Plan.{IsReasonFor}
+use Rattle.set_facts.specs.Facts.{AreLeads}
 use Rattle.plan_cert.specs.declared.cert.RowHead.{RowHead}
 use Rattle.plan_cert.specs.Lines.{action_at}
 use Rattle.cert_check.specs.declared.fault.CheckFault.{CheckFault}
@@ -57,3 +58,7 @@ pub number_answer : (job : JobData) (rows : List RowHead) (row : ℕ) (head : Ro
     → NumberAnswer job rows row head number noted result
 number_answer job rows row head number noted (Ok done) tried answer = λ again. answer
 number_answer job rows row head number noted (Err fault) tried answer = (tried, answer)
+
+-- the leads of the same job
+pub leads_at : (facts job : JobData) (mask leads : Mask) → facts ≡ job → AreLeads facts mask leads → AreLeads job mask leads
+leads_at facts job mask leads same are = subst (λ (j : JobData). AreLeads j mask leads) same are

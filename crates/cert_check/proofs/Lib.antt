@@ -9,6 +9,8 @@ pub mod ItemLemmas
 pub mod NoteLemmas
 pub mod HeadLemmas
 pub mod RowLemmas
+pub mod ProvedLemmas
+pub mod RowLaneLemmas
 pub mod Accounting
 pub mod Deciding
 pub mod StrokeFaults

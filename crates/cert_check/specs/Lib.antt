@@ -6,6 +6,8 @@ pub mod Standing
 pub mod SetActions
 pub mod RowTable
 pub mod Rows
+pub mod ProvedCosts
+pub mod RowLanes
 pub mod Heads
 pub mod Notes
 pub mod Checking

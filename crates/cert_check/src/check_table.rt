@@ -3,14 +3,13 @@ ghost use Rattle.std.specs.Prelude.{false, ◌≡◌, ◌↔◌, ◌<◌, ◌≤
 ghost use Rattle.brake_base.specs.Masks.{has};
 ghost use Rattle.job_setup.specs.Setup.{bend_count, stage_count};
 ghost use Rattle.handling_cost.specs.Plan.{IsReasonFor};
-ghost use Rattle.set_facts.specs.Facts.{IsFacts};
 ghost use Rattle.cert_check.specs.Standing.{IsStanding};
 
 use arrayvec::ArrayVec;
 use brake_base::{Action, Mask, Place, Reason};
 use fold_boxes::place;
 use job_setup::Job;
-use set_facts::{FactTable, SetFacts};
+use set_facts::LaneFacts;
 use std::alloc::{AllocError, Global};
 use std::marker::Model;
 use stroke_table::StrokeTable;
@@ -49,7 +48,7 @@ fn stand(part: &mut Standing, job: &Job, mask: Mask)
 #[derive(Drop)]
 pub(crate) struct CheckTable {
     strokes: StrokeTable,
-    facts: FactTable,
+    facts: LaneFacts,
     part: Standing,
 }
 
@@ -72,7 +71,7 @@ impl CheckTable {
         ensures { IfOk result (λ table. table ≡ job.now) }
     {
         let strokes = StrokeTable::open(alloc, job)?;
-        let facts = FactTable::open(alloc, job)?;
+        let facts = LaneFacts::open(alloc, job)?;
         let part = fold_part(job, Mask::empty());
         Ok(CheckTable {
             strokes,
@@ -81,13 +80,11 @@ impl CheckTable {
         })
     }
 
-    /// What belongs to a set.
-    pub fn facts(&mut self, mask: Mask) -> SetFacts
-        requires { mask.0 < 2 ^ bend_count self.old }
-        ensures facts { IsFacts self.old mask result }
-        ensures table { self.new ≡ self.old }
+    /// What belongs to each set.
+    pub fn facts(&self) -> &LaneFacts
+        ensures { result.now ≡ self.now }
     {
-        self.facts.facts(mask)
+        &self.facts
     }
 
     /// Whether the reason holds against the action where the bends of the mask are folded.

@@ -8,6 +8,8 @@ mod fault;
 mod fault_words;
 mod heads;
 mod notes;
+mod proved_costs;
+mod row_lanes;
 mod row_table;
 mod rows;
 mod set_actions;

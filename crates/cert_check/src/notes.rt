@@ -12,9 +12,8 @@ use crate::check_table::CheckTable;
 use crate::fault::CheckFault;
 use crate::heads::first_job;
 use crate::row_table::RowTable;
-use crate::rows::check_row;
-use crate::set_actions::SetActions;
-use brake_base::{Mask, Reason};
+use crate::rows::{CheckedSet, check_row};
+use brake_base::Reason;
 use job_setup::Job;
 use plan_cert::{CertReader, PlanItem};
 
@@ -35,13 +34,13 @@ pub(crate) fn check_notes(
     job.recall_valid();
     let mut reader = CertReader::new(text);
     let _ = first_job(&mut reader)?;
-    let mut actions = SetActions::of(job, sets, Mask::empty());
+    let mut set = CheckedSet::first(job, rows, sets.facts());
     // What stands before the head of the first row.
     let mut reasons = [None; 144];
     read_notes(&mut reader, &mut reasons)?;
     for row in 0..rows.len() {
         read_notes(&mut reader, &mut reasons)?;
-        if let Err(fault) = check_row(job, rows, sets, &mut actions, row, &reasons) {
+        if let Err(fault) = check_row(job, rows, sets, &mut set, row, &reasons) {
             return Err(fault);
         }
         reasons = [None; 144];
@@ -82,20 +81,21 @@ fn take_note(
     ensures note { (before cert : CertData) → cert_of before (answers_left reader.old) ≡ Ok cert
         → NoteAnswer before cert reasons.old reasons.new (answers_left reader.new) result }
 {
-    match reader.next_behind_job() {
+    let answer = reader.next_behind_job();
+    match &answer {
         Ok(item) => Ok(note_item(reasons, item)),
-        Err(fault) => Err(CheckFault::Cert(fault)),
+        Err(fault) => Err(CheckFault::Cert(*fault)),
     }
 }
 
 /// Keeps the reason of an item that is a note. Whether it is neither the head of a row nor the end.
-fn note_item(reasons: &mut [Option<Reason>; 144], item: PlanItem) -> bool
-    ensures more { result ≡ is_within_row (item_of item) }
-    ensures noted { reasons.new ≡ with_item_reason reasons.old (item_of item) }
+fn note_item(reasons: &mut [Option<Reason>; 144], item: &PlanItem) -> bool
+    ensures more { result ≡ is_within_row (item_of item.now) }
+    ensures noted { reasons.new ≡ with_item_reason reasons.old (item_of item.now) }
 {
     match item {
         PlanItem::Note { action, reason } => {
-            note(reasons, action, reason);
+            note(reasons, *action, *reason);
             true
         }
         PlanItem::Row(_) | PlanItem::End => false,

@@ -8,16 +8,20 @@ ghost use Rattle.handling_cost.specs.Bound.{bound_of};
 ghost use Rattle.plan_cert.specs.Lines.{action_at};
 ghost use Rattle.plan_cert.specs.WellFormed.{IsRow, IsWorth};
 ghost use Rattle.cert_check.specs.SetActions.{IsNext, AreActionsOf};
-ghost use Rattle.cert_check.specs.Rows.{ProvesAfter, ClosesAt, ActionAnswer, NumberAnswer, HeadAnswer, RowAnswer, noted_of};
+ghost use Rattle.cert_check.specs.Rows.{ProvesAfter, ClosesAt, ActionAnswer, NumberAnswer, HeadAnswer, RowAnswer, AreMet, noted_of};
+ghost use Rattle.cert_check.specs.RowLanes.{IsCheckedSet};
 
 use crate::check_table::CheckTable;
 use crate::fault::CheckFault;
+use crate::proved_costs::ProvedCosts;
+use crate::row_lanes::is_met;
 use crate::row_table::RowTable;
 use crate::set_actions::{NextKey, SetActions};
-use brake_base::{Action, Key, Reason, Worth, action_of};
+use brake_base::{Action, Key, Mask, Reason, Worth, action_of};
 use handling_cost::cost_to;
 use job_setup::Job;
 use plan_cert::RowHead;
+use set_facts::LaneFacts;
 
 /// A row with its number, and the reasons of its notes by the numbers of their actions.
 #[derive(Clone, Copy)]
@@ -27,30 +31,86 @@ struct NotedRow<'a> {
     reasons: &'a [Option<Reason>; 144],
 }
 
+/// What is known of the set of folded bends whose rows are looked at.
+#[derive(Drop)]
+pub(crate) struct CheckedSet {
+    actions: SetActions,
+    proved: ProvedCosts,
+}
+
+impl CheckedSet {
+    /// What is known of the set of no bend at first.
+    pub fn first(job: &Job, rows: &RowTable, facts: &LaneFacts) -> CheckedSet
+        requires rows { rows.now.job ≡ job.now }
+        requires facts { facts.now ≡ job.now }
+        ensures set { IsCheckedSet job.now rows.now.rows result }
+    {
+        job.recall_valid();
+        let actions = SetActions::of(job, facts, Mask::empty());
+        let proved = ProvedCosts::of(job, rows, facts, Mask::empty());
+        CheckedSet { actions, proved }
+    }
+}
+
 /// Refuses a row of which an action isn't accounted for. The reasons are those of its notes, by the
 /// numbers of their actions.
 pub(crate) fn check_row(
     job: &Job,
     rows: &RowTable,
     sets: &mut CheckTable,
-    actions: &mut SetActions,
+    set: &mut CheckedSet,
     row: u32,
     reasons: &[Option<Reason>; 144],
 ) -> Result<(), CheckFault>
     requires rows { rows.now.job ≡ job.now }
     requires sets { sets.old ≡ job.now }
-    requires actions { AreActionsOf job.now actions.old }
+    requires set { IsCheckedSet job.now rows.now.rows set.old }
     requires row { row < length rows.now.rows }
     ensures answer { RowAnswer job.now rows.now.rows row reasons.now result }
     ensures sets { sets.new ≡ sets.old }
-    ensures actions { AreActionsOf job.now actions.new }
+    ensures set { IsCheckedSet job.now rows.now.rows set.new }
 {
     let row = NotedRow {
         number: row,
         head: rows.head(row),
         reasons,
     };
-    check_actions(job, rows, sets, actions, &row)
+    if is_row_met(job, rows, sets.facts(), set, &row) {
+        Ok(())
+    } else {
+        check_actions(job, rows, sets, &mut set.actions, &row)
+    }
+}
+
+/// Whether each action of a row is accounted for by what is known of its set. False also where that
+/// isn't known.
+fn is_row_met(
+    job: &Job,
+    rows: &RowTable,
+    facts: &LaneFacts,
+    set: &mut CheckedSet,
+    row: &NotedRow,
+) -> bool
+    requires rows { rows.now.job ≡ job.now }
+    requires facts { facts.now ≡ job.now }
+    requires set { IsCheckedSet job.now rows.now.rows set.old }
+    requires row { IsRow job.now row.now.head }
+    ensures met { IsTrue result → AreMet job.now rows.now.rows row.now.head row.now.reasons.now
+        (2 * bend_count job.now * stage_count job.now) }
+    ensures set { IsCheckedSet job.now rows.now.rows set.new }
+{
+    if set.actions.mask != row.head.key.mask {
+        return false;
+    }
+    set.proved.turn_to(job, rows, facts, row.head.key.mask);
+    is_met(
+        job,
+        facts,
+        &set.proved,
+        &row.head,
+        row.reasons,
+        &set.actions.held,
+    )
 }
 
 /// Refuses the first action of a row that isn't accounted for.
@@ -70,7 +130,7 @@ fn check_actions(
     ensures sets { sets.new ≡ sets.old }
     ensures actions { AreActionsOf job.now actions.new }
 {
-    actions.turn_to(job, sets, row.head.key.mask);
+    actions.turn_to(job, sets.facts(), row.head.key.mask);
     for number in 0..action_count(job) {
         if let Err(fault) = check_number(job, rows, sets, actions, row, number) {
             return Err(fault);
@@ -203,19 +263,18 @@ fn is_closed(job: &Job, rows: &RowTable, head: &RowHead, number: u8, next: &Next
 pub(crate) fn is_proved(
     job: &Job,
     rows: &RowTable,
-    sets: &mut CheckTable,
+    facts: &LaneFacts,
     key: &Key,
     cost: u64,
     worth: Worth,
 ) -> bool
     requires rows { rows.now.job ≡ job.now }
-    requires sets { sets.old ≡ job.now }
+    requires facts { facts.now ≡ job.now }
     requires key { IsKeyOf job.now key.now }
     requires cost { cost ≤ 8000000 }
-    ensures proved { IsTrue result ↔ ProvesAfter job.now rows.now.rows key.now cost worth }
-    ensures sets { sets.new ≡ sets.old }
+    ensures { IsTrue result ↔ ProvesAfter job.now rows.now.rows key.now cost worth }
 {
-    let bound = bound_at(job, sets, key);
+    let bound = bound_at(job, facts, key);
     is_proved_with(rows, key, bound, cost, worth)
 }
 
@@ -238,16 +297,15 @@ fn is_proved_with(rows: &RowTable, key: &Key, bound: u64, cost: u64, worth: Wort
 }
 
 /// The bound of a key.
-pub(crate) fn bound_at(job: &Job, sets: &mut CheckTable, key: &Key) -> u64
-    requires sets { sets.old ≡ job.now }
+pub(crate) fn bound_at(job: &Job, facts: &LaneFacts, key: &Key) -> u64
+    requires facts { facts.now ≡ job.now }
     requires key { IsKeyOf job.now key.now }
     ensures value { result ≡ bound_of job.now key.now }
     ensures small { result ≤ 18000000 }
-    ensures sets { sets.new ≡ sets.old }
 {
     job.recall_valid();
-    let facts = sets.facts(key.mask);
-    u64::from(facts.bound(key.stage))
+    let bounds = facts.bounds(key.mask);
+    u64::from(bounds.cost(key.stage))
 }
 
 /// A worth behind a cost.

@@ -5,14 +5,13 @@ ghost use Rattle.job_setup.specs.Setup.{bend_count, stage_count};
 ghost use Rattle.job_setup.specs.StrokeGroup.{is_lead};
 ghost use Rattle.handling_cost.specs.Plan.{IsReasonFor};
 ghost use Rattle.plan_cert.specs.Lines.{action_at};
-ghost use Rattle.set_facts.specs.Facts.{IsFacts};
 ghost use Rattle.cert_check.specs.SetActions.{IsNext, IsNextOf, AreActionsOf};
 
 use crate::check_table::CheckTable;
 use crate::rows::{action_at, action_count, bound_at};
 use brake_base::{Action, Key, Mask, Reason};
 use job_setup::{Job, group};
-use set_facts::SetFacts;
+use set_facts::LaneFacts;
 
 /// The key to which an action leads, and what every rest from there costs at least.
 #[derive(Clone, Copy, Debug)]
@@ -32,85 +31,66 @@ pub(crate) struct SetActions {
 }
 
 /// Where an action leads whose bend is a lead.
-fn next_after(
-    job: &Job,
-    sets: &mut CheckTable,
-    facts: &SetFacts,
-    mask: Mask,
-    action: Action,
-) -> NextKey
-    requires sets { sets.old ≡ job.now }
-    requires facts { IsFacts job.now mask facts.now }
+fn next_after(job: &Job, facts: &LaneFacts, mask: Mask, action: Action) -> NextKey
+    requires facts { facts.now ≡ job.now }
     requires mask { mask.0 < 2 ^ bend_count job.now }
     requires first { 1 ≤ action.bend }
     requires last { action.bend ≤ bend_count job.now }
     requires stage { action.stage < stage_count job.now }
     requires lead { IsTrue (is_lead job.now mask action.bend) }
-    ensures next { IsNext job.now mask action result }
-    ensures sets { sets.new ≡ sets.old }
+    ensures { IsNext job.now mask action result }
 {
     job.recall_valid();
-    let attitude = facts.attitude(action.bend, action.back);
+    let attitude = facts.attitude(mask, action.bend, action.back);
     let key = Key {
         mask: mask.union(group(job, mask, action.bend)),
         attitude,
         stage: action.stage,
     };
-    let bound = bound_at(job, sets, &key);
+    let bound = bound_at(job, facts, &key);
     NextKey { key, bound }
 }
 
 /// Where the action of a number leads.
-fn next_of(
-    job: &Job,
-    sets: &mut CheckTable,
-    facts: &SetFacts,
-    mask: Mask,
-    number: u8,
-) -> Option<NextKey>
-    requires sets { sets.old ≡ job.now }
-    requires facts { IsFacts job.now mask facts.now }
+fn next_of(job: &Job, facts: &LaneFacts, mask: Mask, number: u8) -> Option<NextKey>
+    requires facts { facts.now ≡ job.now }
     requires mask { mask.0 < 2 ^ bend_count job.now }
     requires number { number < 2 * bend_count job.now * stage_count job.now }
-    ensures next { IsNextOf job.now mask (action_at (stage_count job.now) number) result }
-    ensures sets { sets.new ≡ sets.old }
+    ensures { IsNextOf job.now mask (action_at (stage_count job.now) number) result }
 {
     job.recall_valid();
     let action = action_at(job, number);
-    if facts.leads.contains(action.bend) {
-        Some(next_after(job, sets, facts, mask, action))
+    if facts.leads(mask).contains(action.bend) {
+        Some(next_after(job, facts, mask, action))
     } else {
         None
     }
 }
 
 /// Where the actions lead.
-fn all_next(job: &Job, sets: &mut CheckTable, mask: Mask) -> [Option<NextKey>; 144]
-    requires sets { sets.old ≡ job.now }
+fn all_next(job: &Job, facts: &LaneFacts, mask: Mask) -> [Option<NextKey>; 144]
+    requires facts { facts.now ≡ job.now }
     requires mask { mask.0 < 2 ^ bend_count job.now }
-    ensures next { (number : ℕ) → number < 2 * bend_count job.now * stage_count job.now
+    ensures { (number : ℕ) → number < 2 * bend_count job.now * stage_count job.now
         → IsNextOf job.now mask (action_at (stage_count job.now) number)
         (slice_index_or result number None) }
-    ensures sets { sets.new ≡ sets.old }
 {
-    let facts = sets.facts(mask);
     let mut next = [None; 144];
     for number in 0..action_count(job) {
-        next[usize::from(number)] = next_of(job, sets, &facts, mask, number);
+        next[usize::from(number)] = next_of(job, facts, mask, number);
     }
     next
 }
 
 impl SetActions {
     /// What belongs to the actions of a set, against which no reason is known to hold.
-    pub fn of(job: &Job, sets: &mut CheckTable, mask: Mask) -> SetActions
-        requires sets { sets.old ≡ job.now }
+    pub fn of(job: &Job, facts: &LaneFacts, mask: Mask) -> SetActions
+        requires facts { facts.now ≡ job.now }
         requires mask { mask.0 < 2 ^ bend_count job.now }
         ensures actions { AreActionsOf job.now result }
         ensures mask { result.mask ≡ mask }
-        ensures sets { sets.new ≡ sets.old }
     {
-        let next = all_next(job, sets, mask);
+        let next = all_next(job, facts, mask);
         SetActions {
             mask,
             next,
@@ -119,16 +99,15 @@ impl SetActions {
     }
 
     /// Makes them those of a set.
-    pub fn turn_to(&mut self, job: &Job, sets: &mut CheckTable, mask: Mask)
+    pub fn turn_to(&mut self, job: &Job, facts: &LaneFacts, mask: Mask)
         requires actions { AreActionsOf job.now self.old }
-        requires sets { sets.old ≡ job.now }
+        requires facts { facts.now ≡ job.now }
         requires mask { mask.0 < 2 ^ bend_count job.now }
         ensures actions { AreActionsOf job.now self.new }
         ensures mask { self.new.mask ≡ mask }
-        ensures sets { sets.new ≡ sets.old }
     {
         if self.mask != mask {
-            *self = SetActions::of(job, sets, mask);
+            *self = SetActions::of(job, facts, mask);
         }
     }
 
@@ -196,7 +175,7 @@ impl SetActions {
 }
 
 /// Whether both reasons are one.
-fn is_same(first: Reason, second: Reason) -> bool
+pub(crate) fn is_same(first: Reason, second: Reason) -> bool
     ensures { IsTrue result ↔ (first ≡ second) }
 {
     first == second

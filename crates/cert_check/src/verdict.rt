@@ -17,6 +17,7 @@ use brake_base::{Step, Worth};
 use handling_cost::start_key;
 use job_setup::Job;
 use plan_cert::RowHead;
+use set_facts::LaneFacts;
 use std::alloc::Global;
 
 /// What an accepted certificate proves: that no plan costs less than this, and one costs it; or
@@ -106,7 +107,7 @@ fn check_rows(
     let rows = RowTable::open(alloc, job, rows)?;
     let mut sets = CheckTable::open(alloc, job)?;
     match check_notes(text, job, &rows, &mut sets) {
-        Ok(()) => check_claim(job, &rows, &mut sets, claim),
+        Ok(()) => check_claim(job, &rows, sets.facts(), claim),
         Err(fault) => Err(fault),
     }
 }
@@ -125,15 +126,15 @@ fn verdict_of(claim: Worth) -> Verdict
 fn check_claim(
     job: &Job,
     rows: &RowTable,
-    sets: &mut CheckTable,
+    facts: &LaneFacts,
     claim: Worth,
 ) -> Result<(), CheckFault>
     requires rows { rows.now.job ≡ job.now }
-    requires sets { sets.old ≡ job.now }
+    requires facts { facts.now ≡ job.now }
     ensures { ProvesAnswer job.now rows.now.rows claim result }
 {
     job.recall_valid();
-    if is_proved(job, rows, sets, &start_key(), 0, claim) {
+    if is_proved(job, rows, facts, &start_key(), 0, claim) {
         Ok(())
     } else {
         Err(CheckFault::TooLow)

@@ -1,6 +1,5 @@
 use Rattle.std.proofs.Common.{rules, ◌≡◌, ◌<◌, ◌∷◌, ℕ, List, length, Ok, Err, ◌∙◌, ap, subst, arith}
 use Rattle.job_setup.specs.Setup.{JobData}
-use Rattle.handling_cost.proofs.Keys.{start_in_range}
 use Rattle.plan_cert.specs.declared.cert.RowHead.{RowHead}
 use Rattle.plan_cert.specs.declared.format.TextKind.TheVariants.{Certificate}
 use Rattle.plan_cert.specs.Reading.{Reading}
@@ -43,14 +42,11 @@ pub returns-in_err-read_notes-clause-answer : goal.returns-in_err-read_notes-cla
 returns-in_err-read_notes-clause-answer c = λ cert written.
     absurd (c.in_err-read_notes.ensures.notes no_cert cert (job_completes c.args.text.now c.args.job.now c.in_ok-first_job.field-0 c.new-reader.result c.first_job.new.reader cert c.new-reader.ensures.reader c.in_ok-first_job.ensures.job written) holds_none)
 
-pub of-actions-requires-clause-mask : goal.of-actions-requires-clause-mask
-of-actions-requires-clause-mask c = rw c.empty.ensures.number (start_in_range c.args.job.now c.recall_valid.ensures).mask
-
 pub loop-row-init : goal.loop-row-init
 loop-row-init c = record {
   job = let on = ap (λ (q : Reading). q.answered) c.first_job.ensures.reader in let further = c.in_ok-read_notes.ensures.reader.further in omega (arith, on, further);
   sets = search rules;
-  actions = c.of-actions.ensures.actions;
+  set = c.first-set.ensures.set;
   each = λ cert written same. (
     ready_first cert c.read_notes.new.reasons (answers_left c.read_notes.new.reader)
         (c.in_ok-read_notes.ensures.notes no_cert cert (job_completes c.args.text.now c.args.job.now c.in_ok-first_job.field-0 c.new-reader.result c.first_job.new.reader cert c.new-reader.ensures.reader c.in_ok-first_job.ensures.job written) holds_none),
@@ -93,7 +89,7 @@ pub loop-row-preserved : goal.loop-row-preserved
 loop-row-preserved c = record {
   job = let so_far = c.loop-row.invariant.job in let further = c.in_ok-read_notes-2.ensures.reader.further in omega (arith, so_far, further);
   sets = c.check_row.ensures.sets ∙ c.loop-row.invariant.sets;
-  actions = c.check_row.ensures.actions;
+  set = c.check_row.ensures.set;
   each = λ cert written same.
       let job = c.args.job.now in
       let row = c.loop-row.row in

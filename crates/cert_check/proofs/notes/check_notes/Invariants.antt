@@ -3,7 +3,7 @@ use Rattle.plan_cert.specs.Cert.{CertData}
 use Rattle.plan_cert.specs.CertReading.{answers_left}
 use Rattle.cert_check.specs.Texts.{IsTextOfCert}
 use Rattle.plan_cert.specs.RowFaults.{RowsAreAccounted}
-use Rattle.cert_check.specs.SetActions.{AreActionsOf}
+use Rattle.cert_check.specs.RowLanes.{IsCheckedSet}
 use Rattle.cert_check.proofs.Accounting.{IsReady}
 use Rattle.cert_check.proofs.notes.check_notes.Given as goal
 
@@ -11,6 +11,6 @@ abbrev pub invariant-loop-row : goal.invariant-loop-row
 invariant-loop-row l = record {
   job : 0 < l.reader.answered;
   sets : l.sets ≡ l.initial.sets;
-  actions : AreActionsOf l.job l.actions;
+  set : IsCheckedSet l.job l.rows.rows l.set;
   each : (cert : CertData) → IsTextOfCert l.text l.job cert → l.rows.rows ≡ cert.rows → IsReady cert l.row l.reasons (answers_left l.reader) × RowsAreAccounted l.job cert.rows cert.notes l.row;
 }

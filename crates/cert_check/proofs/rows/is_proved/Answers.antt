@@ -11,8 +11,8 @@ is_proved_with-requires-clause-key c = subst (λ (job : JobData). IsKeyOf job c.
 pub is_proved_with-requires-clause-bound : goal.is_proved_with-requires-clause-bound
 is_proved_with-requires-clause-bound c = c.bound_at-bound.ensures.value ∙ ap (λ (job : JobData). bound_of job c.args.key.now) (sym c.requires.rows)
 
-pub returns-clause-proved : goal.returns-clause-proved
-returns-clause-proved c = (
+pub returns : goal.returns
+returns c = (
   (λ yes. subst (λ (job : JobData). ProvesAfter job c.args.rows.now.rows c.args.key.now c.args.cost c.args.worth) c.requires.rows (c.is_proved_with.ensures.0 yes)),
   λ proves. c.is_proved_with.ensures.1 (subst (λ (job : JobData). ProvesAfter job c.args.rows.now.rows c.args.key.now c.args.cost c.args.worth) (sym c.requires.rows) proves),
 )

@@ -6,5 +6,4 @@ abbrev pub invariant-loop-number : goal.invariant-loop-number
 invariant-loop-number l = record {
   count : length l.next ≡ 144;
   below : AreNextBelow l.job l.mask l.number l.next;
-  sets : l.sets ≡ l.initial.sets;
 }

@@ -3,6 +3,7 @@ use Rattle.brake_base.specs.declared.stroke.Action.{Action}
 use Rattle.job_setup.specs.StrokeGroup.{is_lead}
 use Rattle.handling_cost.proofs.Actions.{few_bends}
 use Rattle.cert_check.specs.SetActions.{IsNext}
+use Rattle.cert_check.proofs.ActionLemmas.{leads_at}
 use Rattle.cert_check.proofs.set_actions.next_of.Goals as goal
 
 pub contains-requires-clause-last : goal.contains-requires-clause-last
@@ -11,14 +12,14 @@ contains-requires-clause-last c = let few = few_bends c.args.job.now c.recall_va
 pub next_after-requires-clause-lead : goal.next_after-requires-clause-lead
 next_after-requires-clause-lead c =
     let action = c.action_at-action.ensures in
-    sym (c.requires.facts.leads c.action_at-action.result.bend action.first action.last) ∙ (sym c.contains.ensures ∙ c.if-contains.true)
+    sym (leads_at c.args.facts.now c.args.job.now c.args.mask c.leads.result c.requires.facts c.leads.ensures.leads c.action_at-action.result.bend action.first action.last) ∙ (sym c.contains.ensures ∙ c.if-contains.true)
 
-pub returns-then-contains-clause-next : goal.returns-then-contains-clause-next
-returns-then-contains-clause-next c =
-    subst (λ (a : Action). IsNext c.args.job.now c.args.mask a c.next_after.result) c.action_at-action.ensures.value c.next_after.ensures.next
+pub returns-then-contains : goal.returns-then-contains
+returns-then-contains c =
+    subst (λ (a : Action). IsNext c.args.job.now c.args.mask a c.next_after.result) c.action_at-action.ensures.value c.next_after.ensures
 
-pub returns-else-contains-clause-next : goal.returns-else-contains-clause-next
-returns-else-contains-clause-next c =
+pub returns-else-contains : goal.returns-else-contains
+returns-else-contains c =
     let action = c.action_at-action.ensures in
     ap (λ (a : Action). is_lead c.args.job.now c.args.mask a.bend) (sym action.value)
-    ∙ (sym (c.requires.facts.leads c.action_at-action.result.bend action.first action.last) ∙ (sym c.contains.ensures ∙ c.if-contains.false))
+    ∙ (sym (leads_at c.args.facts.now c.args.job.now c.args.mask c.leads.result c.requires.facts c.leads.ensures.leads c.action_at-action.result.bend action.first action.last) ∙ (sym c.contains.ensures ∙ c.if-contains.false))
