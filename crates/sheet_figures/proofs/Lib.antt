@@ -1,0 +1,13 @@
+mod Growing
+mod Sizes
+mod Lengths
+mod Quotients
+mod Apart
+mod Joints
+mod MachineBoxes
+mod DrawnPoints
+mod Painted
+mod Ranks
+mod Pictures
+mod StrokeViews
+mod Sweeps

@@ -1,0 +1,5 @@
+use Rattle.sheet_figures.proofs.Growing.{grows_on}
+use Rattle.sheet_figures.proofs.face_names.put_face_names.Goals as goal
+
+pub loop-i-preserved : goal.loop-i-preserved
+loop-i-preserved c = grows_on _ c.loop-i.invariant c.in_ok-put_face_name.ensures

@@ -1,0 +1,5 @@
+use Rattle.sheet_figures.specs.Extending.{Extends}
+use Rattle.sheet_figures.proofs.front_ends.put_ends.Given as goal
+
+abbrev pub invariant-loop-i : goal.invariant-loop-i
+invariant-loop-i l = Extends l.initial.out.items l.out.items
