@@ -1,0 +1,10 @@
+mod KeptLemmas
+mod KeptNotes
+mod Appending
+mod Joined
+mod Sizes
+mod Gauging
+mod FewSteps
+mod Blocks
+mod Tried
+mod Costs

@@ -1,0 +1,6 @@
+-- text is appended
+use Rattle.sheet_figures.specs.Extending.{Extends}
+use Rattle.sheet_page.proofs.refusal_table.Refusals.put_left_rows.Given as goal
+
+abbrev pub invariant-loop-bend : goal.invariant-loop-bend
+invariant-loop-bend l = Extends l.fn.out.items l.out.items

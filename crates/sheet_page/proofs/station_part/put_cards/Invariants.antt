@@ -1,0 +1,6 @@
+-- text is appended
+use Rattle.sheet_figures.specs.Extending.{Extends}
+use Rattle.sheet_page.proofs.station_part.put_cards.Given as goal
+
+abbrev pub invariant-loop-number : goal.invariant-loop-number
+invariant-loop-number l = Extends l.fn.out.items l.out.items

@@ -1,0 +1,13 @@
+pub mod Page
+pub mod Head
+pub mod Lists
+pub mod Warnings
+pub mod Stations
+pub mod Strokes
+pub mod Headings
+pub mod Facts
+pub mod Orders
+pub mod Blocks
+pub mod NoPlan
+pub mod Kept
+pub mod Refused
