@@ -1,0 +1,4 @@
+pub mod Say
+pub mod Draw
+pub mod Run
+pub mod Words
