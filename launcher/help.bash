@@ -12,6 +12,7 @@ what_it_does() {
     settle) printf 'settles the states of a range of sets of bends, over the table BASE if one is given, and stores them as a table' ;;
     merge) printf 'joins two tables of one job into one, which is the same in either order' ;;
     prove) printf 'confirms or refuses a table, and prints what it proves of every plan' ;;
+    sheet) printf 'checks a certificate, and stores a page for the shop that shows the plan, or what stands in the way' ;;
   esac
 }
 
@@ -19,12 +20,18 @@ what_it_does() {
 built_commands() {
   local name
   for name in $(commands_of_usage); do is_built "$name" && printf '%s\n' "$name"; done
+  printf 'sheet\n'
 }
+
+# The line of the usage text for a command.
+# shellcheck disable=SC2154
+line_of() { if [ "$1" = sheet ]; then printf '%s\n' "$sheet_usage"; else usage_line "$1"; fi; }
 
 what_the_words_are() {
   printf '\nPART, TOOLS and MACHINE are TOML files; CERT is stored by plan and read by check. All lengths are whole micrometres.\n'
   printf 'SETUPS is a TOML file too: a list of setups, whose certificates are stored as CERT.0 to CERT.15.\n'
   printf 'OUT is a table that settle or merge stores, TABLE and BASE are such tables; LOW and HIGH are sets of bends as numbers.\n'
+  printf 'The OUT of sheet is a page for a browser, which prints on A4.\n'
 }
 
 # A line for each command that is built.
@@ -32,7 +39,7 @@ print_help() {
   local name line
   printf 'brake plans the bending of sheet metal on a press brake. Its commands:\n\n'
   while read -r name; do
-    line=$(usage_line "$name")
+    line=$(line_of "$name")
     printf '  %s\n      %s\n' "${line#usage: }" "$(what_it_does "$name")"
   done < <(built_commands)
   what_the_words_are
@@ -45,7 +52,7 @@ print_man_page() {
   local line name form
   while IFS= read -r line; do
     case "$line" in
-      @FORMS@) while read -r name; do form=$(usage_line "$name") && printf '.B %s\n' "${form#usage: }"; done < <(built_commands) ;;
+      @FORMS@) while read -r name; do form=$(line_of "$name") && printf '.B %s\n' "${form#usage: }"; done < <(built_commands) ;;
       @COMMANDS@) while read -r name; do printf '.TP\n.B %s\n%s.\n' "$name" "$(what_it_does "$name")"; done < <(built_commands) ;;
       *) printf '%s\n' "$line" ;;
     esac

@@ -11,6 +11,15 @@
 #   usage           the usage text, which has the lines of all commands, also of those that aren't built yet
 
 program=${program-} usage=${usage-} scratch=
+# The command `sheet` has a program of its own, which answers to the words behind it.
+# shellcheck disable=SC2034
+sheet_usage='usage: brake sheet CERT OUT'
+
+# Sets `own`: the words of a command that its program is given.
+own_words() {
+  own=("$@")
+  [ "${1-}" != sheet ] || own=("${@:2}")
+}
 
 # One line on standard error; what a file holds may stand in it, so it is made printable and not too long.
 say() {
@@ -26,7 +35,7 @@ usage_line() { sed -n "/^usage: brake $1 /p" <<<"$usage"; }
 # Whether a command of the usage text is built: the program answers the words of another with the usage text and status 2
 # before it fetches a file. Here none can be fetched or stored.
 is_built() {
-  local line words at
+  local line words at own
   [ -n "$program" ] || { is_built_in_sources "$1"; return; }
   line=$(usage_line "$1")
   read -ra words <<<"${line%%[*}"
@@ -36,7 +45,8 @@ is_built() {
       [A-Z]*) words[at]=/dev/null/$at ;;
     esac
   done
-  "$program" "${words[@]:2}" >/dev/null 2>&1
+  own_words "${words[@]:2}"
+  "$program" "${own[@]}" >/dev/null 2>&1
   [ $? != 2 ]
 }
 
@@ -69,6 +79,7 @@ places() {
     settle) files=(1 2 3 4 7) stored=4 ;;
     merge) files=(1 2 3) stored=3 ;;
     prove) files=(1) ;;
+    sheet) files=(1 2) stored=2 ;;
   esac
 }
 
@@ -185,12 +196,13 @@ are_plain() {
 
 # The line of a refusal: as it was kept, or of a second run, which ends before anything is stored.
 refusal_line() {
-  local line=$printed before=$status again
+  local line=$printed before=$status again own
   if [ -z "$line" ]; then
     are_plain || return 1
     again=("${words[@]}")
     [ -n "$stored" ] && again[stored]=/dev/null
-    line=$("$program" "${again[@]}" 2>/dev/null)
+    own_words "${again[@]}"
+    line=$("$program" "${own[@]}" 2>/dev/null)
     [ $? = "$before" ] || return 1
   fi
   printf '%s' "${line%%$'\n'*}"

@@ -372,7 +372,7 @@ range_refusal() {
 # `refused long K`.
 long_refusal() {
   local place=${files[$1 - 1]} limit=1,048,576
-  case "${words[0]} $1" in 'check 1' | 'merge '* | 'prove '* | 'settle 5') limit=1,073,741,824 ;; esac
+  case "${words[0]} $1" in 'check 1' | 'sheet 1' | 'merge '* | 'prove '* | 'settle 5') limit=1,073,741,824 ;; esac
   why="${words[place]}: it has more than $limit bytes"
 }
 
@@ -655,6 +655,7 @@ tell_no_plan() {
     merge) cert=${words[3]} where='all rows' ;;
     check) cert=${words[1]} ;;
     prove) cert=${words[1]} where='all rows' ;;
+    sheet) say "no plan: ${words[2]} shows the first and the last strokes that are refused"; return ;;
     setups) say "no setup of the list has a plan: 'brake check ${words[5]}.I' confirms it of setup I, and tells what refuses its strokes"; return ;;
     *) return ;;
   esac
