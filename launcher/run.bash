@@ -8,6 +8,7 @@
 #   program         the program's path, empty where it runs without a proof
 #   docs            the folder of formats.md and certificate.md
 #   is_built_in_sources COMMAND, where there may be no program
+#   built_drawer    puts the path of brake_draw, or fails where it isn't built
 #   usage           the usage text, which has the lines of all commands, also of those that aren't built yet
 
 program=${program-} usage=${usage-} scratch=

@@ -558,10 +558,18 @@ tell_table_refusal() {
   [ -n "$why" ] && say "$cert: $why ($docs/certificate.md, Table files)"
 }
 
-# A line of standard output with the status 3 or 5, in words.
+# The sentence of a refusal, by the program brake_draw where it is built; `sheet` has put it already.
+tell_sentence() {
+  local drawer sentence
+  [ "${words[0]}" = sheet ] && return
+  drawer=$(built_drawer) && sentence=$("$drawer" say "$1" 2>/dev/null) && say "$sentence"
+}
+
+# A line of standard output with the status 3 or 5, in words: its sentence, and below it where in which file.
 tell_refusal() {
   local line part tools machine setups=${words[4]-} cert=${words[1]-}
   read -ra line <<<"$1"
+  tell_sentence "$1"
   case "${words[0]}" in
     check) part=${words[2]-} tools=${words[3]-} machine=${words[4]-} ;;
     *) part=${words[1]-} tools=${words[2]-} machine=${words[3]-} ;;
