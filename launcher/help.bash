@@ -63,6 +63,7 @@ print_launcher_help() {
   printf '\nOf the launcher:\n\n'
   printf '  %s\n      %s\n' \
     'brake --build' 'proves and builds the program' \
+    'brake --build sheet' 'proves and builds the program of the command sheet' \
     'brake --install DIR' 'copies the proved program to DIR/bin, DIR/lib and DIR/share; it needs no kit there' \
     'brake --path' 'prints where the program is that would be started' \
     'brake --version' 'prints its commit and day, the logic of its proof and its checksum' \
