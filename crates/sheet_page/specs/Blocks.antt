@@ -27,28 +27,28 @@ block_words job count stroke =
     ++ line_of FACTS.now [] ++ facts_text job stroke
     ++ warning_line (warnings job stroke.fingers)
 
--- The text goes on with the pictures of a stroke in two rows: its side views, so many, numbered from
--- `figure`; then the view from above, and the part before the stroke and after it.
+-- the text goes on with the three others beside the side views: the view from above, numbered
+-- `figure`, and the part before the stroke and after it
+abbrev pub AreOthers :
+    JobData → StrokeData → (figure : ℤ) → (before after : List ℕ) → Type 0
+AreOthers job stroke figure before after =
+    (above : List ℕ)
+    × IsAboveView job stroke.step.action.stage stroke.drawing stroke.fingers figure before above
+    × AreBodies stroke.drawing (figure +ℤ pos 1) above after
+
+-- The text goes on with the pictures of a stroke in two rows: its side views, so many, numbered
+-- from `figure`; then the three others.
 pub record ArePictures (job : JobData) (stroke : StrokeData) (figure views : ℤ)
     (before after : List ℕ) : Type 0 where
   pub sides : List ℕ
   pub side_views :
       AreSideViews job stroke.step.action stroke.drawing stroke.fingers figure views
       (before ++ line_of ROW.now []) sides
-  pub above : List ℕ
-  pub above_view :
-      IsAboveView job stroke.step.action.stage stroke.drawing stroke.fingers (figure +ℤ views)
-      (sides ++ line_of DIV_END.now [] ++ line_of ROW.now []) above
   pub bodies : List ℕ
-  pub part_views : AreBodies stroke.drawing ((figure +ℤ views) +ℤ pos 1) above bodies
+  pub others :
+      AreOthers job stroke (figure +ℤ views)
+      (sides ++ line_of DIV_END.now [] ++ line_of ROW.now []) bodies
   pub text : after ≡ bodies ++ line_of DIV_END.now []
-
--- the view from above and the part before and after
-abbrev pub AreOthers :
-    JobData → StrokeData → (figure : ℤ) → (before after : List ℕ) → Type 0
-AreOthers job stroke figure before after =
-    (above : List ℕ) × IsAboveView job stroke.step.action.stage stroke.drawing stroke.fingers figure before above
-    × AreBodies stroke.drawing (figure +ℤ pos 1) above after
 
 -- The text goes on with the block of a stroke, of so many: what it says, and its pictures.
 pub record IsBlock (job : JobData) (count : ℕ) (stroke : StrokeData) (figure views : ℤ)

@@ -25,9 +25,7 @@ returns-clause-rows c =
     simp to_z-of_z (record {
       sides = c.put_sides.new.out.items;
       side_views = subst (λ (t : List ℕ). AreSideViews job stroke.step.action stroke.drawing stroke.fingers figure views t c.put_sides.new.out.items) c.in_ok-put_line.ensures sides;
-      above = placed.0;
-      above_view = placed.1;
       bodies = c.put_others.new.out.items;
-      part_views = placed.2;
+      others = placed;
       text = c.in_ok-put_line-4.ensures;
     })
