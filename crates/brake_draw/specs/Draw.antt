@@ -31,8 +31,8 @@ draw_form = Certificate ∷ Output ∷ []
 abbrev pub told_size : List ℕ → ℕ
 told_size text = min (length text) (2 ^ 63 - 1)
 
--- what a page shows of a good certificate: its steps, which are a plan of least cost; or the
--- refused strokes of its notes, where there is no plan
+-- what a page shows of a good certificate: its steps, which are a plan of least cost; or that there
+-- is no plan
 abbrev pub IsPageFor : Worth → JobData → CertData → ℕ → List ℕ → Type 0
 IsPageFor (Cost cost) job cert size page =
     IsLeastPlan job cost cert.steps × IsPlanPage job cert.steps cost size page
