@@ -25,4 +25,3 @@ pub mod Run
 pub mod Headline
 pub mod Complete
 pub mod Confirmed
-pub mod Words

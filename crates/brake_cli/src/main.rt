@@ -16,6 +16,7 @@ mod merge;
 mod plan;
 #[cfg(test)]
 mod plan_tests;
+mod program;
 mod prove;
 mod refusal;
 mod settle;
@@ -34,19 +35,18 @@ mod usage;
 mod why;
 #[cfg(test)]
 mod why_tests;
-mod words;
 #[cfg(test)]
 mod words_tests;
 
 use brake_io::{DirShelf, StdSink};
+use program::run_program;
 use std::env;
 use std::process::ExitCode;
-use words::{exit_code, run_program};
 
 /// Runs the command over the files of the current folder and standard output, and ends with the
 /// status's number.
 fn main(rt: HostRuntime) -> ExitCode {
     let mut shelf = DirShelf::new(&rt);
     let mut out = StdSink::new(&rt);
-    exit_code(run_program(rt.alloc(), env::args(&rt), &mut shelf, &mut out))
+    run_program(rt.alloc(), env::args(&rt), &mut shelf, &mut out).exit_code()
 }

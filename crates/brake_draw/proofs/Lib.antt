@@ -1,1 +1,2 @@
+mod FirstSteps
 mod Drawing

@@ -19,7 +19,7 @@ use Rattle.command_runner.specs.declared.word_kind.WordKind.{WordKind}
 use Rattle.command_runner.specs.declared.word_kind.WordKind.TheVariants.{Certificate, Output}
 use Rattle.command_runner.specs.declared.status.Status.{Status}
 use Rattle.command_runner.specs.declared.status.Status.TheVariants.{Done, NoPlan, CertRefused}
-use Rattle.command_runner.specs.Answers.{AnswerData, one_text}
+use Rattle.command_runner.specs.Answers.{AnswerData, one_text, one_stored}
 use Rattle.command_runner.specs.Fetching.{word_at}
 use Rattle.brake_draw.specs.Say.{sentence_line}
 
@@ -55,20 +55,25 @@ abbrev pub claim_status : Worth → Status
 claim_status (Cost cost) = Done
 claim_status Blocked = NoPlan
 
--- the answer that stores the page under the name and puts the line of the certificate's claim
-abbrev pub page_answer : List ℕ → CertData → List ℕ → AnswerData
-page_answer name cert page = record {
-  stored = record { name = name; text = page } ∷ [];
-  status = claim_status cert.claim;
-  texts = claim_line cert.claim (length cert.steps) ∷ [];
+-- the answer that stores a page under the name and puts a line
+abbrev pub stored_page : List ℕ → List ℕ → Status → List ℕ → AnswerData
+stored_page name page status line = record {
+  stored = one_stored name page;
+  status = status;
+  texts = line ∷ [];
 }
 
--- the text is that of a good certificate, whose claim is true of its job
-pub record IsProved (text : List ℕ) : Type 0 where
-  pub job : JobData
+-- the answer that stores the page under the name and puts the line of the certificate's claim
+abbrev pub page_answer : List ℕ → CertData → List ℕ → AnswerData
+page_answer name cert page =
+    stored_page name page (claim_status cert.claim) (claim_line cert.claim (length cert.steps))
+
+-- the text is that of a good certificate of the job, whose claim is this and is true
+pub record IsProved (text : List ℕ) (job : JobData) (claim : Worth) : Type 0 where
   pub cert : CertData
   pub good : IsGoodText text job cert
-  pub claim : IsTrueClaim job cert.claim
+  pub claims : cert.claim ≡ claim
+  pub truth : IsTrueClaim job claim
 
 -- the text is that of a good certificate, and the answer stores its page under the name
 pub record IsDrawn (name text : List ℕ) (answer : AnswerData) : Type 0 where

@@ -1,4 +1,4 @@
 pub mod Say
+pub mod Steps
 pub mod Draw
 pub mod Run
-pub mod Words

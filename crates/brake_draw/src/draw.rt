@@ -1,21 +1,21 @@
 //! What is answered to a certificate: the page that is stored, and the line that is put.
 ghost use Rattle.std.specs.Prelude.{◌≡◌, ◌^◌, ◌<◌, pos, int_le, unsigned_abs, length, map, string_bytes, IsTrue, IfOk};
 ghost use Rattle.std.specs.Vec.{vec_items};
-ghost use Rattle.plan_cert.specs.Cert.{cert_data};
-ghost use Rattle.plan_cert.specs.GoodCert.{IsGoodCert};
-ghost use Rattle.handling_cost.specs.Claim.{IsTrueClaim};
+ghost use Rattle.brake_base.specs.declared.stroke.Worth.TheVariants.{Cost, Blocked};
+ghost use Rattle.cert_check.specs.Checking.{IsAccepted, IsTrueOf};
 ghost use Rattle.command_runner.specs.Answers.{answer_data};
 ghost use Rattle.command_runner.specs.Fetching.{word_at};
 ghost use Rattle.command_runner.specs.Delivery.{IsCutShort};
-ghost use Rattle.brake_draw.specs.Draw.{told_size, IsPageFor, drawn_line, claim_line, claim_status, page_answer, refusal_line, refusal_text, IsProved, IsDrawn, IsCertRefusal, IsTextAnswer, IsDrawAnswer};
+ghost use Rattle.brake_draw.specs.Draw.{told_size, drawn_line, no_plan_line, stored_page, refusal_line, refusal_text, IsProved, IsDrawn, IsCertRefusal, IsTextAnswer, IsDrawAnswer};
 
 use crate::say::put_sentence;
-use brake_base::Worth;
+use crate::steps::steps_of;
 use brake_io::{Shelf, StoreFault};
 use brake_text::{put_number, put_word};
-use cert_check::{CheckFault, check};
+use cert_check::{CheckFault, Verdict, check};
 use command_runner::{Answer, Command, Status, StoredText, WordKind, word_at};
-use plan_cert::{Cert, CertFault, CertFile, read_cert};
+use job_setup::Job;
+use plan_cert::{CertFault, read_cert};
 use refusal_words::sentence;
 use sheet_page::{no_plan_page, plan_page};
 use std::alloc::{AllocError, Global};
@@ -23,32 +23,6 @@ use std::alloc::{AllocError, Global};
 /// `CERT OUT`: the certificate is checked, and its page is stored.
 #[derive(Clone, Copy, Debug, PartialEq, Eq)]
 pub struct Draw;
-
-/// The page of a good certificate, which has so many bytes.
-fn page_of(alloc: Global, file: &CertFile, size: i64) -> Result<Vec<u8>, AllocError>
-    requires good { IsGoodCert file.now.job (cert_data file.now.cert) }
-    requires claim { IsTrueClaim file.now.job file.now.cert.claim }
-    requires size { IsTrue (int_le (pos 0) size) }
-    ensures { IfOk result (λ page. IsPageFor file.now.cert.claim file.now.job
-        (cert_data file.now.cert) (unsigned_abs size) page.items) }
-{
-    let steps = file.cert.steps.as_slice();
-    match file.cert.claim {
-        Worth::Cost(cost) => plan_page(alloc, &file.job, steps, cost, size),
-        Worth::Blocked => no_plan_page(alloc, &file.job, &file.cert, size),
-    }
-}
-
-/// How the run ends for a claim.
-fn status_of(claim: Worth) -> Status
-    ensures status { result ≡ claim_status claim }
-    ensures whole { ¬ IsCutShort result }
-{
-    match claim {
-        Worth::Cost(_) => Status::Done,
-        Worth::Blocked => Status::NoPlan,
-    }
-}
 
 /// The line of how many strokes are drawn.
 #[tactic(auto, using(plan_cert::proofs::Texts::pieces), unfolding(crate::specs::Draw::drawn_line))]
@@ -63,22 +37,25 @@ fn drawn_line(alloc: Global, strokes: usize) -> Result<Vec<u8>, AllocError>
     Ok(line)
 }
 
-/// The line that is put for a claim, with so many steps.
+/// The line that there is no plan.
 #[tactic(auto, unfolding(crate::specs::Draw::no_plan_line))]
-fn line_of(alloc: Global, claim: Worth, steps: usize) -> Result<Vec<u8>, AllocError>
-    requires { steps < 2 ^ 63 }
-    ensures { IfOk result (λ line. line.items ≡ claim_line claim steps) }
+fn no_plan_line(alloc: Global) -> Result<Vec<u8>, AllocError>
+    ensures { IfOk result (λ line. line.items ≡ no_plan_line) }
 {
-    match claim {
-        Worth::Cost(_) => drawn_line(alloc, steps),
-        Worth::Blocked => Vec::from_slice(alloc, b"no plan\n"),
-    }
+    Vec::from_slice(alloc, b"no plan\n")
 }
 
-/// The answer that stores the page of a certificate under the name and puts its line.
-fn stored(alloc: Global, name: &str, cert: &Cert, page: Vec<u8>) -> Result<Answer, AllocError>
+/// The answer that stores a page under the name and puts a line.
+fn stored(
+    alloc: Global,
+    name: &str,
+    page: Vec<u8>,
+    status: Status,
+    line: Vec<u8>,
+) -> Result<Answer, AllocError>
+    requires { ¬ IsCutShort status }
     ensures answer { IfOk result (λ answer. answer_data answer
-        ≡ page_answer name.now (cert_data cert.now) page.items) }
+        ≡ stored_page name.now page.items status line.items) }
     ensures status { IfOk result (λ answer. ¬ IsCutShort answer.status) }
 {
     let mut stored = Vec::new(alloc);
@@ -87,10 +64,10 @@ fn stored(alloc: Global, name: &str, cert: &Cert, page: Vec<u8>) -> Result<Answe
         text: page,
     })?;
     let mut texts = Vec::new(alloc);
-    texts.push(line_of(alloc, cert.claim, cert.steps.len())?)?;
+    texts.push(line)?;
     Ok(Answer {
         stored,
-        status: status_of(cert.claim),
+        status,
         texts,
     })
 }
@@ -103,21 +80,61 @@ fn told_size(text: &[u8]) -> i64
     text.len().min(usize::MAX / 2) as i64
 }
 
-/// The answer to a good certificate, which is read once more: its page is stored under the name.
-fn drawn(alloc: Global, name: &str, text: &[u8]) -> Result<Answer, AllocError>
-    requires { IsProved text.now }
+/// The answer to the certificate of a plan of least cost, of which the steps alone are read once more:
+/// its page is stored under the name.
+fn plan_drawn(
+    alloc: Global,
+    name: &str,
+    text: &[u8],
+    job: &Job,
+    cost: u64,
+) -> Result<Answer, AllocError>
+    requires { IsProved text.now job.now (Cost cost) }
+    ensures answer { IfOk result (λ answer. IsDrawn name.now text.now (answer_data answer)) }
+    ensures status { IfOk result (λ answer. ¬ IsCutShort answer.status) }
+{
+    let steps = steps_of(text);
+    let page = plan_page(alloc, job, steps.as_slice(), cost, told_size(text))?;
+    let line = drawn_line(alloc, steps.len())?;
+    stored(alloc, name, page, Status::Done, line)
+}
+
+/// The answer to the certificate of a job without a plan, which is read once more for its rows and
+/// notes: its page is stored under the name.
+fn no_plan_drawn(alloc: Global, name: &str, text: &[u8], job: &Job) -> Result<Answer, AllocError>
+    requires { IsProved text.now job.now Blocked }
     ensures answer { IfOk result (λ answer. IsDrawn name.now text.now (answer_data answer)) }
     ensures status { IfOk result (λ answer. ¬ IsCutShort answer.status) }
 {
     match read_cert(alloc, text) {
         Ok(file) => {
-            let page = page_of(alloc, &file, told_size(text))?;
-            stored(alloc, name, &file.cert, page)
+            let page = no_plan_page(alloc, job, &file.cert, told_size(text))?;
+            let line = no_plan_line(alloc)?;
+            stored(alloc, name, page, Status::NoPlan, line)
         }
         Err(fault) => match fault {
             CertFault::NoMemory => Err(AllocError),
             _ => unreachable!(),
         },
+    }
+}
+
+/// The answer to the text of a good certificate of the job, of which this is proved.
+fn drawn(
+    alloc: Global,
+    name: &str,
+    text: &[u8],
+    job: &Job,
+    verdict: Verdict,
+) -> Result<Answer, AllocError>
+    requires accepted { IsAccepted text.now (record { verdict = verdict; job = job.now }) }
+    requires truth { IsTrueOf job.now verdict }
+    ensures answer { IfOk result (λ answer. IsDrawn name.now text.now (answer_data answer)) }
+    ensures status { IfOk result (λ answer. ¬ IsCutShort answer.status) }
+{
+    match verdict {
+        Verdict::Optimal { cost } => plan_drawn(alloc, name, text, job, cost),
+        Verdict::NoPlan => no_plan_drawn(alloc, name, text, job),
     }
 }
 
@@ -161,7 +178,7 @@ fn answer_of(alloc: Global, name: &str, text: &[u8]) -> Result<Answer, AllocErro
     ensures status { IfOk result (λ answer. ¬ IsCutShort answer.status) }
 {
     match check(alloc, text) {
-        Ok(_) => drawn(alloc, name, text),
+        Ok(checked) => drawn(alloc, name, text, &checked.job, checked.verdict),
         Err(fault) => refused(alloc, fault),
     }
 }

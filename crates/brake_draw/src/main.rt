@@ -2,19 +2,20 @@
 #![tactic(auto)]
 
 mod draw;
+mod program;
 mod run_draw;
 mod say;
-mod words;
+mod steps;
 
 use brake_io::{DirShelf, StdSink};
+use program::run_program;
 use std::env;
 use std::process::ExitCode;
-use words::{exit_code, run_program};
 
 /// Draws over the files of the current folder and standard output, and ends with the status's
 /// number.
 fn main(rt: HostRuntime) -> ExitCode {
     let mut shelf = DirShelf::new(&rt);
     let mut out = StdSink::new(&rt);
-    exit_code(run_program(rt.alloc(), env::args(&rt), &mut shelf, &mut out))
+    run_program(rt.alloc(), env::args(&rt), &mut shelf, &mut out).exit_code()
 }

@@ -4,3 +4,4 @@ pub mod Fetching
 pub mod Stops
 pub mod Delivery
 pub mod Ends
+pub mod Program

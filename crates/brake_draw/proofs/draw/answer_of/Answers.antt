@@ -1,13 +1,9 @@
 use Rattle.std.proofs.Common.{inl, inr}
 use Rattle.std.proofs.lemmas.Result.{IfOk-weaker}
-use Rattle.cert_check.specs.Checking.{checked_data}
 use Rattle.command_runner.specs.Answers.{answer_data}
 use Rattle.brake_draw.specs.Draw.{IsDrawn, IsCertRefusal, IsTextAnswer}
-use Rattle.brake_draw.proofs.Drawing.{accepted_proved, refused_is}
+use Rattle.brake_draw.proofs.Drawing.{refused_is}
 use Rattle.brake_draw.proofs.draw.answer_of.Goals as goal
-
-pub drawn-requires : goal.drawn-requires
-drawn-requires c = accepted_proved c.args.text.now (checked_data c.in-Ok.field-0) c.in-Ok.ensures.answer c.in-Ok.ensures.truth
 
 pub returns-in-Ok-clause-answer : goal.returns-in-Ok-clause-answer
 returns-in-Ok-clause-answer c =

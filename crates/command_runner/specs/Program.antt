@@ -1,4 +1,4 @@
--- The program's words, and the number with which its process ends.
+-- A program's words, and the number with which its process ends.
 use Rattle.std.specs.Prelude.{ℕ, List, [], drop, map, string_bytes, String, Result, Ok, Err}
 use Rattle.std.specs.Vec.Iter.{into_iter_items}
 use Rattle.std.specs.declared.alloc.Global.{Global}

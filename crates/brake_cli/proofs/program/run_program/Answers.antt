@@ -1,21 +1,21 @@
-use Rattle.std.proofs.Common.{◌≡◌, drop, map, string_bytes, inr, refl, ap, arith, ◌∙◌}
+use Rattle.std.proofs.Common.{◌≡◌, map, string_bytes, inr, refl, ap, arith, ◌∙◌}
 use Rattle.command_runner.specs.Ends.{stops}
 use Rattle.command_runner.proofs.Outcomes.{outcome_of}
-use Rattle.brake_cli.specs.Words.{words_of}
+use Rattle.command_runner.specs.Program.{words_of}
 use Rattle.brake_cli.proofs.Answering.{run_tells}
 use Rattle.brake_cli.proofs.Headlines.{run_headline}
 use Rattle.brake_cli.proofs.Complete.{run_complete}
 use Rattle.brake_cli.proofs.Confirming.{run_confirms}
-use Rattle.brake_cli.proofs.words.run_program.Goals as goal
+use Rattle.brake_cli.proofs.program.run_program.Goals as goal
 
 pub returns-in-Ok-clause-ends : goal.returns-in-Ok-clause-ends
 returns-in-Ok-clause-ends g c =
-    let words : map string_bytes c.behind_name.result.now ≡ words_of c.args.args = ap (map string_bytes) (c.behind_name.ensures ∙ ap (drop 1) (c.as_slice.ensures.value ∙ c.in-Ok.ensures)) in
+    let words : map string_bytes c.as_slice.result.now ≡ words_of c.args.args = ap (map string_bytes) c.as_slice.ensures.value ∙ c.in-Ok.ensures in
     rw words at c.brake.ensures.ends
 
 pub returns-in-Ok-clause-cause : goal.returns-in-Ok-clause-cause
 returns-in-Ok-clause-cause g c =
-    let words : map string_bytes c.behind_name.result.now ≡ words_of c.args.args = ap (map string_bytes) (c.behind_name.ensures ∙ ap (drop 1) (c.as_slice.ensures.value ∙ c.in-Ok.ensures)) in
+    let words : map string_bytes c.as_slice.result.now ≡ words_of c.args.args = ap (map string_bytes) c.as_slice.ensures.value ∙ c.in-Ok.ensures in
     rw words at c.brake.ensures.cause
 
 pub returns-in-Err-clause-ends : goal.returns-in-Err-clause-ends
