@@ -43,8 +43,10 @@ rows_stop (row ∷ rows) notes s = refl
 cert_steps : (job : JobData) (cert : CertData) → length cert.steps ≤ 12 → with_steps_of [] (drop 1 (map Ok (cert_items job cert))) ≡ cert.steps
 unfolding cert_items with_steps_of
 cert_steps job cert few =
-    let rest = rows_items cert.rows cert.notes ++ given.End ∷ [] in
-    ap (λ (a : List (Result Item CertFault)). with_steps_of [] a) (map-append Ok (map given.Step cert.steps) rest)
+    let rows = rows_items cert.rows cert.notes in
+    let rest = rows ++ given.End ∷ [] in
+    ap (λ (is : List Item). with_steps_of [] (map Ok is)) (append_assoc (map given.Step cert.steps) rows (given.End ∷ []))
+    ∙ ap (λ (a : List (Result Item CertFault)). with_steps_of [] a) (map-append Ok (map given.Step cert.steps) rest)
     ∙ steps_behind [] cert.steps (map Ok rest) (omega (arith, few)) (rows_stop cert.rows cert.notes)
 
 no_refusal : (item : Item) (fault : CertFault) → Some (Ok item) ≡ Some (Err fault) → ⊥
@@ -62,7 +64,6 @@ module _ (text : List ℕ) (job : JobData) (cert : CertData) (reads : ReadsCertT
   -- behind the job the answers give the certificate's steps
   pub steps_read : (reader behind : Reading) → reader ≡ record { kind = Certificate; text = text; answered = 0 } → behind ≡ record reader { answered = reader.answered + 1 } → with_steps_of [] (answers_left behind) ≡ cert.steps
   steps_read reader behind new after =
-      let start : Reading = record { kind = Certificate; text = text; answered = 0 } in
       ap (λ (r : Reading). with_steps_of [] (answers_left r)) (after ∙ ap (λ (r : Reading). record r { answered = r.answered + 1 }) new)
       ∙ (ap (λ (a : List (Result Item CertFault)). with_steps_of [] (drop 1 a)) cert_answers
       ∙ cert_steps job cert (few_steps job cert.claim cert.steps written.exact.job written.exact.form.has_steps))

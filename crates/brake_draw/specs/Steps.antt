@@ -1,5 +1,5 @@
 -- The steps of a certificate, as the answers behind its job give them.
-use Rattle.std.specs.Prelude.{ℕ, Bool, true, false, nat_lt, List, [], ◌∷◌, ◌++◌, length, Result, Ok}
+use Rattle.std.specs.Prelude.{Bool, true, false, nat_lt, List, [], ◌∷◌, ◌++◌, length, Result, Ok}
 use Rattle.std.specs.Prelude.{Err, if◌then◌else◌}
 use Rattle.brake_base.specs.declared.stroke.Step.{Step}
 use Rattle.plan_cert.specs.declared.item.Item.{Item}

@@ -3,7 +3,7 @@ use Rattle.plan_cert.specs.PlanItem.{item_of}
 use Rattle.plan_cert.specs.Reading.{Reading}
 use Rattle.plan_cert.specs.CertReading.{answers_left}
 use Rattle.brake_draw.specs.Steps.{is_before_rows}
-use Rattle.brake_draw.proofs.FirstSteps.{left_behind, fewer_left}
+use Rattle.brake_draw.proofs.FirstSteps.{left_behind, fewer_left, steps_on, steps_end, steps_refused}
 use Rattle.brake_draw.proofs.steps.+take_steps.Goals as goal
 
 pub take_steps-requires : goal.take_steps-requires
@@ -20,3 +20,20 @@ take_steps-requires t c =
         left_behind r behind item c.in-Ok.ensures.given c.next_behind_job.ensures.after before,
       ),
     )
+
+pub returns-then-take_item : goal.returns-then-take_item
+returns-then-take_item t c =
+    let item = item_of c.in-Ok.item in
+    let before : is_before_rows item ≡ true = sym c.take_item.ensures.before ∙ c.if-take_item.true in
+    steps_on c.args.reader.now c.next_behind_job.new.self item c.in-Ok.ensures.given c.next_behind_job.ensures.after
+    c.args.steps.now.items c.take_item.new.steps.items c.take_steps.new.steps.items before c.take_item.ensures.steps c.take_steps.ensures
+
+pub returns-else-take_item : goal.returns-else-take_item
+returns-else-take_item t c =
+    let item = item_of c.in-Ok.item in
+    let before : is_before_rows item ≡ false = sym c.take_item.ensures.before ∙ c.if-take_item.false in
+    steps_end c.args.reader.now c.next_behind_job.new.self item c.in-Ok.ensures.given c.next_behind_job.ensures.after
+    c.args.steps.now.items c.take_item.new.steps.items before c.take_item.ensures.steps
+
+pub returns-in-Err : goal.returns-in-Err
+returns-in-Err t c = steps_refused c.args.reader.now c.args.steps.now.items c.in-Err.field-0 c.in-Err.ensures.given
