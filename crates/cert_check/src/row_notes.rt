@@ -1,0 +1,133 @@
+//! The notes of a certificate's rows: of each row the actions that are noted, and the first note
+//! whose reason doesn't hold. Each reason is tested where its note is read.
+ghost use Rattle.std.specs.Prelude.{◌≡◌, ◌*◌, ◌<◌, ◌++◌, ◌∷◌, [], IfOk, OnOk, List, length};
+ghost use Rattle.job_setup.specs.Setup.{bend_count, stage_count};
+ghost use Rattle.plan_cert.specs.declared.cert.RowHead.{RowHead};
+ghost use Rattle.plan_cert.specs.declared.cert.Note.{Note};
+ghost use Rattle.cert_check.specs.RowNotes.{AreNoted, HasNoNotes, IsActionPut, IsAtRow, IsFirstUnsound, IsTesting, last_note, note_at};
+
+use crate::check_table::CheckTable;
+use crate::held_reasons::HeldReasons;
+use crate::rows::{action_at, action_count};
+use brake_base::{Mask, Reason};
+use job_setup::Job;
+use set_facts::LaneFacts;
+use stage_lanes::ActionSet;
+use std::alloc::{AllocError, Global};
+
+/// The place of a note: the number of its row, and that of its action.
+#[derive(Clone, Copy, Debug, PartialEq, Eq)]
+pub(crate) struct NotePlace {
+    pub row: usize,
+    pub action: u8,
+}
+
+/// The notes of a certificate's rows, as they are read.
+#[derive(Drop)]
+pub(crate) struct RowNotes {
+    /// What belongs to each set of folded bends.
+    pub table: CheckTable,
+    /// Reasons that hold where the bends of the last row are folded.
+    pub reasons: HeldReasons,
+    /// The noted actions of each row.
+    pub sets: Vec<ActionSet>,
+    /// The first note whose reason doesn't hold.
+    pub unsound: Option<NotePlace>,
+}
+
+impl RowNotes {
+    /// No row and no note.
+    pub fn open(alloc: Global, job: &Job) -> Result<RowNotes, AllocError>
+        ensures testing { IfOk result (IsTesting job.now) }
+        ensures none { IfOk result HasNoNotes }
+    {
+        let table = CheckTable::open(alloc, job)?;
+        let reasons = HeldReasons::of(job, table.facts(), Mask::empty());
+        Ok(RowNotes {
+            table,
+            reasons,
+            sets: Vec::new(alloc),
+            unsound: None,
+        })
+    }
+
+    /// What belongs to each set of folded bends.
+    pub fn facts(&self) -> &LaneFacts
+        ensures { result.now ≡ self.now.table }
+    {
+        self.table.facts()
+    }
+
+    /// A row more, without notes, where the bends of the mask are folded.
+    pub fn add_row(&mut self, job: &Job, mask: Mask) -> Result<(), AllocError>
+        requires testing { IsTesting job.now self.old }
+        ensures testing { OnOk result (IsTesting job.now self.new) }
+        ensures mask { OnOk result (self.new.reasons.mask ≡ mask) }
+        ensures sets { OnOk result ((rows : List RowHead) (head : RowHead) (notes : List Note)
+            → AreNoted job.now rows notes self.old.sets.items
+            → AreNoted job.now (rows ++ head ∷ []) notes self.new.sets.items) }
+        ensures unsound { OnOk result (self.new.unsound ≡ self.old.unsound) }
+    {
+        job.recall_valid();
+        self.sets.push(ActionSet::empty())?;
+        self.reasons.turn_to(job, self.table.facts(), mask);
+        Ok(())
+    }
+
+    /// A note more of the last row. One without a row, or of no action, is left out.
+    pub fn add_note(&mut self, job: &Job, action: u8, reason: Reason)
+        requires testing { IsTesting job.now self.old }
+        ensures testing { IsTesting job.now self.new }
+        ensures mask { self.new.reasons.mask ≡ self.old.reasons.mask }
+        ensures sets { (rows : List RowHead) (notes : List Note) → 0 < length rows
+            → action < 2 * bend_count job.now * stage_count job.now
+            → AreNoted job.now rows notes self.old.sets.items
+            → AreNoted job.now rows (notes ++ last_note self.old action reason ∷ [])
+            self.new.sets.items }
+        ensures unsound { (rows : List RowHead) (notes : List Note)
+            → 0 < length self.old.sets.items
+            → IsAtRow job.now rows self.old.reasons.mask (last_note self.old action reason)
+            → IsFirstUnsound job.now rows notes self.old.unsound
+            → IsFirstUnsound job.now rows (notes ++ last_note self.old action reason ∷ [])
+            self.new.unsound }
+    {
+        job.recall_valid();
+        let rows = self.sets.len();
+        if rows > 0 && action < action_count(job) {
+            put_action(job, self.sets.as_mut_slice(), rows - 1, action);
+            self.test(job, rows - 1, action, reason);
+        }
+    }
+
+    /// Tests the reason of a note, unless one before it doesn't hold.
+    fn test(&mut self, job: &Job, row: usize, action: u8, reason: Reason)
+        requires testing { IsTesting job.now self.old }
+        requires action { action < 2 * bend_count job.now * stage_count job.now }
+        ensures testing { IsTesting job.now self.new }
+        ensures mask { self.new.reasons.mask ≡ self.old.reasons.mask }
+        ensures sets { self.new.sets ≡ self.old.sets }
+        ensures unsound { (rows : List RowHead) (notes : List Note)
+            → IsAtRow job.now rows self.old.reasons.mask (note_at row action reason)
+            → IsFirstUnsound job.now rows notes self.old.unsound
+            → IsFirstUnsound job.now rows (notes ++ note_at row action reason ∷ [])
+            self.new.unsound }
+    {
+        match self.unsound {
+            Some(_) => {}
+            None => {
+                if !self.reasons.holds(job, &mut self.table, action, reason) {
+                    self.unsound = Some(NotePlace { row, action });
+                }
+            }
+        }
+    }
+}
+
+/// The action of a number more in the set of a row.
+fn put_action(job: &Job, sets: &mut [ActionSet], row: usize, number: u8)
+    requires row { row < length sets.old }
+    requires number { number < 2 * bend_count job.now * stage_count job.now }
+    ensures { IsActionPut job.now row number sets.old sets.new }
+{
+    sets[row] = sets[row].with(action_at(job, number));
+}
