@@ -1,5 +1,5 @@
 -- Sets of noted actions, and the first note whose reason doesn't hold, as notes and rows come.
-use Rattle.std.proofs.Common.{◌≡◌, ◌≢◌, inl, inr, ℕ, zero, suc, ◌+◌, ◌-◌, ◌*◌, ◌<◌, ◌==◌, ◌&&◌, ◌||◌, Bool, true, false, List, [], ◌∷◌, ◌++◌, length, set, get_or, Some, None, refl, sym, ◌∙◌, ap, subst, arith, length-set}
+use Rattle.std.proofs.Common.{◌≡◌, ◌≢◌, inl, inr, ℕ, zero, suc, ◌+◌, ◌-◌, ◌*◌, ◌^◌, ◌<◌, ◌==◌, ◌&&◌, ◌||◌, Bool, true, false, List, [], ◌∷◌, ◌++◌, length, set, get_or, IsTrue, Option, Some, None, refl, sym, ◌∙◌, ap, subst, arith, length-set}
 use Rattle.std.specs.Prelude.{All, Contains, slice_get}
 use Rattle.std.specs.List.{list_any}
 use Rattle.std.proofs.lemmas.Bool.{cases_lt}
@@ -15,6 +15,7 @@ use Rattle.brake_base.specs.Actions.{IsActionAmong, number_of_action}
 use Rattle.stage_lanes.specs.declared.actions.ActionSet.{ActionSet}
 use Rattle.stage_lanes.specs.ActionSets.{has_place, place_of, IsNone}
 use Rattle.job_setup.specs.Setup.{JobData, bend_count, stage_count}
+use Rattle.job_setup.specs.StrokeGroup.{is_lead}
 use Rattle.job_setup.specs.ValidJob.{IsJob}
 use Rattle.handling_cost.specs.Plan.{IsReasonFor}
 use Rattle.handling_cost.proofs.Actions.{few_bends}
@@ -80,7 +81,7 @@ module _ (job : JobData) (is_job : IsJob job) where
   abbrev place : ℕ → ℕ
   place number = place_of (action_at (stage_count job) number)
 
-  wide : (number : ℕ) → number < 2 * bend_count job * stage_count job → IsActionAmong 12 8 (action_at (stage_count job) number)
+  pub wide : (number : ℕ) → number < 2 * bend_count job * stage_count job → IsActionAmong 12 8 (action_at (stage_count job) number)
   wide number below =
       let ranged = bend_of_number (bend_count job) (stage_count job) number below in
       let bends = few_bends job is_job in
@@ -194,6 +195,17 @@ module _ (job : JobData) (rows : List RowHead) where
   pub unsound_stays : (notes : List Note) (note : Note) (place : NotePlace) → IsFirstUnsound job rows notes (Some place) → IsFirstUnsound job rows (notes ++ note ∷ []) (Some place)
   unsound_stays notes note place (before, reason, behind, is, sound, unsound) =
       (before, reason, behind ++ note ∷ [], ap (λ (ns : List Note). ns ++ note ∷ []) is ∙ append_assoc before (note_at place.row place.action reason ∷ behind) (note ∷ []), sound, unsound)
+
+  pub unsound_on : (notes : List Note) (note : Note) (unsound : Option NotePlace) → (unsound ≡ None → ⊥) → IsFirstUnsound job rows notes unsound → IsFirstUnsound job rows (notes ++ note ∷ []) unsound
+  unsound_on notes note None some first = absurd (some refl)
+  unsound_on notes note (Some place) some first = unsound_stays notes note place first
+
+  -- the bends of the mask are of the job, and the action's is a lead
+  pub mask_within : (mask : Mask) (note : Note) → IsAtRow job rows mask note → mask.0 < 2 ^ bend_count job
+  mask_within mask note at = subst (λ (m : Mask). m.0 < 2 ^ bend_count job) at.mask_is (let fits = at.valid.mask in omega (arith, fits))
+
+  pub lead_at : (mask : Mask) (note : Note) → IsAtRow job rows mask note → IsTrue (is_lead job mask (action_at (stage_count job) note.action).bend)
+  lead_at mask note at = subst (λ (m : Mask). IsTrue (is_lead job m (action_at (stage_count job) note.action).bend)) at.mask_is (let tried = at.tried.1 in tried.lead)
 
   module _ (notes : List Note) (mask : Mask) (row action : ℕ) (reason : Reason) (at : IsAtRow job rows mask (note_at row action reason)) (sound : All (IsSound job rows) notes) where
     -- a note whose reason holds

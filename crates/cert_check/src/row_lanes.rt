@@ -1,6 +1,6 @@
 //! Rows of which each action is accounted for by what is known of their set, found for all stages of
 //! a stroke at once.
-ghost use Rattle.std.specs.Prelude.{◌≡◌, ℕ, ◌+◌, ◌*◌, ◌^◌, ◌<◌, ◌≤◌, IsTrue, List};
+ghost use Rattle.std.specs.Prelude.{◌≡◌, ◌↔◌, ℕ, ◌+◌, ◌*◌, ◌^◌, ◌<◌, ◌≤◌, IsTrue, List};
 ghost use Rattle.job_setup.specs.Setup.{bend_count, stage_count};
 ghost use Rattle.plan_cert.specs.declared.cert.RowHead.{RowHead};
 ghost use Rattle.plan_cert.specs.WellFormed.{IsRow};
@@ -128,7 +128,8 @@ fn is_side_met(
     let change = facts.change(row.head.key.attitude, attitude);
     let onward = row.onward.plus(StageCosts::all(change));
     let unclosed = proved.costs.side(bend, back).plus(onward).below(row.worth);
-    are_noted(row.noted.stages(bend, back), job.stages(), unclosed)
+    let noted = row.noted.stages(bend, back);
+    are_noted(noted, job.stages(), unclosed)
 }
 
 /// Whether of so many stages each is noted where it isn't closed.
@@ -137,6 +138,13 @@ fn are_noted(noted: StageSet, stages: u8, unclosed: StageSet) -> bool
     ensures { IsTrue result → (stage : ℕ) → stage < stages
         → IsTrue (Stages.has unclosed stage) → IsTrue (Stages.has noted stage) }
 {
-    let unclosed = unclosed.intersection(StageSet::first(stages));
-    unclosed.intersection(noted) == unclosed
+    let open_stages = unclosed.intersection(StageSet::first(stages));
+    is_same(open_stages.intersection(noted), open_stages)
+}
+
+/// Whether both sets are one.
+fn is_same(first: StageSet, second: StageSet) -> bool
+    ensures { IsTrue result ↔ (first ≡ second) }
+{
+    first == second
 }

@@ -1,6 +1,6 @@
 //! The notes of a certificate's rows: of each row the actions that are noted, and the first note
 //! whose reason doesn't hold. Each reason is tested where its note is read.
-ghost use Rattle.std.specs.Prelude.{◌≡◌, ◌*◌, ◌<◌, ◌++◌, ◌∷◌, [], IfOk, OnOk, List, length};
+ghost use Rattle.std.specs.Prelude.{◌≡◌, ◌*◌, ◌<◌, ◌++◌, ◌∷◌, [], IfOk, IsTrue, OnOk, List, None, length};
 ghost use Rattle.job_setup.specs.Setup.{bend_count, stage_count};
 ghost use Rattle.plan_cert.specs.declared.cert.RowHead.{RowHead};
 ghost use Rattle.plan_cert.specs.declared.cert.Note.{Note};
@@ -92,10 +92,24 @@ impl RowNotes {
             self.new.unsound }
     {
         job.recall_valid();
-        let rows = self.sets.len();
-        if rows > 0 && action < action_count(job) {
-            put_action(job, self.sets.as_mut_slice(), rows - 1, action);
-            self.test(job, rows - 1, action, reason);
+        if self.is_notable(job, action) {
+            let row = self.sets.len() - 1;
+            put_action(job, self.sets.as_mut_slice(), row, action);
+            self.test(job, row, action, reason);
+        }
+    }
+
+    /// Whether there is a row, and the number is one of an action.
+    fn is_notable(&self, job: &Job, action: u8) -> bool
+        ensures row { IsTrue result → 0 < length self.now.sets.items }
+        ensures action { IsTrue result → action < 2 * bend_count job.now * stage_count job.now }
+        ensures all { 0 < length self.now.sets.items
+            → action < 2 * bend_count job.now * stage_count job.now → IsTrue result }
+    {
+        if self.sets.is_empty() {
+            false
+        } else {
+            action < action_count(job)
         }
     }
 
@@ -105,7 +119,7 @@ impl RowNotes {
         requires action { action < 2 * bend_count job.now * stage_count job.now }
         ensures testing { IsTesting job.now self.new }
         ensures mask { self.new.reasons.mask ≡ self.old.reasons.mask }
-        ensures sets { self.new.sets ≡ self.old.sets }
+        ensures sets { self.new.sets.items ≡ self.old.sets.items }
         ensures unsound { (rows : List RowHead) (notes : List Note)
             → IsAtRow job.now rows self.old.reasons.mask (note_at row action reason)
             → IsFirstUnsound job.now rows notes self.old.unsound
@@ -114,11 +128,26 @@ impl RowNotes {
     {
         match self.unsound {
             Some(_) => {}
-            None => {
-                if !self.reasons.holds(job, &mut self.table, action, reason) {
-                    self.unsound = Some(NotePlace { row, action });
-                }
-            }
+            None => self.test_next(job, row, action, reason),
+        }
+    }
+
+    /// The same where each note before it holds.
+    fn test_next(&mut self, job: &Job, row: usize, action: u8, reason: Reason)
+        requires testing { IsTesting job.now self.old }
+        requires action { action < 2 * bend_count job.now * stage_count job.now }
+        requires none { self.old.unsound ≡ None }
+        ensures testing { IsTesting job.now self.new }
+        ensures mask { self.new.reasons.mask ≡ self.old.reasons.mask }
+        ensures sets { self.new.sets.items ≡ self.old.sets.items }
+        ensures unsound { (rows : List RowHead) (notes : List Note)
+            → IsAtRow job.now rows self.old.reasons.mask (note_at row action reason)
+            → IsFirstUnsound job.now rows notes None
+            → IsFirstUnsound job.now rows (notes ++ note_at row action reason ∷ [])
+            self.new.unsound }
+    {
+        if !self.reasons.holds(job, &mut self.table, action, reason) {
+            self.unsound = Some(NotePlace { row, action });
         }
     }
 }
@@ -129,5 +158,8 @@ fn put_action(job: &Job, sets: &mut [ActionSet], row: usize, number: u8)
     requires number { number < 2 * bend_count job.now * stage_count job.now }
     ensures { IsActionPut job.now row number sets.old sets.new }
 {
-    sets[row] = sets[row].with(action_at(job, number));
+    job.recall_valid();
+    let action = action_at(job, number);
+    let set = sets[row];
+    sets[row] = set.with(action);
 }

@@ -1,6 +1,6 @@
 //! The condition on rows: each action at each row has a note whose reason holds, or has none and is
 //! closed. The reasons are tested where the notes are read.
-ghost use Rattle.std.specs.Prelude.{◌≡◌, ◌↔◌, ◌*◌, ◌<◌, ◌≤◌, IsTrue, List, length};
+ghost use Rattle.std.specs.Prelude.{◌≡◌, ◌↔◌, ◌*◌, ◌<◌, ◌≤◌, IsTrue, List, Some, length, slice_get, slice_index_or};
 ghost use Rattle.brake_base.specs.Worths.{plus};
 ghost use Rattle.job_setup.specs.Setup.{bend_count, stage_count};
 ghost use Rattle.handling_cost.specs.StepCost.{IsKeyOf};
@@ -65,16 +65,26 @@ pub(crate) fn check_rows(job: &Job, rows: &RowTable, notes: &RowNotes) -> Result
     let facts = notes.facts();
     let mut set = CheckedSet::first(job, rows, facts);
     for row in 0..rows.len() {
-        let noted = NotedRow {
-            head: rows.head(row),
-            noted: notes.sets[row as usize],
-        };
-        let open = first_open(job, rows, facts, &mut set, &noted);
-        if let Err(fault) = check_row(row, open, unsound_at(row, notes.unsound)) {
+        let noted = noted_row(rows, notes, row);
+        let found = first_open(job, rows, facts, &mut set, &noted);
+        if let Err(fault) = check_row(row, found, unsound_at(row, notes.unsound)) {
             return Err(fault);
         }
     }
     Ok(())
+}
+
+/// The row of a number.
+fn noted_row(rows: &RowTable, notes: &RowNotes, row: u32) -> NotedRow
+    requires row { row < length rows.now.rows }
+    requires count { length notes.now.sets.items ≡ length rows.now.rows }
+    ensures row { slice_get rows.now.rows row ≡ Some result.head }
+    ensures valid { IsRow rows.now.job result.head }
+    ensures noted { result.noted ≡ slice_index_or notes.now.sets.items row result.noted }
+{
+    let head = rows.head(row);
+    let noted = notes.sets[row as usize];
+    NotedRow { head, noted }
 }
 
 /// The action of the unsound note, where the note is of this row.
@@ -199,6 +209,7 @@ fn is_open(job: &Job, rows: &RowTable, actions: &SetActions, row: &NotedRow, num
     requires few { number < 144 }
     ensures { NumberAnswer job.now rows.now.rows row.now.head row.now.noted number result }
 {
+    job.recall_valid();
     match actions.next(number) {
         Some(next) => {
             if row.noted.contains(action_at(job, number)) {
