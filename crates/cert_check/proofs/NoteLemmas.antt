@@ -36,9 +36,9 @@ single P x is = All-cons P x [] is (All-nil P)
 abbrev is_at : ℕ → ℕ → Note → Bool
 is_at row number note = note.row == row && note.action == number
 
-both : {a b : Bool} → (a && b) ≡ true → (a ≡ true) × (b ≡ true)
-both {true} {b} is = (refl, is)
-both {false} {b} is = absurd cc
+both : (a b : Bool) → (a && b) ≡ true → (a ≡ true) × (b ≡ true)
+both true b is = (refl, is)
+both false b is = absurd cc
 
 eq_of : (m n : ℕ) → (m == n) ≡ true → m ≡ n
 eq_of m n is = elim (eqb_tells m n) [
@@ -63,7 +63,7 @@ pub some_noted : (notes : List Note) (row number : ℕ) → has_note notes row n
 some_noted notes row number is =
     let found = Any-from_list_any (is_at row number) notes is in
     let note = found.1 in
-    let tests = both {note.row == row} {note.action == number} found.4 in
+    let tests = both (note.row == row) (note.action == number) found.4 in
     let rows : note.row ≡ row = eq_of note.row row tests.0 in
     let numbers : note.action ≡ number = eq_of note.action number tests.1 in
     (note.reason, subst (Contains notes) (λ i. record { row = rows i; action = numbers i; reason = note.reason }) (found.0, found.2, found.3))
@@ -74,6 +74,7 @@ none_noted notes row number none reason (k, within, is) =
     let note : Note = note_at row number reason in
     let tests : is_at row number (get_or notes k note) ≡ true = ap (is_at row number) is ∙ (λ i. eq_self row i && eq_self number i) in
     let found = list_any_at (is_at row number) notes k note within tests in
+    let clash : true ≡ false = sym found ∙ none in
     cc
 
 -- ---- places of actions

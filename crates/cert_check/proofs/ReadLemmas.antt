@@ -42,9 +42,9 @@ use Rattle.cert_check.proofs.NoteLemmas.{noted_none}
 
 -- ---- the items of a certificate
 -- a row stands before the first note
-steps_first : (steps : List Step) (more : List Item) → IsRowFirst (map Ok more) → IsRowFirst (map Ok (map given.Step steps ++ more))
-steps_first [] more is = is
-steps_first (step ∷ steps) more is = steps_first steps more is
+steps_first : (steps : List Step) (rows more : List Item) → IsRowFirst (map Ok (rows ++ more)) → IsRowFirst (map Ok (map given.Step steps ++ rows ++ more))
+steps_first [] rows more is = is
+steps_first (step ∷ steps) rows more is = steps_first steps rows more is
 
 rows_first : (rows : List RowHead) (notes : List Note) → IsRowFirst (map Ok (rows_items rows notes ++ given.End ∷ []))
 unfolding rows_items
@@ -53,7 +53,7 @@ rows_first (row ∷ rows) notes = tt
 
 cert_first : (job : JobData) (cert : CertData) → IsRowFirst (map Ok (cert_items job cert))
 unfolding cert_items
-cert_first job cert = steps_first cert.steps (rows_items cert.rows cert.notes ++ given.End ∷ []) (rows_first cert.rows cert.notes)
+cert_first job cert = steps_first cert.steps (rows_items cert.rows cert.notes) (given.End ∷ []) (rows_first cert.rows cert.notes)
 
 -- ---- what is kept, item by item
 -- behind the job nothing is kept

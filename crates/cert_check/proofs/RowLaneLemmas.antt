@@ -78,6 +78,10 @@ module _ (job : JobData) (is_job : IsJob job) (rows : List RowHead) (head : RowH
       (record { first = first; last = let few = few_bends job is_job in omega (arith, last, few); stage = low }) below
       ∙ ap (action_at (stage_count job)) (sym number_is_of)
 
+  place_is : place_of own ≡ 8 * side_of bend back + stage
+  unfolding number_of_action
+  place_is = omega arith
+
   -- an action is met where it is noted unless its lane is closed
   pub lane_met : (noted : ActionSet) (is_open : Bool) (onward turn proved sum : ℕ)
       → (IsTrue is_open → IsTrue (has_place noted (8 * side_of bend back + stage)))
@@ -88,10 +92,6 @@ module _ (job : JobData) (is_job : IsJob job) (rows : List RowHead) (head : RowH
       → IsMet job rows head noted (side_of bend back * stage_count job + stage)
   lane_met noted true onward turn proved sum known is onward_is turn_is sum_is open_is =
       inl (ap (λ (a : Action). has noted a) (sym own_at) ∙ (ap (has_place noted) place_is ∙ known refl))
-    where
-      place_is : place_of own ≡ 8 * side_of bend back + stage
-      unfolding number_of_action
-      place_is = omega arith
   lane_met noted false onward turn proved sum known is onward_is turn_is sum_is open_is =
       let parts = cost_parts job head.key own in
       inr (subst (ClosesAt job rows head) own_at

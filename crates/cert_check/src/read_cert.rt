@@ -1,8 +1,9 @@
 //! The one reading of a certificate's text: all of it, but of its notes only the actions that are
 //! noted and the first whose reason doesn't hold.
-ghost use Rattle.std.specs.Prelude.{◌≡◌, ◌<◌, ◌++◌, ◌∷◌, [], IfOk, OnOk, List, Result, if◌then◌else◌, length, nat_lt, not};
+ghost use Rattle.std.specs.Prelude.{◌≡◌, ◌<◌, ◌++◌, ◌∷◌, [], IfOk, OnOk, List, Ok, Result, if◌then◌else◌, length, nat_lt, not, true};
 ghost use Rattle.plan_cert.specs.declared.format.TextKind.TheVariants.{Certificate};
 ghost use Rattle.plan_cert.specs.declared.item.Item.{Item};
+ghost use Rattle.plan_cert.specs.declared.item.Item.TheVariants as given;
 ghost use Rattle.plan_cert.specs.declared.item.CertFault.{CertFault};
 ghost use Rattle.plan_cert.specs.Cert.{CertData};
 ghost use Rattle.plan_cert.specs.PlanItem.{item_of};
@@ -101,18 +102,31 @@ fn keep(read: &mut ReadCert, item: PlanItem) -> Result<bool, AllocError>
             add_step(&mut read.steps, step);
             Ok(true)
         }
-        PlanItem::Row(row) => {
-            let mask = row.key.mask;
-            read.rows.push(row)?;
-            read.notes.add_row(&read.job, mask)?;
-            Ok(true)
-        }
+        PlanItem::Row(row) => keep_row(read, row),
         PlanItem::Note { action, reason } => {
             read.notes.add_note(&read.job, action, reason);
             Ok(true)
         }
         PlanItem::End => Ok(false),
     }
+}
+
+/// Keeps a row. Another item follows.
+fn keep_row(read: &mut ReadCert, row: RowHead) -> Result<bool, AllocError>
+    requires testing { IsTesting read.old.job read.old.notes }
+    ensures job { read.new.job ≡ read.old.job }
+    ensures testing { OnOk result (IsTesting read.new.job read.new.notes) }
+    ensures more { IfOk result (λ more. more ≡ true) }
+    ensures kept { OnOk result ((before : CertData) → HasParts read.old before
+        → HasParts read.new (with_item before (given.Row row))) }
+    ensures notes { OnOk result ((cert before : CertData) (left : List (Result Item CertFault))
+        → IsUnderway read.old.job cert before (Ok (given.Row row) ∷ left) read.old.notes
+        → IsUnderway read.old.job cert (with_item before (given.Row row)) left read.new.notes) }
+{
+    let mask = row.key.mask;
+    read.rows.push(row)?;
+    read.notes.add_row(&read.job, mask)?;
+    Ok(true)
 }
 
 /// Adds a step, of which a certificate has at most 12.
