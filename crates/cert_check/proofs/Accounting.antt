@@ -83,7 +83,7 @@ module _ (job : JobData) (rows : List RowHead) (all : List Note) (notes : RowNot
     met_accounted : (number : ℕ) (has_one : Bool) → IsTried job head number → ((reason : Reason) → IsNoted all row number reason → IsSound job rows (note_at row number reason)) → has_note all row number ≡ has_one → IsMet job rows head noted number
         → IsAccounted job rows all row head number
     met_accounted number true tried sound is met = by_note number sound is
-    met_accounted number false tried sound is (inl yes) = absurd (let one = sym (bit number tried.0) ∙ yes in cc)
+    met_accounted number false tried sound is (inl on) = absurd (let one : false ≡ true = sym is ∙ (sym (bit number tried.0) ∙ on) in cc)
     met_accounted number false tried sound is (inr shut) = inr (none_noted all row number is, shut)
 
     accounted : (count : ℕ) → AreMet job rows head noted count → ((number : ℕ) (reason : Reason) → number < count → IsNoted all row number reason → IsSound job rows (note_at row number reason)) → AreAccounted job rows all row head count

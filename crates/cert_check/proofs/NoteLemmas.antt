@@ -4,7 +4,7 @@ use Rattle.std.specs.Prelude.{All, Contains, slice_get}
 use Rattle.std.specs.List.{list_any}
 use Rattle.std.proofs.lemmas.Bool.{cases_lt}
 use Rattle.std.proofs.lemmas.Bool.Decides.{eqb_tells}
-use Rattle.std.proofs.lemmas.List.{length_push, get_or_push, get_or_append_left, get_or-set_same, get_or-set_other, append_assoc}
+use Rattle.std.proofs.lemmas.List.{length_push, get_or_default, get_or_push, get_or_append_left, get_or-set_same, get_or-set_other, append_assoc}
 use Rattle.std.proofs.lemmas.List.Elements.{All-append, All-cons, All-nil}
 use Rattle.std.proofs.lemmas.List.Folds.{list_any-append, list_any_none, list_any_at, Any-from_list_any}
 use Rattle.std.proofs.lemmas.Option.{same_Some, slice_get_within}
@@ -13,7 +13,7 @@ use Rattle.brake_base.specs.declared.stroke.Action.{Action}
 use Rattle.brake_base.specs.declared.reason.Reason.{Reason}
 use Rattle.brake_base.specs.Actions.{IsActionAmong, number_of_action}
 use Rattle.stage_lanes.specs.declared.actions.ActionSet.{ActionSet}
-use Rattle.stage_lanes.specs.ActionSets.{has_place, place_of, IsNone}
+use Rattle.stage_lanes.specs.ActionSets.{has_place, place_of, ArePlaces, IsNone}
 use Rattle.job_setup.specs.Setup.{JobData, bend_count, stage_count}
 use Rattle.job_setup.specs.StrokeGroup.{is_lead}
 use Rattle.job_setup.specs.ValidJob.{IsJob}
@@ -47,8 +47,8 @@ eq_of m n is = elim (eqb_tells m n) [
 ]
 
 not_eq : (m n : ℕ) → m ≢ n → (m == n) ≡ false
-not_eq m n no = elim (eqb_tells m n) [
-  | inl same ↦ absurd (no same.1)
+not_eq m n differ = elim (eqb_tells m n) [
+  | inl same ↦ absurd (differ same.1)
   | inr other ↦ other.0
 ]
 
@@ -158,7 +158,7 @@ module _ (job : JobData) (is_job : IsJob job) where
         or_false false = refl
 
     there_more : (row number : ℕ) → row ≢ own → has_note notes row number ≡ has_note (notes ++ more ∷ []) row number
-    there_more row number no = sym (with_more row number ∙ (ap (λ (b : Bool). has_note notes row number || ((b && action == number) || false)) (not_eq own row (λ same. no (sym same))) ∙ or_none (has_note notes row number)))
+    there_more row number differ = sym (with_more row number ∙ (ap (λ (b : Bool). has_note notes row number || ((b && action == number) || false)) (not_eq own row (λ same. differ (sym same))) ∙ or_none (has_note notes row number)))
       where
         or_none : (b : Bool) → (b || false) ≡ b
         or_none true = refl
@@ -189,6 +189,15 @@ module _ (job : JobData) (is_job : IsJob job) where
               ∙ (are.each row number d row_low number_below ∙ there_more notes action reason own row number other.1))
         ];
       }
+
+-- the set with the action is put in its place
+pub put_places : (job : JobData) (sets : List ActionSet) (row number : ℕ) (action : Action) (after other : ActionSet) → row < length sets → action ≡ action_at (stage_count job) number
+    → ArePlaces after (λ place. has_place (get_or sets row other) place || (place == place_of action)) → IsActionPut job row number sets (set sets row after)
+put_places job sets row number action after other low is places = record {
+  set = after;
+  put = refl;
+  places = λ d place within. places place within ∙ (λ i. has_place (get_or_default sets row other d low i) place || (place == place_of (is i)));
+}
 
 -- ---- the first unsound note
 module _ (job : JobData) (rows : List RowHead) where

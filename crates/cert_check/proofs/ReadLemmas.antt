@@ -131,17 +131,17 @@ module _ (job : JobData) (cert before : CertData) (left : List (Result Item Cert
     abbrev own : ℕ
     own = length old.sets.items - 1
 
-    some : 0 < length before.rows
-    some = elim under.row_first [
-      | inl some ↦ some
-      | inr no ↦ absurd no
+    has_row : 0 < length before.rows
+    has_row = elim under.row_first [
+      | inl there ↦ there
+      | inr none ↦ absurd none
     ]
 
     completes : cert_of (with_item before (given.Note action reason)) left ≡ Ok cert
     completes = sym (of_item before left (given.Note action reason) refl) ∙ under.completes
 
     last_within : own < length before.rows
-    last_within = let some = some in let count = under.kept.noted.count in omega (arith, some, count)
+    last_within = let some = has_row in let count = under.kept.noted.count in omega (arith, some, count)
 
     -- the row is the certificate's
     cert_row : (head : RowHead) → slice_get before.rows own ≡ Some head → slice_get cert.rows own ≡ Some head
@@ -154,7 +154,7 @@ module _ (job : JobData) (cert before : CertData) (left : List (Result Item Cert
     min_is =
         let few = few_rows job under.valid cert.rows (rows_of job under.valid cert.rows cert.notes under.form.rows) in
         let within = row_within in
-        let some = some in
+        let some = has_row in
         let count = under.kept.noted.count in
         omega (arith, few, within, some, count)
 
@@ -189,10 +189,10 @@ module _ (job : JobData) (cert before : CertData) (left : List (Result Item Cert
       valid = under.valid;
       form = under.form;
       completes = completes;
-      row_first = inl some;
+      row_first = inl has_row;
       kept = subst (λ (n : ℕ). KeepsNotes job cert.rows before.rows (before.notes ++ note_at n action reason ∷ []) new) (sym min_is) (record {
-        noted = sets some its_note.action under.kept.noted;
-        first = unsound (let some = some in let count = under.kept.noted.count in omega (arith, some, count)) at_row under.kept.first;
+        noted = sets has_row its_note.action under.kept.noted;
+        first = unsound (let some = has_row in let count = under.kept.noted.count in omega (arith, some, count)) at_row under.kept.first;
         mask = λ head at. under.kept.mask head at ∙ sym mask;
       });
     }
@@ -222,18 +222,18 @@ module _ (text : List ℕ) (read : ReadCert) (reader : Reading) (reads : Reads t
   -- an item more
   pub reads_on : (after : ReadCert) (next : Reading) (goes : Bool) → after.job ≡ read.job → 0 < next.answered → (0 < length (answers_left next) → AnswersLeft next) → IsTesting after.job after.notes
       → ItemAnswer (Ok goes) reads.before read (answers_left reader) after (answers_left next) → ReadsBy goes text after next
-  reads_on after next true job on some testing answer = record {
+  reads_on after next true job on more_left testing answer = record {
     behind_job = reads.behind_job;
     starts = reads.starts ∙ ap (λ (j : JobData). Ok (given.Job j) ∷ reads.behind_job) (sym job);
     before = answer.0;
     has = answer.1;
     same = reads.same ∙ answer.2;
     job_read = on;
-    more = some answer.3;
+    more = more_left answer.3;
     testing = testing;
     underway = λ cert written. subst (λ (j : JobData). IsUnderway j cert answer.0 (answers_left next) after.notes) (sym job) (answer.4 cert (reads.underway cert (subst (λ (j : JobData). IsTextOfCert text j cert) job written)));
   }
-  reads_on after next false job on some testing answer =
+  reads_on after next false job on more_left testing answer =
       let written : IsTextOfCert text after.job answer.0 = record {
         version = version_in text;
         exact = text_of_given text (record { job = after.job; cert = answer.0; version = version_in text })

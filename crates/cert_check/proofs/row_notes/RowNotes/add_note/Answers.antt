@@ -8,7 +8,7 @@ pub returns-then-is_notable-clause-sets : goal.returns-then-is_notable-clause-se
 returns-then-is_notable-clause-sets c = λ rows notes some low are.
     let job = c.args.job.now in
     let sets = c.args.self.now.sets.items in
-    let row : c.len.result - 1 ≡ length sets - 1 = ap (λ (n : ℕ). n - 1) c.len.ensures in
+    let row : c.len-row.result - 1 ≡ length sets - 1 = ap (λ (n : ℕ). n - 1) c.len-row.ensures in
     let count = are.count in
     let put = subst (λ (n : ℕ). IsActionPut job n c.args.action sets c.put_action.new.sets) row c.put_action.ensures in
     subst (AreNoted job rows (notes ++ note_at (length sets - 1) c.args.action c.args.reason ∷ [])) (sym c.test.ensures.sets)
@@ -18,7 +18,7 @@ pub returns-then-is_notable-clause-unsound : goal.returns-then-is_notable-clause
 returns-then-is_notable-clause-unsound c = λ rows notes some at first.
     let job = c.args.job.now in
     let sets = c.args.self.now.sets.items in
-    let row : c.len.result - 1 ≡ length sets - 1 = ap (λ (n : ℕ). n - 1) c.len.ensures in
+    let row : c.len-row.result - 1 ≡ length sets - 1 = ap (λ (n : ℕ). n - 1) c.len-row.ensures in
     subst (λ (n : ℕ). IsFirstUnsound job rows (notes ++ note_at n c.args.action c.args.reason ∷ []) c.test.new.self.unsound) row
     (c.test.ensures.unsound rows notes (subst (λ (n : ℕ). IsAtRow job rows c.args.self.now.reasons.mask (note_at n c.args.action c.args.reason)) (sym row) at) first)
 
