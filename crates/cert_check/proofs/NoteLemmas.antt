@@ -1,10 +1,11 @@
 -- Sets of noted actions, and the first note whose reason doesn't hold, as notes and rows come.
 use Rattle.std.proofs.Common.{◌≡◌, ◌≢◌, inl, inr, ℕ, zero, suc, ◌+◌, ◌-◌, ◌*◌, ◌^◌, ◌<◌, ◌==◌, ◌&&◌, ◌||◌, Bool, true, false, List, [], ◌∷◌, ◌++◌, length, set, get_or, IsTrue, Option, Some, None, refl, sym, ◌∙◌, ap, subst, arith, length-set}
-use Rattle.std.specs.Prelude.{All, Contains, slice_get}
+use Rattle.std.specs.Prelude.{All, Contains, take, drop}
+use Rattle.std.proofs.Math.Seq.{drop-length}
 use Rattle.std.specs.List.{list_any}
 use Rattle.std.proofs.lemmas.Bool.{cases_lt}
 use Rattle.std.proofs.lemmas.Bool.Decides.{eqb_tells}
-use Rattle.std.proofs.lemmas.List.{length_push, get_or_default, get_or_push, get_or_append_left, get_or-set_same, get_or-set_other, append_assoc}
+use Rattle.std.proofs.lemmas.List.{length_push, append-nil, take_all, get_or_default, get_or_push, get_or_append_left, get_or-set_same, get_or-set_other, append_assoc}
 use Rattle.std.proofs.lemmas.List.Elements.{All-append, All-cons, All-nil}
 use Rattle.std.proofs.lemmas.List.Folds.{list_any-append, list_any_none, list_any_at, Any-from_list_any}
 use Rattle.std.proofs.lemmas.Option.{same_Some, slice_get_within}
@@ -198,6 +199,12 @@ put_places job sets row number action after other low is places = record {
   put = refl;
   places = λ d place within. places place within ∙ (λ i. has_place (get_or_default sets row other d low i) place || (place == place_of (is i)));
 }
+
+-- a list that is written back where it was has the place of the list before
+pub written_back : (n : ℕ) (after before : List ActionSet) → length after ≡ n → length before ≡ n → take n (after ++ drop (length after) before) ≡ after
+written_back n after before one two =
+    ap (take n) (ap (λ (k : ℕ). after ++ drop k before) (one ∙ sym two) ∙ (ap (λ (l : List ActionSet). after ++ l) (drop-length before) ∙ append-nil after))
+    ∙ take_all n after (omega (arith, one))
 
 -- ---- the first unsound note
 module _ (job : JobData) (rows : List RowHead) where

@@ -83,7 +83,7 @@ ItemAnswer (Ok true) before old left new behind =
     (read : CertData) × HasParts new read × (cert_of before left ≡ cert_of read behind)
     × (0 < length behind)
     × ((cert : CertData) → IsUnderway old.job cert before left old.notes
-      → IsUnderway old.job cert read behind new.notes)
+    → IsUnderway old.job cert read behind new.notes)
 ItemAnswer (Ok false) before old left new behind =
     (cert : CertData) × HasParts new cert × (cert_of before left ≡ Ok cert)
     × (IsUnderway old.job cert before left old.notes → KeepsAll old.job cert new.notes)

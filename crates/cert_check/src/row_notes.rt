@@ -1,6 +1,6 @@
 //! The notes of a certificate's rows: of each row the actions that are noted, and the first note
 //! whose reason doesn't hold. Each reason is tested where its note is read.
-ghost use Rattle.std.specs.Prelude.{◌≡◌, ◌*◌, ◌<◌, ◌++◌, ◌∷◌, [], IfOk, IsTrue, OnOk, List, None, length};
+ghost use Rattle.std.specs.Prelude.{◌≡◌, ◌-◌, ◌*◌, ◌<◌, ◌++◌, ◌∷◌, [], IfOk, IsTrue, OnOk, List, None, length};
 ghost use Rattle.job_setup.specs.Setup.{bend_count, stage_count};
 ghost use Rattle.plan_cert.specs.declared.cert.RowHead.{RowHead};
 ghost use Rattle.plan_cert.specs.declared.cert.Note.{Note};
@@ -93,7 +93,7 @@ impl RowNotes {
     {
         job.recall_valid();
         if self.is_notable(job, action) {
-            let row = self.sets.len() - 1;
+            let row = self.last_row();
             put_action(job, self.sets.as_mut_slice(), row, action);
             self.test(job, row, action, reason);
         }
@@ -111,6 +111,14 @@ impl RowNotes {
         } else {
             action < action_count(job)
         }
+    }
+
+    /// The number of the last row.
+    fn last_row(&self) -> usize
+        requires { 0 < length self.now.sets.items }
+        ensures { result ≡ length self.now.sets.items - 1 }
+    {
+        self.sets.len() - 1
     }
 
     /// Tests the reason of a note, unless one before it doesn't hold.

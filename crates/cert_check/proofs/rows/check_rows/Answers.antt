@@ -37,7 +37,7 @@ loop-row-preserved c = record {
       let each = c.loop-row.invariant.each all has in
       let is : Ok tt ≡ first_fault row c.first_open-found.result (unsound_at row notes.unsound) = c.in_default.ensures ∙ ap (first_fault row c.first_open-found.result) c.unsound_at.ensures in
       let met = subst (Outcome job rows all notes has row noted.result.head noted.ensures.row noted.result.noted noted.ensures.noted each.0) (sym is)
-          (outcome job rows all notes has row noted.result.head noted.ensures.row noted.result.noted noted.ensures.noted each.0 c.first_open-found.result c.first_open-found.ensures.first each.1) in
+      (outcome job rows all notes has row noted.result.head noted.ensures.row noted.result.noted noted.ensures.noted each.0 c.first_open-found.result c.first_open-found.ensures.first each.1) in
       (rows_on job rows all notes has row noted.result.head noted.ensures.row noted.result.noted noted.ensures.noted each.0 met.0, met.1);
 }
 
