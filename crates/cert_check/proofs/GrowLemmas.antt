@@ -1,5 +1,5 @@
 -- What was read of a certificate, as its items come one after the other.
-use Rattle.std.proofs.Common.{◌≡◌, ℕ, ◌<◌, nat_lt, Bool, true, false, List, [], ◌∷◌, ◌++◌, length, Some, Result, Ok, Err, refl, sym, ◌∙◌, ap, subst, arith}
+use Rattle.std.proofs.Common.{◌≡◌, ℕ, nat_lt, Bool, true, false, List, [], ◌∷◌, ◌++◌, length, Some, Result, Ok, Err, refl, sym, ◌∙◌, ap, subst, arith}
 use Rattle.std.specs.Result.{result_ok}
 use Rattle.std.specs.Prelude.{Contains, slice_get, if◌then◌else◌}
 use Rattle.std.proofs.lemmas.List.{length_push, get_or_append_left}

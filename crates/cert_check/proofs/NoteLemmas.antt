@@ -1,14 +1,13 @@
 -- Sets of noted actions, and the first note whose reason doesn't hold, as notes and rows come.
-use Rattle.std.proofs.Common.{◌≡◌, ◌≢◌, inl, inr, ℕ, zero, suc, ◌+◌, ◌-◌, ◌*◌, ◌^◌, ◌<◌, ◌==◌, ◌&&◌, ◌||◌, Bool, true, false, List, [], ◌∷◌, ◌++◌, length, set, get_or, IsTrue, Option, Some, None, refl, sym, ◌∙◌, ap, subst, arith, length-set}
+use Rattle.std.proofs.Common.{◌≡◌, ◌≢◌, inl, inr, ℕ, ◌+◌, ◌-◌, ◌*◌, ◌^◌, ◌<◌, ◌==◌, ◌&&◌, ◌||◌, Bool, true, false, List, [], ◌∷◌, ◌++◌, length, set, get_or, IsTrue, Option, Some, None, refl, sym, ◌∙◌, ap, subst, arith, length-set}
 use Rattle.std.specs.Prelude.{All, Contains, take, drop}
 use Rattle.std.proofs.Math.Seq.{drop-length}
-use Rattle.std.specs.List.{list_any}
 use Rattle.std.proofs.lemmas.Bool.{cases_lt}
 use Rattle.std.proofs.lemmas.Bool.Decides.{eqb_tells}
 use Rattle.std.proofs.lemmas.List.{length_push, append-nil, take_all, get_or_default, get_or_push, get_or_append_left, get_or-set_same, get_or-set_other, append_assoc}
 use Rattle.std.proofs.lemmas.List.Elements.{All-append, All-cons, All-nil}
 use Rattle.std.proofs.lemmas.List.Folds.{list_any-append, list_any_none, list_any_at, Any-from_list_any}
-use Rattle.std.proofs.lemmas.Option.{same_Some, slice_get_within}
+use Rattle.std.proofs.lemmas.Option.{same_Some}
 use Rattle.brake_base.specs.declared.mask.Mask.{Mask}
 use Rattle.brake_base.specs.declared.stroke.Action.{Action}
 use Rattle.brake_base.specs.declared.reason.Reason.{Reason}
@@ -26,7 +25,7 @@ use Rattle.plan_cert.specs.Lines.{action_at}
 use Rattle.plan_cert.specs.RowFaults.{IsNoted, IsUnnoted}
 use Rattle.plan_cert.proofs.ActionNumbers.{number_is, number_below, bend_of_number, action_of_number}
 use Rattle.cert_check.specs.declared.row_notes.NotePlace.{NotePlace}
-use Rattle.cert_check.specs.RowNotes.{is_noted, has_note, note_at, AreNoted, IsSound, IsUnsound, IsFirstUnsound, IsActionPut, IsAtRow}
+use Rattle.cert_check.specs.RowNotes.{is_noted, has_note, note_at, AreNoted, IsSound, IsFirstUnsound, IsActionPut, IsAtRow}
 
 -- ---- a list with one element more
 single : {X : Type 0} (P : X → Type 0) (x : X) → P x → All P (x ∷ [])

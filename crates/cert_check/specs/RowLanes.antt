@@ -1,7 +1,6 @@
 -- Rows of which each action is met by what is known of their set. Costs are in tenths of
 -- a second.
 use Rattle.std.specs.Prelude.{◌≡◌, ℕ, ◌+◌, ◌*◌, ◌<◌, ◌≤◌, IsTrue, List, slice_index}
-use Rattle.brake_base.specs.declared.mask.Mask.{Mask}
 use Rattle.brake_base.specs.declared.stroke.Key.{Key}
 use Rattle.brake_base.specs.declared.stroke.Back.{Back}
 use Rattle.stage_lanes.specs.declared.actions.ActionSet.{ActionSet}

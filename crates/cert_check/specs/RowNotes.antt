@@ -11,7 +11,6 @@ use Rattle.stage_lanes.specs.ActionSets.{has, has_place, place_of, ArePlaces}
 use Rattle.job_setup.specs.Setup.{JobData, bend_count, stage_count}
 use Rattle.plan_cert.specs.declared.cert.RowHead.{RowHead}
 use Rattle.plan_cert.specs.declared.cert.Note.{Note}
-use Rattle.plan_cert.specs.Cert.{CertData}
 use Rattle.plan_cert.specs.Lines.{action_at}
 use Rattle.plan_cert.specs.WellFormed.{IsRow, AreRows}
 use Rattle.plan_cert.specs.RowFaults.{HoldsAt, IsTried}

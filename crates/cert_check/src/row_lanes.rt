@@ -1,6 +1,6 @@
 //! Rows of which each action is accounted for by what is known of their set, found for all stages of
 //! a stroke at once.
-ghost use Rattle.std.specs.Prelude.{◌≡◌, ◌↔◌, ℕ, ◌+◌, ◌*◌, ◌^◌, ◌<◌, ◌≤◌, IsTrue, List};
+ghost use Rattle.std.specs.Prelude.{◌≡◌, ◌↔◌, ℕ, ◌+◌, ◌*◌, ◌<◌, ◌≤◌, IsTrue, List};
 ghost use Rattle.job_setup.specs.Setup.{bend_count, stage_count};
 ghost use Rattle.plan_cert.specs.declared.cert.RowHead.{RowHead};
 ghost use Rattle.plan_cert.specs.WellFormed.{IsRow};

@@ -1,6 +1,4 @@
-use Rattle.std.proofs.Common.{◌≡◌, ℕ, false, sym, ◌∙◌, subst}
-use Rattle.job_setup.specs.Setup.{JobData}
-use Rattle.set_facts.specs.Facts.{AreLeads}
+use Rattle.std.proofs.Common.{false, sym, ◌∙◌}
 use Rattle.cert_check.proofs.ActionLemmas.{leads_at}
 use Rattle.cert_check.proofs.held_reasons.leads_within.Goals as goal
 

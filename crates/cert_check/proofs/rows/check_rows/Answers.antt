@@ -1,8 +1,6 @@
-use Rattle.std.proofs.Common.{◌≡◌, ◌≤◌, ◌+◌, Option, Some, ℕ, List, length, Result, Ok, Err, arith, sym, ◌∙◌, ap, subst}
-use Rattle.plan_cert.specs.declared.cert.Note.{Note}
+use Rattle.std.proofs.Common.{◌≡◌, length, Ok, Err, arith, sym, ◌∙◌, ap, subst}
 use Rattle.plan_cert.specs.RowFaults.{RowsAreAccounted}
-use Rattle.cert_check.specs.declared.fault.CheckFault.{CheckFault}
-use Rattle.cert_check.specs.RowNotes.{HasNotes, unsound_at}
+use Rattle.cert_check.specs.RowNotes.{unsound_at}
 use Rattle.cert_check.specs.Rows.{first_fault}
 use Rattle.cert_check.proofs.Accounting.{Outcome, outcome, rows_on}
 use Rattle.cert_check.proofs.rows.check_rows.Goals as goal

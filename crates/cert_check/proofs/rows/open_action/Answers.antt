@@ -1,4 +1,4 @@
-use Rattle.std.proofs.Common.{Bool, arith, subst}
+use Rattle.std.proofs.Common.{arith, subst}
 use Rattle.cert_check.specs.Rows.{NumberAnswer}
 use Rattle.cert_check.proofs.RowLemmas.{met_on}
 use Rattle.cert_check.proofs.rows.open_action.Goals as goal

@@ -1,4 +1,4 @@
-use Rattle.std.proofs.Common.{refl, sym, ap, subst}
+use Rattle.std.proofs.Common.{refl, sym, subst}
 use Rattle.brake_base.specs.declared.stroke.Action.{Action}
 use Rattle.handling_cost.specs.Plan.{IsReasonFor}
 use Rattle.handling_cost.proofs.Actions.{lead_is}
