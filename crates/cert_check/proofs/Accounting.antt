@@ -1,161 +1,186 @@
--- The rows of a certificate one after the other, as its notes are read.
-use Rattle.std.proofs.Common.{◌≡◌, ◌⊎◌, inl, inr, ℕ, replicate, ◌+◌, ◌*◌, ◌^◌, ◌<◌, ◌≤◌, List, length, Option, Some, None, Result, Ok, Err, arith, refl, sym, ◌∙◌, ap, subst}
-use Rattle.std.specs.Prelude.{Contains, slice_get}
+-- The rows of a certificate one after the other, where what is kept of its notes is given.
+use Rattle.std.proofs.Common.{◌≡◌, ◌⊎◌, inl, inr, ℕ, zero, suc, ◌+◌, ◌*◌, ◌<◌, ◌≤◌, IsTrue, Bool, true, false, List, ◌∷◌, ◌++◌, length, get_or, Option, Some, None, Result, Ok, Err, arith, refl, sym, ◌∙◌, ap, subst}
+use Rattle.std.specs.Prelude.{AllPairs, Contains, slice_get, if◌then◌else◌}
+use Rattle.std.proofs.lemmas.Bool.{cases_lt, lt-ltb, le-ltb}
 use Rattle.std.proofs.lemmas.Bool.Decides.{eqb_tells}
-use Rattle.std.proofs.lemmas.List.{length_push}
-use Rattle.std.proofs.lemmas.Option.{same_Some}
-use Rattle.brake_base.specs.declared.reason.Reason.{Reason}
-use Rattle.job_setup.specs.Setup.{JobData, bend_count, stage_count}
-use Rattle.plan_cert.specs.declared.cert.RowHead.{RowHead}
-use Rattle.plan_cert.specs.declared.cert.Note.{Note}
-use Rattle.plan_cert.specs.declared.item.Item.{Item}
-use Rattle.plan_cert.specs.declared.item.Item.TheVariants as given
-use Rattle.plan_cert.specs.declared.item.CertFault.{CertFault}
+use Rattle.std.proofs.lemmas.List.{length-append, get_or-append-add}
+use Rattle.std.proofs.lemmas.List.Elements.{All-contains, Contains-append_cases, Contains-append_right}
 use Rattle.std.proofs.lemmas.Nat.{mul-le}
+use Rattle.std.proofs.lemmas.Option.{same_Some, none-some, slice_get_within, get_or_from_slice_get}
+use Rattle.brake_base.specs.declared.reason.Reason.{Reason}
+use Rattle.stage_lanes.specs.declared.actions.ActionSet.{ActionSet}
+use Rattle.job_setup.specs.Setup.{JobData, bend_count, stage_count}
+use Rattle.job_setup.specs.StrokeGroup.{is_lead}
 use Rattle.job_setup.specs.ValidJob.{IsJob}
 use Rattle.handling_cost.proofs.Actions.{few_bends}
-use Rattle.plan_cert.specs.WellFormed.{IsWellFormed}
-use Rattle.plan_cert.proofs.RowOrder.{few_stages, few_rows}
-use Rattle.plan_cert.proofs.Conditions.{rows_of}
-use Rattle.plan_cert.specs.Cert.{CertData}
-use Rattle.plan_cert.specs.CertReading.{no_cert, with_item, cert_of}
+use Rattle.plan_cert.specs.declared.cert.RowHead.{RowHead}
+use Rattle.plan_cert.specs.declared.cert.Note.{Note}
+use Rattle.plan_cert.specs.Lines.{action_at}
+use Rattle.plan_cert.specs.WellFormed.{IsNote, NoteIsBefore}
+use Rattle.plan_cert.specs.RowFaults.{HoldsAt, IsNoted, IsTried, IsAccounted, AreAccounted, RowsAreAccounted}
+use Rattle.plan_cert.proofs.NumberedActions.{tried_at}
+use Rattle.plan_cert.proofs.RowOrder.{few_stages}
 use Rattle.cert_check.specs.declared.fault.CheckFault.{CheckFault}
 use Rattle.cert_check.specs.declared.fault.CheckFault.TheVariants.{BadReason, NotClosed}
-use Rattle.plan_cert.specs.RowFaults.{IsNoted, IsUnnoted, IsTried, IsAccounted, AreAccounted, RowsAreAccounted}
-use Rattle.cert_check.specs.Rows.{IsActionMet, IsActionUnmet, AreMet, IsRowFault, noted_of}
-use Rattle.cert_check.specs.Notes.{last_row, HoldsNotes, HasRowAhead, NotesAnswer, RowsAnswer}
-use Rattle.cert_check.proofs.NoteLemmas.{grows, holds_next, holds_first}
+use Rattle.cert_check.specs.declared.row_notes.NotePlace.{NotePlace}
+use Rattle.cert_check.specs.declared.row_notes.RowNotes.{RowNotes}
+use Rattle.cert_check.specs.RowNotes.{is_noted, has_note, note_at, HasNotes, IsSound, IsFirstUnsound, unsound_at}
+use Rattle.cert_check.specs.Rows.{IsMet, IsOpen, AreMet, OpenAnswer, RowsAnswer, first_of, first_fault}
+use Rattle.cert_check.proofs.NoteLemmas.{some_noted, none_noted}
 
--- so far the notes of all rows up to the last one were read, and the next row's head or the end
-pub record IsReadTo (cert : CertData) (row : ℕ) (reasons : List (Option Reason)) (left : List (Result Item CertFault)) : Type 0 where
-  pub read : CertData
-  pub rows : length read.rows ≡ row + 1
-  pub holds : HoldsNotes read reasons
-  pub ahead : (read ≡ cert) ⊎ HasRowAhead read cert left
+-- ---- the order of notes
+not_self : (a : Note) → NoteIsBefore a a → ⊥
+not_self a (inl less) = omega (arith, less)
+not_self a (inr less) = let actions = less.1 in omega (arith, actions)
 
-module _ (job : JobData) (cert : CertData) (row : ℕ) (reasons : List (Option Reason)) (left : List (Result Item CertFault)) (few : length cert.rows < 2 ^ 32) (is : IsReadTo cert row reasons left) (within : row < length cert.rows) where
-  is_last : last_row is.read ≡ row
-  is_last = let rows = is.rows in omega (arith, rows, few, within)
+not_both : (a b : Note) → NoteIsBefore a b → NoteIsBefore b a → ⊥
+not_both a b (inl one) (inl two) = omega (arith, one, two)
+not_both a b (inl one) (inr two) = let rows = two.0 in omega (arith, one, rows)
+not_both a b (inr one) (inl two) = let rows = one.0 in omega (arith, rows, two)
+not_both a b (inr one) (inr two) = let first = one.1 in let second = two.1 in omega (arith, first, second)
 
-  kept : (note : Note) → Contains is.read.notes note → Contains cert.notes note
-  kept note member = elim is.ahead [
-    | inl same ↦ subst (λ (c : CertData). Contains c.notes note) same member
-    | inr more ↦ (grows left (with_item is.read (given.Row more.0)) cert more.1.0).kept note member
+-- a note that is before one by number stands before it
+module _ (before : List Note) (bad : Note) (behind : List Note) (order : AllPairs NoteIsBefore (before ++ bad ∷ behind)) (note : Note) (less : NoteIsBefore note bad) where
+  not_late : (k : ℕ) → k < length (bad ∷ behind) → get_or (bad ∷ behind) k note ≡ note → ⊥
+  not_late zero low is = not_self note (subst (NoteIsBefore note) is less)
+  not_late (suc k) low is =
+      let all = length-append before (bad ∷ behind) in
+      let pair = order (length before + 0) (length before + suc k) note (omega arith) (omega (arith, all, low)) in
+      let first : NoteIsBefore bad (get_or (before ++ bad ∷ behind) (length before + suc k) note) =
+      subst (λ (n : Note). NoteIsBefore n (get_or (before ++ bad ∷ behind) (length before + suc k) note)) (get_or-append-add before (bad ∷ behind) 0 note) pair in
+      not_both bad note (subst (NoteIsBefore bad) (get_or-append-add before (bad ∷ behind) (suc k) note ∙ is) first) less
+
+  stands_before : Contains (before ++ bad ∷ behind) note → Contains before note
+  stands_before member = elim (Contains-append_cases before (bad ∷ behind) note member) [
+    | inl early ↦ early
+    | inr late ↦ absurd (not_late late.0 late.1 late.2)
   ]
 
-  read_before : (note : Note) → Contains cert.notes note → note.row ≡ row → Contains is.read.notes note
-  read_before note member here = elim is.ahead [
-    | inl same ↦ subst (λ (c : CertData). Contains c.notes note) (sym same) member
-    | inr more ↦
-        let after = grows left (with_item is.read (given.Row more.0)) cert more.1.0 in
-        elim (after.late note member) [
-          | inl early ↦ early
-          | inr late ↦ absurd (let rows = is.rows in let one = length_push is.read.rows more.0 in let all = after.rows in omega (arith, rows, one, all, few, here, late))
-        ]
-  ]
+module _ (job : JobData) (rows : List RowHead) (all : List Note) (notes : RowNotes) (has : HasNotes job rows all notes) where
+  -- where no note fails each holds
+  pub sound_all : notes.unsound ≡ None → (note : Note) → Contains all note → IsSound job rows note
+  sound_all none note member = All-contains (IsSound job rows) all note (subst (IsFirstUnsound job rows all) none has.first) member
 
-  -- what is kept of an action is what the certificate notes
-  pub some_noted : (action : ℕ) (reason : Reason) → noted_of reasons action ≡ Some reason → IsNoted cert.notes row action reason
-  some_noted action reason some =
-      kept (record { row = row; action = action; reason = reason })
-      (subst (λ (n : ℕ). Contains is.read.notes (record { row = n; action = action; reason = reason })) is_last (is.holds.sound action reason some))
+  -- else each before the first that fails
+  pub sound_before : (place : NotePlace) → notes.unsound ≡ Some place → (note : Note) → Contains all note → (note.row < place.row) ⊎ ((note.row ≡ place.row) × (note.action < place.action)) → IsSound job rows note
+  sound_before place is note member less =
+      let first = subst (IsFirstUnsound job rows all) is has.first in
+      All-contains (IsSound job rows) first.0 note first.4
+      (stands_before first.0 (note_at place.row place.action first.1) first.2 (subst (AllPairs NoteIsBefore) first.3 has.form.note_order) note less (subst (λ (ns : List Note). Contains ns note) first.3 member))
 
-  pub none_noted_at : (action : ℕ) → action < 144 → noted_of reasons action ≡ None → IsUnnoted cert.notes row action
-  none_noted_at action small none reason noted =
-      is.holds.whole (record { row = row; action = action; reason = reason }) (read_before (record { row = row; action = action; reason = reason }) noted refl) (sym is_last) small none
+  -- so all notes of a row at which the first that fails isn't
+  sound_at : (row : ℕ) (unsound : Option NotePlace) → notes.unsound ≡ unsound → ((place : NotePlace) → unsound ≡ Some place → row < place.row) → (number : ℕ) (reason : Reason) → IsNoted all row number reason → IsSound job rows (note_at row number reason)
+  sound_at row None is later number reason noted = sound_all is (note_at row number reason) noted
+  sound_at row (Some place) is later number reason noted = sound_before place is (note_at row number reason) noted (inl (later place refl))
 
-  module _ (head : RowHead) (small : 2 * bend_count job * stage_count job ≤ 144) where
-    accounted_by : (action : ℕ) (noted : Option Reason) → action < 144 → noted_of reasons action ≡ noted → IsActionMet job cert.rows head action noted → IsAccounted job cert.rows cert.notes row head action
-    accounted_by action (Some reason) low is_noted met = inl (reason, some_noted action reason is_noted, met)
-    accounted_by action None low is_noted met = inr (none_noted_at action low is_noted, met)
+  module _ (row : ℕ) (head : RowHead) (at : slice_get rows row ≡ Some head) (noted : ActionSet) (set_is : noted ≡ get_or notes.sets.items row noted) (rest : RowsAreAccounted job rows all row) where
+    bit : (number : ℕ) → number < 2 * bend_count job * stage_count job → is_noted job noted number ≡ has_note all row number
+    bit number below = ap (λ (s : ActionSet). is_noted job s number) set_is ∙ has.noted.each row number noted (slice_get_within rows row head at) below
 
-    pub row_accounted : (count : ℕ) → count ≤ 144 → AreMet job cert.rows head reasons count → AreAccounted job cert.rows cert.notes row head count
-    row_accounted count low met action less tried = accounted_by action (noted_of reasons action) (omega (arith, less, low)) refl (met action less tried)
+    by_note : (number : ℕ) → ((reason : Reason) → IsNoted all row number reason → IsSound job rows (note_at row number reason)) → has_note all row number ≡ true → IsAccounted job rows all row head number
+    by_note number sound is = let found = some_noted all row number is in inl (found.0, found.1, sound found.0 found.1 head at)
 
-    first_by : (number : ℕ) (noted : Option Reason) (fault : CheckFault) → number < 144 → slice_get cert.rows row ≡ Some head → RowsAreAccounted job cert.rows cert.notes row → IsTried job head number → AreMet job cert.rows head reasons number
-        → noted_of reasons number ≡ noted → IsActionUnmet job cert.rows row head number noted fault → RowsAnswer job cert (Err fault)
-    first_by number (Some reason) (BadReason r n) low at rows tried before is_noted cause =
-        subst (λ (k : ℕ). RowsAnswer job cert (Err (BadReason k n))) (sym cause.0)
-        (subst (λ (k : ℕ). RowsAnswer job cert (Err (BadReason row k))) (sym cause.1)
-        (record { head = head; at = at; tried = tried; rows = rows; actions = row_accounted number (omega (arith, low)) before; cause = (reason, some_noted number reason is_noted, cause.2) }))
-    first_by number None (NotClosed r n) low at rows tried before is_noted cause =
-        subst (λ (k : ℕ). RowsAnswer job cert (Err (NotClosed k n))) (sym cause.0)
-        (subst (λ (k : ℕ). RowsAnswer job cert (Err (NotClosed row k))) (sym cause.1)
-        (record { head = head; at = at; tried = tried; rows = rows; actions = row_accounted number (omega (arith, low)) before; cause = (none_noted_at number low is_noted, cause.2) }))
-    first_by number _ _ low at rows tried before is_noted cause = absurd cause
+    met_accounted : (number : ℕ) (has_one : Bool) → IsTried job head number → ((reason : Reason) → IsNoted all row number reason → IsSound job rows (note_at row number reason)) → has_note all row number ≡ has_one → IsMet job rows head noted number
+        → IsAccounted job rows all row head number
+    met_accounted number true tried sound is met = by_note number sound is
+    met_accounted number false tried sound is (inl on) = absurd (let one : false ≡ true = sym is ∙ (sym (bit number tried.0) ∙ on) in cc)
+    met_accounted number false tried sound is (inr shut) = inr (none_noted all row number is, shut)
 
-    pub row_fault : (fault : CheckFault) → slice_get cert.rows row ≡ Some head → RowsAreAccounted job cert.rows cert.notes row → IsRowFault job cert.rows row head reasons fault → RowsAnswer job cert (Err fault)
-    row_fault fault at rows first =
-        let below = first.tried.0 in
-        first_by first.number (noted_of reasons first.number) fault (omega (arith, below, small)) at rows first.tried first.before refl first.cause
+    accounted : (count : ℕ) → AreMet job rows head noted count → ((number : ℕ) (reason : Reason) → number < count → IsNoted all row number reason → IsSound job rows (note_at row number reason)) → AreAccounted job rows all row head count
+    accounted count met sound number less tried = met_accounted number (has_note all row number) tried (λ reason. sound number reason less) refl (met number less tried)
 
-    -- a row more
-    pub rows_on : slice_get cert.rows row ≡ Some head → RowsAreAccounted job cert.rows cert.notes row → AreMet job cert.rows head reasons (2 * bend_count job * stage_count job) → RowsAreAccounted job cert.rows cert.notes (row + 1)
-    rows_on at rows met other its less its_at = elim (eqb_tells other row) [
-      | inl same ↦
-          let heads : head ≡ its = same_Some head its (sym at ∙ (ap (slice_get cert.rows) (sym same.1) ∙ its_at)) in
-          subst (λ (k : ℕ). AreAccounted job cert.rows cert.notes k its (2 * bend_count job * stage_count job)) (sym same.1)
-          (subst (λ (h : RowHead). AreAccounted job cert.rows cert.notes row h (2 * bend_count job * stage_count job)) heads (row_accounted (2 * bend_count job * stage_count job) small met))
-      | inr before ↦ rows other its (let no = before.1 in omega (arith, less, no)) its_at
+    -- an open action, before which each note of the row holds
+    open_first : (number : ℕ) → IsOpen job rows head noted number → AreMet job rows head noted number → ((other : ℕ) (reason : Reason) → other < number → IsNoted all row other reason → IsSound job rows (note_at row other reason))
+        → RowsAnswer job rows all (Err (NotClosed row number))
+    open_first number is met sound = record {
+      head = head;
+      at = at;
+      tried = is.tried;
+      rows = rest;
+      actions = accounted number met sound;
+      cause = (none_noted all row number (let tried = is.tried in sym (bit number tried.0) ∙ is.unnoted), is.unclosed);
+    }
+
+    -- a note of the row that fails, before which each action is met
+    bad_first : (place : NotePlace) → notes.unsound ≡ Some place → place.row ≡ row → AreMet job rows head noted place.action → RowsAnswer job rows all (Err (BadReason row place.action))
+    bad_first place is here met =
+        let first = subst (IsFirstUnsound job rows all) is has.first in
+        let reason = first.1 in
+        let member : IsNoted all row place.action reason =
+        subst (λ (n : ℕ). IsNoted all n place.action reason) here
+        (subst (λ (ns : List Note). Contains ns (note_at place.row place.action reason)) (sym first.3)
+        (Contains-append_right first.0 (note_at place.row place.action reason ∷ first.2) (note_at place.row place.action reason) (0, omega arith, refl))) in
+        let note = subst (IsNote job rows) member.2 (has.form.each_note member.0 (note_at row place.action reason) member.1) in
+        let its = get_or_from_slice_get rows row head head at in
+        let unsound = first.5 in
+        let same : unsound.0 ≡ head = same_Some unsound.0 head (sym unsound.1 ∙ (ap (slice_get rows) here ∙ at)) in
+        record {
+          head = head;
+          at = at;
+          tried = (note.action, tried_at job head.key place.action note.action (subst (λ (h : RowHead). IsTrue (is_lead job h.key.mask (action_at (stage_count job) place.action).bend)) its (note.lead head)));
+          rows = rest;
+          actions = accounted place.action met (λ number other less noted. sound_before place is (note_at row number other) noted (inr (sym here, less)));
+          cause = (reason, member, λ holds. unsound.2 (subst (λ (h : RowHead). HoldsAt job h place.action reason) (sym same) holds));
+        }
+
+    -- what a row comes to
+    abbrev pub Outcome : Result (Unit {0}) CheckFault → Type 0
+    Outcome (Ok _) = AreAccounted job rows all row head (2 * bend_count job * stage_count job) × ((place : NotePlace) → notes.unsound ≡ Some place → row + 1 ≤ place.row)
+    Outcome (Err fault) = RowsAnswer job rows all (Err fault)
+
+    outcome_sound : (found : Option ℕ) → OpenAnswer job rows head noted found → ((place : NotePlace) → notes.unsound ≡ Some place → row < place.row) → Outcome (first_fault row found None)
+    outcome_sound None met later = (
+      accounted (2 * bend_count job * stage_count job) met (λ number reason less. sound_at row notes.unsound refl later number reason),
+      λ place is. let more = later place is in omega (arith, more),
+    )
+    outcome_sound (Some number) is later = open_first number is.0 is.1 (λ other reason less. sound_at row notes.unsound refl later other reason)
+
+    outcome_bad : (found : Option ℕ) (place : NotePlace) → OpenAnswer job rows head noted found → notes.unsound ≡ Some place → place.row ≡ row → place.action < 2 * bend_count job * stage_count job → Outcome (Err (first_of row found place.action))
+    outcome_bad None place met is here low = bad_first place is here (λ number less. met number (omega (arith, less, low)))
+    outcome_bad (Some number) place first is here low = elim (cases_lt number place.action) [
+      | inl less ↦
+          subst (λ (b : Bool). RowsAnswer job rows all (Err (if b then NotClosed row number else BadReason row place.action))) (sym (lt-ltb number place.action less))
+          (open_first number first.0 first.1 (λ other reason lower noted. sound_before place is (note_at row other reason) noted (inr (sym here, omega (arith, lower, less)))))
+      | inr more ↦
+          subst (λ (b : Bool). RowsAnswer job rows all (Err (if b then NotClosed row number else BadReason row place.action))) (sym (le-ltb number place.action more))
+          (bad_first place is here (λ other less. first.1 other (omega (arith, less, more))))
     ]
 
--- before a row's notes are read: its head was read, and the notes that stand before it; or all rows are done
-pub record IsAhead (cert : CertData) (row : ℕ) (reasons : List (Option Reason)) (left : List (Result Item CertFault)) : Type 0 where
-  pub read : CertData
-  pub rows : length read.rows ≡ row + 1
-  pub holds : HoldsNotes read reasons
-  pub completes : cert_of read left ≡ Ok cert
-  pub more : 0 < length left
+    place_low : (place : NotePlace) → notes.unsound ≡ Some place → place.action < 2 * bend_count job * stage_count job
+    place_low place is =
+        let first = subst (IsFirstUnsound job rows all) is has.first in
+        let bad = note_at place.row place.action first.1 in
+        let member : Contains all bad = subst (λ (ns : List Note). Contains ns bad) (sym first.3) (Contains-append_right first.0 (bad ∷ first.2) bad (0, omega arith, refl)) in
+        (subst (IsNote job rows) member.2 (has.form.each_note member.0 bad member.1)).action
 
-abbrev pub IsReady : CertData → ℕ → List (Option Reason) → List (Result Item CertFault) → Type 0
-IsReady cert row reasons left = (length cert.rows ≡ row) ⊎ IsAhead cert row reasons left
+    by_place : (found : Option ℕ) (unsound : Option NotePlace) → OpenAnswer job rows head noted found → notes.unsound ≡ unsound → ((place : NotePlace) → notes.unsound ≡ Some place → row ≤ place.row) → Outcome (first_fault row found (unsound_at row unsound))
+    by_place found None open_is is ahead = outcome_sound found open_is (λ place its. absurd (none-some place (sym is ∙ its)))
+    by_place found (Some place) open_is is ahead = elim (eqb_tells place.row row) [
+      | inl same ↦
+          subst (λ (b : Bool). Outcome (first_fault row found (if b then Some place.action else None))) (sym same.0)
+          (outcome_bad found place open_is is same.1 (place_low place is))
+      | inr other ↦
+          subst (λ (b : Bool). Outcome (first_fault row found (if b then Some place.action else None))) (sym other.0)
+          (outcome_sound found open_is (λ own its.
+          let same : place ≡ own = same_Some place own (sym is ∙ its) in
+          subst (λ (p : NotePlace). row < p.row) same (let more = ahead place is in let no = other.1 in omega (arith, more, no))))
+    ]
 
--- the notes of a row are read where its head was
-pub read_to : (cert : CertData) (row : ℕ) (reasons more : List (Option Reason)) (left rest : List (Result Item CertFault)) → (ahead : IsAhead cert row reasons left) → NotesAnswer ahead.read cert more rest (Ok tt) → IsReadTo cert row more rest
-read_to cert row reasons more left rest ahead answer = record {
-  read = answer.0;
-  rows = ap length answer.1 ∙ ahead.rows;
-  holds = answer.2;
-  ahead = answer.3;
-}
+    pub outcome : (found : Option ℕ) → OpenAnswer job rows head noted found → ((place : NotePlace) → notes.unsound ≡ Some place → row ≤ place.row) → Outcome (first_fault row found (unsound_at row notes.unsound))
+    outcome found open_is ahead = by_place found notes.unsound open_is refl ahead
 
--- behind a row's notes the next row is ahead, or all rows are done
-pub ready_on : (cert : CertData) (row : ℕ) (reasons : List (Option Reason)) (left : List (Result Item CertFault)) → length cert.rows < 2 ^ 32 → row < length cert.rows → IsReadTo cert row reasons left
-    → IsReady cert (row + 1) (replicate 144 None) left
-ready_on cert row reasons left few within is = elim is.ahead [
-  | inl same ↦ inl (let rows = is.rows in let all = ap (λ (c : CertData). length c.rows) same in omega (arith, rows, all))
-  | inr more ↦ inr (record {
-    read = with_item is.read (given.Row more.0);
-    rows = let one = length_push is.read.rows more.0 in let rows = is.rows in omega (arith, one, rows);
-    holds = holds_next is.read more.0 reasons (let rows = is.rows in omega (arith, rows)) (let rows = is.rows in omega (arith, rows, few, within)) is.holds;
-    completes = more.1.0;
-    more = more.1.1;
-  })
-]
-
--- before the first row: what was read has no row, and no answer makes one but a row's head
-pub ready_first : (cert : CertData) (reasons : List (Option Reason)) (left : List (Result Item CertFault)) → NotesAnswer no_cert cert reasons left (Ok tt) → IsReady cert 0 reasons left
-ready_first cert reasons left answer = elim answer.3 [
-  | inl same ↦ inl (let rows = ap length answer.1 in let all = ap (λ (c : CertData). length c.rows) same in omega (arith, rows, all))
-  | inr more ↦ inr (record {
-    read = with_item answer.0 (given.Row more.0);
-    rows = let one = length_push answer.0.rows more.0 in let rows = ap length answer.1 in omega (arith, one, rows);
-    holds = holds_first answer.0 more.0 reasons (let rows = ap length answer.1 in omega (arith, rows)) answer.2;
-    completes = more.1.0;
-    more = more.1.1;
-  })
-]
-
-pub ahead_of : (cert : CertData) (row : ℕ) (reasons : List (Option Reason)) (left : List (Result Item CertFault)) → row < length cert.rows → IsReady cert row reasons left → IsAhead cert row reasons left
-ahead_of cert row reasons left within (inl done) = absurd (omega (arith, within, done))
-ahead_of cert row reasons left within (inr ahead) = ahead
+    -- a row more
+    pub rows_on : AreAccounted job rows all row head (2 * bend_count job * stage_count job) → RowsAreAccounted job rows all (row + 1)
+    rows_on met other its less its_at = elim (eqb_tells other row) [
+      | inl same ↦
+          let heads : head ≡ its = same_Some head its (sym at ∙ (ap (slice_get rows) (sym same.1) ∙ its_at)) in
+          subst (λ (k : ℕ). AreAccounted job rows all k its (2 * bend_count job * stage_count job)) (sym same.1)
+          (subst (λ (h : RowHead). AreAccounted job rows all row h (2 * bend_count job * stage_count job)) heads met)
+      | inr before ↦ rest other its (let no = before.1 in omega (arith, less, no)) its_at
+    ]
 
 -- a job has at most 144 actions
 pub most_actions : (job : JobData) → IsJob job → 2 * bend_count job * stage_count job ≤ 144
 most_actions job is_job =
     let bends = few_bends job is_job in
     mul-le (2 * bend_count job) (stage_count job) 24 6 (omega (arith, bends)) (few_stages job is_job)
-
--- a certificate has fewer rows than a number of 32 bits can tell
-pub fewer_rows : (job : JobData) (cert : CertData) → IsJob job → IsWellFormed job cert → length cert.rows < 2 ^ 32
-fewer_rows job cert is_job form = let few = few_rows job is_job cert.rows (rows_of job is_job cert.rows cert.notes form.rows) in omega (arith, few)

@@ -1,24 +1,16 @@
 -- What belongs to the actions where the bends of a set are folded.
-use Rattle.std.proofs.Common.{◌≡◌, inl, inr, ℕ, ◌+◌, ◌<◌, List, length, set, get_or, Option, Some, None, Result, Ok, Err, arith, sym, ◌∙◌, ap, subst}
+use Rattle.std.proofs.Common.{◌≡◌, inl, inr, ℕ, ◌+◌, ◌<◌, List, length, set, get_or, Option, None, arith, sym, ◌∙◌, ap, subst}
 use Rattle.std.proofs.lemmas.Bool.Decides.{eqb_tells}
 use Rattle.std.proofs.lemmas.List.{get_or-set_same, get_or-set_other}
 use Rattle.brake_base.specs.declared.mask.Mask.{Mask}
 use Rattle.brake_base.specs.declared.stroke.Key.{Key}
 use Rattle.brake_base.specs.declared.stroke.Action.{Action}
-use Rattle.brake_base.specs.declared.reason.Reason.{Reason}
 use Rattle.job_setup.specs.Setup.{JobData, stage_count}
 use Rattle.handling_cost.specs.StepCost.{key_after}
-use Rattle.handling_cost.specs.Plan.{IsReasonFor}
 use Rattle.set_facts.specs.Facts.{AreLeads}
-use Rattle.plan_cert.specs.declared.cert.RowHead.{RowHead}
 use Rattle.plan_cert.specs.Lines.{action_at}
-use Rattle.cert_check.specs.declared.fault.CheckFault.{CheckFault}
-use Rattle.plan_cert.specs.RowFaults.{IsTried}
-use Rattle.cert_check.specs.Rows.{ActionAnswer, NumberAnswer}
 use Rattle.cert_check.specs.declared.set_actions.NextKey.{NextKey}
-use Rattle.cert_check.specs.declared.set_actions.SetActions.{SetActions}
-use Rattle.cert_check.specs.SetActions.{IsNext, IsNextOf, AreActionsOf}
-use Rattle.plan_cert.proofs.NumberedActions.{held_on}
+use Rattle.cert_check.specs.SetActions.{IsNext, IsNextOf}
 
 -- where the actions below a number lead
 abbrev pub AreNextBelow : JobData → Mask → ℕ → List (Option NextKey) → Type 0
@@ -36,28 +28,10 @@ next_on job mask count nexts found within is below number less = elim (eqb_tells
       (below number (let no = there.1 in omega (arith, less, no)))
 ]
 
--- a further reason that holds
-pub kept_more : (job : JobData) (old new : SetActions) (number : ℕ) (reason : Reason) → AreActionsOf job old → IsReasonFor job old.mask (action_at (stage_count job) number) reason → new.mask ≡ old.mask → new.next ≡ old.next
-    → new.held ≡ set old.held number (Some reason) → AreActionsOf job new
-kept_more job old new number reason are is mask next held = record {
-  next = λ other below.
-      subst (λ (m : Mask). IsNextOf job m (action_at (stage_count job) other) (get_or new.next other None)) (sym mask)
-      (subst (λ (ns : List (Option NextKey)). IsNextOf job old.mask (action_at (stage_count job) other) (get_or ns other None)) (sym next) (are.next other below));
-  held = λ other found read.
-      subst (λ (m : Mask). IsReasonFor job m (action_at (stage_count job) other) found) (sym mask)
-      (held_on job old.mask old.held number reason is are.held other found (sym (ap (λ (hs : List (Option Reason)). get_or hs other None) held) ∙ read));
-}
-
 -- the key to which an action leads is that of the definition
 pub next_key_is : (job : JobData) (key : Key) (action : Action) (next : NextKey) → IsNext job key.mask action next → next.key ≡ key_after job key action
 unfolding key_after
 next_key_is job key action next is = λ i. record { mask = is.mask i; attitude = is.attitude i; stage = is.stage i }
-
--- an action that is accounted for, or isn't, can be tried
-pub number_answer : (job : JobData) (rows : List RowHead) (row : ℕ) (head : RowHead) (number : ℕ) (noted : Option Reason) (result : Result (Unit {0}) CheckFault) → IsTried job head number → ActionAnswer job rows row head number noted result
-    → NumberAnswer job rows row head number noted result
-number_answer job rows row head number noted (Ok done) tried answer = λ again. answer
-number_answer job rows row head number noted (Err fault) tried answer = (tried, answer)
 
 -- the leads of the same job
 pub leads_at : (facts job : JobData) (mask leads : Mask) → facts ≡ job → AreLeads facts mask leads → AreLeads job mask leads

@@ -7,19 +7,22 @@ use Rattle.job_setup.specs.Setup.{JobData}
 use Rattle.job_setup.specs.ValidJob.{IsJob}
 use Rattle.handling_cost.specs.Plan.{start}
 use Rattle.handling_cost.specs.Good.{AreClaimed}
+use Rattle.plan_cert.specs.declared.cert.RowHead.{RowHead}
 use Rattle.plan_cert.specs.Cert.{CertData}
 use Rattle.plan_cert.specs.WellFormed.{IsWellFormed}
 use Rattle.plan_cert.specs.GoodCert.{IsGoodCert}
 use Rattle.cert_check.specs.declared.fault.CheckFault.{CheckFault}
 use Rattle.cert_check.specs.declared.fault.CheckFault.TheVariants.{Cert, BadStep, BadCost, BadReason, NotClosed, TooLow, NoMemory, Unfinished}
+use Rattle.cert_check.specs.declared.read_cert.ReadCert.{ReadCert}
+use Rattle.cert_check.specs.declared.row_notes.RowNotes.{RowNotes}
+use Rattle.cert_check.specs.RowNotes.{HasNotes}
 use Rattle.cert_check.specs.Texts.{IsTextOfCert}
-use Rattle.cert_check.specs.Heads.{HeadsAnswer}
+use Rattle.cert_check.specs.ReadCert.{ReadAnswer}
 use Rattle.cert_check.specs.Steps.{AreFaulty}
 use Rattle.plan_cert.specs.RowFaults.{RowsAreAccounted}
 use Rattle.cert_check.specs.Checking.{IsProved}
-use Rattle.cert_check.specs.Rows.{ProvesAfter, ProvesAnswer}
-use Rattle.cert_check.specs.Notes.{RowsAnswer}
-use Rattle.cert_check.specs.Checking.{CheckedData, IsFault, IsRefused, IsAnswer, IsRowsFault, RowsVerdict, CertAnswer, verdict_of}
+use Rattle.cert_check.specs.Rows.{ProvesAfter, ProvesAnswer, RowsAnswer}
+use Rattle.cert_check.specs.Checking.{CheckedData, IsFault, IsRefused, IsAnswer, IsRowsFault, RowsVerdict, CertAnswer, AreParts, AreRowParts, verdict_of}
 use Rattle.cert_check.proofs.Truth.{is_good}
 
 -- the job of a certificate's text is valid, and the certificate is well formed
@@ -44,7 +47,7 @@ module _ (job : JobData) (cert : CertData) where
   claim_answer (Err _) rows answer = absurd answer
 
   -- ---- the rows
-  pub rows_refused : (fault : CheckFault) → RowsAnswer job cert (Err fault) → RowsVerdict job cert (Err fault)
+  pub rows_refused : (fault : CheckFault) → RowsAnswer job cert.rows cert.notes (Err fault) → RowsVerdict job cert (Err fault)
   rows_refused (BadReason row action) answer = inr answer
   rows_refused (NotClosed row action) answer = inr answer
   rows_refused _ answer = absurd answer
@@ -97,7 +100,26 @@ text_accepted text job cert written answer checked jobs verdict =
       verdict = verdict;
     }
 
-pub text_unread : (text : List ℕ) (fault : CheckFault) → HeadsAnswer text (Err fault) → (fault ≡ NoMemory) ⊎ IsAnswer text (Err fault)
+pub text_unread : (text : List ℕ) (fault : CheckFault) → ReadAnswer text (Err fault) → (fault ≡ NoMemory) ⊎ IsAnswer text (Err fault)
 text_unread text (Cert fault) answer = inr answer
 text_unread text NoMemory answer = inl refl
 text_unread text _ answer = absurd answer
+
+-- ---- what was read
+-- of a certificate that was read these are all parts
+pub parts_read : (text : List ℕ) (read : ReadCert) (answer : ReadAnswer text (Ok read)) → AreParts read.job read.claim read.steps.items read.rows.items read.notes answer.0
+parts_read text read (cert, written, has, kept, testing) = record {
+  parts = record {
+    valid = written.exact.job;
+    form = written.exact.form;
+    claim_is = has.claim;
+    rows_are = has.rows;
+    notes_are = kept;
+    table = testing.table;
+  };
+  steps_are = has.steps;
+}
+
+-- and what is kept of its notes
+pub notes_read : (job : JobData) (claim : Worth) (rows : List RowHead) (notes : RowNotes) (cert : CertData) → AreRowParts job claim rows notes cert → HasNotes job cert.rows cert.notes notes
+notes_read job claim rows notes cert are = record { form = are.form.rows; noted = are.notes_are.noted; first = are.notes_are.first }

@@ -17,8 +17,9 @@ use Rattle.plan_cert.specs.Items.{items}
 use Rattle.plan_cert.specs.PlanItem.{job_answer}
 use Rattle.plan_cert.specs.CertReading.{CertFileData, version_in, no_cert, with_item, is_last, cert_of, with_job, cert_file_of, answers_left}
 use Rattle.plan_cert.proofs.Collecting.{goes_on}
-use Rattle.cert_check.specs.declared.heads.Heads.{Heads}
-use Rattle.cert_check.specs.Heads.{HasHeads, ItemAnswer, JobAnswer, behind}
+use Rattle.cert_check.specs.declared.read_cert.ReadCert.{ReadCert}
+use Rattle.cert_check.specs.declared.row_notes.RowNotes.{RowNotes}
+use Rattle.cert_check.specs.ReadCert.{HasParts, KeepsAll, IsUnderway, IsKept, IsFurther, ItemAnswer, JobAnswer, behind}
 use Rattle.cert_check.proofs.Refusing.{refused_for}
 
 answers : Reading → List (Result Item CertFault)
@@ -92,22 +93,40 @@ last_item before left (given.Step step) is = absurd cc
 last_item before left (given.Row head) is = absurd cc
 last_item before left (given.Note action reason) is = absurd cc
 
-at_end : (heads : Heads) (before : CertData) (item : Item) → is_last item ≡ true → HasHeads heads (with_item before item) → HasHeads heads before
-at_end heads before given.End is has = has
-at_end heads before (given.Job job) is has = absurd cc
-at_end heads before (given.Claim claim) is has = absurd cc
-at_end heads before (given.Step step) is has = absurd cc
-at_end heads before (given.Row head) is has = absurd cc
-at_end heads before (given.Note action reason) is has = absurd cc
+at_end : (read : ReadCert) (before : CertData) (item : Item) → is_last item ≡ true → HasParts read (with_item before item) → HasParts read before
+at_end read before given.End is has = has
+at_end read before (given.Job job) is has = absurd cc
+at_end read before (given.Claim claim) is has = absurd cc
+at_end read before (given.Step step) is has = absurd cc
+at_end read before (given.Row head) is has = absurd cc
+at_end read before (given.Note action reason) is has = absurd cc
 
--- what was read of an item, where the heads are those of what was read before it
-pub item_read : (heads : Heads) (before : CertData) (item : Item) (left : List (Result Item CertFault)) → HasHeads heads (with_item before item) → (is_last item ≡ false → 0 < length left)
-    → ItemAnswer (Ok (not (is_last item))) before (Ok item ∷ left) heads left
-item_read heads before item left has more = by_last (is_last item) refl
+module _ (job : JobData) (cert before : CertData) (left : List (Result Item CertFault)) (notes : RowNotes) where
+  goes_underway : (item : Item) → is_last item ≡ false → IsKept job cert before item left notes → IsUnderway job cert (with_item before item) left notes
+  goes_underway given.End goes kept = absurd cc
+  goes_underway (given.Job own) goes kept = kept
+  goes_underway (given.Claim claim) goes kept = kept
+  goes_underway (given.Step step) goes kept = kept
+  goes_underway (given.Row head) goes kept = kept
+  goes_underway (given.Note action reason) goes kept = kept
+
+keeps_all : (job : JobData) (cert : CertData) (left : List (Result Item CertFault)) (notes : RowNotes) (item : Item) → is_last item ≡ true → IsKept job cert cert item left notes → KeepsAll job cert notes
+keeps_all job cert left notes given.End is kept = kept
+keeps_all job cert left notes (given.Job own) is kept = absurd cc
+keeps_all job cert left notes (given.Claim claim) is kept = absurd cc
+keeps_all job cert left notes (given.Step step) is kept = absurd cc
+keeps_all job cert left notes (given.Row head) is kept = absurd cc
+keeps_all job cert left notes (given.Note action reason) is kept = absurd cc
+
+-- what was read of an item, where the parts are those of what was read before it
+pub item_read : (old read : ReadCert) (before : CertData) (item : Item) (left : List (Result Item CertFault)) → HasParts read (with_item before item) → (is_last item ≡ false → 0 < length left)
+    → ((cert : CertData) → IsUnderway old.job cert before (Ok item ∷ left) old.notes → IsKept old.job cert before item left read.notes)
+    → ItemAnswer (Ok (not (is_last item))) before old (Ok item ∷ left) read left
+item_read old read before item left has more kept = by_last (is_last item) refl
   where
-    by_last : (last : Bool) → is_last item ≡ last → ItemAnswer (Ok (not last)) before (Ok item ∷ left) heads left
-    by_last false is = (with_item before item, has, of_item before left item is, more is)
-    by_last true is = (before, at_end heads before item is has, last_item before left item is)
+    by_last : (last : Bool) → is_last item ≡ last → ItemAnswer (Ok (not last)) before old (Ok item ∷ left) read left
+    by_last false is = (with_item before item, has, of_item before left item is, more is, λ cert under. goes_underway old.job cert before left read.notes item is (kept cert under))
+    by_last true is = (before, at_end read before item is has, last_item before left item is, λ under. keeps_all old.job before left read.notes item is (kept before under))
 
 -- ---- a reader and the one behind it
 -- all answers, where the first is given
@@ -115,6 +134,14 @@ pub begins : (r : Reading) (answer : Result Item CertFault) → r.kind ≡ Certi
     → items Certificate r.text ≡ answer ∷ answers_left (behind r)
 begins r answer kind first given =
     ap (λ (k : TextKind). items k r.text) (sym kind) ∙ (ap (λ (n : ℕ). drop n (items r.kind r.text)) (sym first) ∙ left_on r answer given)
+
+-- a reader behind another is further on
+pub further_on : (r next : Reading) → next ≡ behind r → IsFurther r next
+further_on r next is = record {
+  kind = ap (λ (q : Reading). q.kind) is;
+  text = ap (λ (q : Reading). q.text) is;
+  further = let on = ap (λ (q : Reading). q.answered) is in omega (arith, on);
+}
 
 -- behind an item but the end an answer is left
 pub answer_behind : (r : Reading) (item : Item) → slice_get (items r.kind r.text) r.answered ≡ Some (Ok item) → is_last item ≡ false → 0 < length (answers_left (behind r))

@@ -6,8 +6,10 @@ pub mod Truth
 pub mod Accepting
 pub mod Refusing
 pub mod ItemLemmas
+pub mod GrowLemmas
+pub mod ReasonLemmas
 pub mod NoteLemmas
-pub mod HeadLemmas
+pub mod ReadLemmas
 pub mod RowLemmas
 pub mod ProvedLemmas
 pub mod RowLaneLemmas

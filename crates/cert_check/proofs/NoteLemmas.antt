@@ -1,269 +1,238 @@
--- The notes of a certificate by their rows, as its items come one after the other.
-use Rattle.std.proofs.Common.{◌≡◌, ◌⊎◌, inl, inr, ℕ, zero, suc, ◌-◌, ◌^◌, ◌<◌, ◌≤◌, nat_lt, Bool, true, false, List, [], ◌∷◌, ◌++◌, length, set, replicate, get_or, Option, Some, None, Result, Ok, Err, refl, sym, ◌∙◌, ap, subst, arith, length-set}
-use Rattle.std.specs.Result.{result_ok}
-use Rattle.std.specs.Prelude.{Contains, min, if◌then◌else◌}
-use Rattle.std.proofs.lemmas.Bool.{cases_lt, lt-ltb, le-ltb}
+-- Sets of noted actions, and the first note whose reason doesn't hold, as notes and rows come.
+use Rattle.std.proofs.Common.{◌≡◌, ◌≢◌, inl, inr, ℕ, ◌+◌, ◌-◌, ◌*◌, ◌^◌, ◌<◌, ◌==◌, ◌&&◌, ◌||◌, Bool, true, false, List, [], ◌∷◌, ◌++◌, length, set, get_or, IsTrue, Option, Some, None, refl, sym, ◌∙◌, ap, subst, arith, length-set}
+use Rattle.std.specs.Prelude.{All, Contains, take, drop}
+use Rattle.std.proofs.Math.Seq.{drop-length}
+use Rattle.std.proofs.lemmas.Bool.{cases_lt}
 use Rattle.std.proofs.lemmas.Bool.Decides.{eqb_tells}
-use Rattle.std.proofs.lemmas.List.{length-replicate, length_push, get_or-set_same, get_or-set_other}
-use Rattle.std.proofs.lemmas.List.Elements.{Contains-append_left, Contains-append_cases, Contains-push}
-use Rattle.std.proofs.lemmas.Option.{same_Some, none-some}
+use Rattle.std.proofs.lemmas.List.{length_push, append-nil, take_all, get_or_default, get_or_push, get_or_append_left, get_or-set_same, get_or-set_other, append_assoc}
+use Rattle.std.proofs.lemmas.List.Elements.{All-append, All-cons, All-nil}
+use Rattle.std.proofs.lemmas.List.Folds.{list_any-append, list_any_none, list_any_at, Any-from_list_any}
+use Rattle.std.proofs.lemmas.Option.{same_Some}
+use Rattle.brake_base.specs.declared.mask.Mask.{Mask}
+use Rattle.brake_base.specs.declared.stroke.Action.{Action}
 use Rattle.brake_base.specs.declared.reason.Reason.{Reason}
-use Rattle.brake_base.specs.declared.stroke.Step.{Step}
+use Rattle.brake_base.specs.Actions.{IsActionAmong, number_of_action}
+use Rattle.stage_lanes.specs.declared.actions.ActionSet.{ActionSet}
+use Rattle.stage_lanes.specs.ActionSets.{has_place, place_of, ArePlaces, IsNone}
+use Rattle.job_setup.specs.Setup.{JobData, bend_count, stage_count}
+use Rattle.job_setup.specs.StrokeGroup.{is_lead}
+use Rattle.job_setup.specs.ValidJob.{IsJob}
+use Rattle.handling_cost.specs.Plan.{IsReasonFor}
+use Rattle.handling_cost.proofs.Actions.{few_bends}
 use Rattle.plan_cert.specs.declared.cert.RowHead.{RowHead}
 use Rattle.plan_cert.specs.declared.cert.Note.{Note}
-use Rattle.plan_cert.specs.declared.item.Item.{Item}
-use Rattle.plan_cert.specs.declared.item.Item.TheVariants as given
-use Rattle.plan_cert.specs.declared.item.CertFault.{CertFault}
-use Rattle.plan_cert.specs.Cert.{CertData}
-use Rattle.plan_cert.specs.CertReading.{no_cert, with_item, with_step, is_last, cert_of}
-use Rattle.cert_check.specs.Notes.{last_row, HoldsNotes, NoteAnswer, NotesAnswer, with_reason, with_item_reason, is_within_row}
-use Rattle.cert_check.proofs.ItemLemmas.{of_fault, of_end, of_item, of_none, last_item, some_answer}
+use Rattle.plan_cert.specs.Lines.{action_at}
+use Rattle.plan_cert.specs.RowFaults.{IsNoted, IsUnnoted}
+use Rattle.plan_cert.proofs.ActionNumbers.{number_is, number_below, bend_of_number, action_of_number}
+use Rattle.cert_check.specs.declared.row_notes.NotePlace.{NotePlace}
+use Rattle.cert_check.specs.RowNotes.{is_noted, has_note, note_at, AreNoted, IsSound, IsFirstUnsound, IsActionPut, IsAtRow}
 
-pub ok_is_no_fault : {cert : CertData} {fault : CertFault} → Err fault ≡ Ok cert → ⊥
-ok_is_no_fault same = cc
+-- ---- a list with one element more
+single : {X : Type 0} (P : X → Type 0) (x : X) → P x → All P (x ∷ [])
+single P x is = All-cons P x [] is (All-nil P)
 
-abbrev result_is : CertData → Result CertData CertFault
-result_is cert = Ok cert
+-- ---- notes by row and number
+-- a note is against the action at the row
+abbrev is_at : ℕ → ℕ → Note → Bool
+is_at row number note = note.row == row && note.action == number
 
-pub ok_same : {a b : CertData} → result_is a ≡ Ok b → a ≡ b
-ok_same {a} {b} same = same_Some a b (ap result_ok same)
+both : (a b : Bool) → (a && b) ≡ true → (a ≡ true) × (b ≡ true)
+both true b is = (refl, is)
+both false b is = absurd cc
 
--- ---- the reasons of the last row
-abbrev none_noted : Option Reason
-none_noted = None
+eq_of : (m n : ℕ) → (m == n) ≡ true → m ≡ n
+eq_of m n is = elim (eqb_tells m n) [
+  | inl same ↦ same.1
+  | inr other ↦ absurd (let no = other.0 in cc)
+]
 
-no_reasons : (n i : ℕ) → get_or (replicate n none_noted) i none_noted ≡ none_noted
-no_reasons zero i = refl
-no_reasons (suc n) zero = refl
-no_reasons (suc n) (suc i) = no_reasons n i
+not_eq : (m n : ℕ) → m ≢ n → (m == n) ≡ false
+not_eq m n differ = elim (eqb_tells m n) [
+  | inl same ↦ absurd (differ same.1)
+  | inr other ↦ other.0
+]
 
--- before anything was read there are no notes
-pub holds_none : HoldsNotes no_cert (replicate 144 None)
-holds_none = record {
-  count = length-replicate 144 none_noted;
-  sound = λ action reason some. absurd (none-some reason (sym (no_reasons 144 action) ∙ some));
-  whole = λ note member row small. absurd (let within = member.1 in omega (arith, within));
-  last = λ note member. absurd (let within = member.1 in omega (arith, within));
-}
+eq_self : (m : ℕ) → (m == m) ≡ true
+eq_self m = elim (eqb_tells m m) [
+  | inl same ↦ same.0
+  | inr other ↦ absurd (other.1 refl)
+]
 
--- a further row has no notes yet
-pub holds_next : (read : CertData) (head : RowHead) (reasons : List (Option Reason)) → 1 ≤ length read.rows → length read.rows < 2 ^ 32 → HoldsNotes read reasons
-    → HoldsNotes (with_item read (given.Row head)) (replicate 144 None)
-holds_next read head reasons some few holds = record {
-  count = length-replicate 144 none_noted;
-  sound = λ action reason some. absurd (none-some reason (sym (no_reasons 144 action) ∙ some));
-  whole = λ note member row small. absurd (let before = holds.last note member in let more = length_push read.rows head in omega (arith, before, more, row, some, few));
-  last = λ note member. let before = holds.last note member in let more = length_push read.rows head in omega (arith, before, more);
-}
+-- where a test finds a note there is one
+pub some_noted : (notes : List Note) (row number : ℕ) → has_note notes row number ≡ true → (reason : Reason) × IsNoted notes row number reason
+some_noted notes row number is =
+    let found = Any-from_list_any (is_at row number) notes is in
+    let note = found.1 in
+    let tests = both (note.row == row) (note.action == number) found.4 in
+    let rows : note.row ≡ row = eq_of note.row row tests.0 in
+    let numbers : note.action ≡ number = eq_of note.action number tests.1 in
+    (note.reason, subst (Contains notes) (λ i. record { row = rows i; action = numbers i; reason = note.reason }) (found.0, found.2, found.3))
 
--- the first row has the notes that were read before it
-pub holds_first : (read : CertData) (head : RowHead) (reasons : List (Option Reason)) → length read.rows ≡ 0 → HoldsNotes read reasons → HoldsNotes (with_item read (given.Row head)) reasons
-holds_first read head reasons none holds =
-    let more = length_push read.rows head in
-    let same : last_row (with_item read (given.Row head)) ≡ last_row read = omega (arith, none, more) in
-    record {
-      count = holds.count;
-      sound = λ action reason some. subst (λ (n : ℕ). Contains read.notes (record { row = n; action = action; reason = reason })) (sym same) (holds.sound action reason some);
-      whole = λ note member row small. holds.whole note member (row ∙ same) small;
-      last = λ note member. let before = holds.last note member in omega (arith, before, same);
-    }
+-- where it finds none there is none
+pub none_noted : (notes : List Note) (row number : ℕ) → has_note notes row number ≡ false → IsUnnoted notes row number
+none_noted notes row number none reason (k, within, is) =
+    let note : Note = note_at row number reason in
+    let tests : is_at row number (get_or notes k note) ≡ true = ap (is_at row number) is ∙ (λ i. eq_self row i && eq_self number i) in
+    let found = list_any_at (is_at row number) notes k note within tests in
+    let clash : true ≡ false = sym found ∙ none in
+    cc
 
--- what has the same rows and notes
-pub holds_same : (read next : CertData) (reasons : List (Option Reason)) → next.rows ≡ read.rows → next.notes ≡ read.notes → HoldsNotes read reasons → HoldsNotes next reasons
-holds_same read next reasons rows notes holds =
-    let same : last_row next ≡ last_row read = ap (λ (rs : List RowHead). min (length rs - 1) (2 ^ 32 - 1)) rows in
-    record {
-      count = holds.count;
-      sound = λ action reason some.
-          subst (λ (ns : List Note). Contains ns (record { row = last_row next; action = action; reason = reason })) (sym notes)
-          (subst (λ (n : ℕ). Contains read.notes (record { row = n; action = action; reason = reason })) (sym same) (holds.sound action reason some));
-      whole = λ note member row small. holds.whole note (subst (λ (ns : List Note). Contains ns note) notes member) (row ∙ same) small;
-      last = λ note member. let before = holds.last note (subst (λ (ns : List Note). Contains ns note) notes member) in omega (arith, before, same);
-    }
+-- ---- places of actions
+module _ (job : JobData) (is_job : IsJob job) where
+  abbrev place : ℕ → ℕ
+  place number = place_of (action_at (stage_count job) number)
 
--- a further note of the last row
-module _ (read : CertData) (reasons : List (Option Reason)) (action : ℕ) (reason : Reason) (holds : HoldsNotes read reasons) where
-  abbrev note : Note
-  note = record { row = last_row read; action = action; reason = reason }
+  pub wide : (number : ℕ) → number < 2 * bend_count job * stage_count job → IsActionAmong 12 8 (action_at (stage_count job) number)
+  wide number below =
+      let ranged = bend_of_number (bend_count job) (stage_count job) number below in
+      let bends = few_bends job is_job in
+      let stages = is_job.setup.stages.few_stages in
+      let last = ranged.1 in
+      let stage = ranged.2 in
+      record { first = ranged.0; last = omega (arith, bends, last); stage = omega (arith, stages, stage) }
 
-  only_one : {other : Note} → Contains (note ∷ []) other → note ≡ other
-  only_one (zero, within, is) = is
-  only_one (suc k, within, is) = absurd (omega (arith, within))
+  pub place_within : (number : ℕ) → number < 2 * bend_count job * stage_count job → place number < 192
+  place_within number below =
+      let is = wide number below in
+      number_below 12 8 (action_at (stage_count job) number) is.first is.last is.stage
 
-  last_more : (other : Note) → Contains (read.notes ++ note ∷ []) other → other.row ≤ last_row read
-  last_more other member = elim (Contains-append_cases read.notes (note ∷ []) other member) [
-    | inl early ↦ holds.last other early
-    | inr late ↦ let same = ap (λ (n : Note). n.row) (only_one late) in omega (arith, same)
+  -- actions of one place are of one number
+  one_number : (m n : ℕ) → m < 2 * bend_count job * stage_count job → n < 2 * bend_count job * stage_count job → place m ≡ place n → m ≡ n
+  one_number m n low below same =
+      let a = action_at (stage_count job) m in
+      let b = action_at (stage_count job) n in
+      let one : a ≡ b = action_of_number 8 a (wide m low) (place_within m low) ∙ (ap (action_at 8) same ∙ sym (action_of_number 8 b (wide n below) (place_within n below))) in
+      sym (number_is (stage_count job) m) ∙ (ap (number_of_action (stage_count job)) one ∙ number_is (stage_count job) n)
+
+  place_tells : (m n : ℕ) → m < 2 * bend_count job * stage_count job → n < 2 * bend_count job * stage_count job → (place m == place n) ≡ (n == m)
+  place_tells m n low below = elim (eqb_tells n m) [
+    | inl same ↦ ap (λ (k : ℕ). place m == place k) same.1 ∙ (eq_self (place m) ∙ sym same.0)
+    | inr other ↦ not_eq (place m) (place n) (λ is. other.1 (sym (one_number m n low below is))) ∙ sym other.0
   ]
 
-  -- the action's number is one of 144
-  more_within : action < 144 → HoldsNotes (with_item read (given.Note action reason)) (set reasons action (Some reason))
-  more_within small = record {
-    count = length-set reasons action (Some reason) ∙ holds.count;
-    sound = λ number other some. elim (eqb_tells number action) [
-      | inl here ↦
-          let inside : action < length reasons = rw holds.count small in
-          let read_back = sym (get_or-set_same reasons action (Some reason) None inside) ∙ (ap (λ (n : ℕ). get_or (set reasons action (Some reason)) n None) (sym here.1) ∙ some) in
-          let its_reason : reason ≡ other = same_Some reason other read_back in
-          let its_action = sym here.1 in
-          subst (Contains (read.notes ++ note ∷ [])) (λ i. record { row = last_row read; action = its_action i; reason = its_reason i }) (Contains-push read.notes note)
-      | inr there ↦
-          Contains-append_left read.notes (note ∷ []) (record { row = last_row read; action = number; reason = other })
-          (holds.sound number other (sym (get_or-set_other reasons action number (Some reason) None there.1) ∙ some))
-    ];
-    whole = λ other member row small_other none. elim (eqb_tells other.action action) [
-      | inl here ↦
-          let inside : action < length reasons = rw holds.count small in
-          let read_back = ap (λ (n : ℕ). get_or (set reasons action (Some reason)) n None) here.1 ∙ get_or-set_same reasons action (Some reason) None inside in
-          none-some reason (sym none ∙ read_back)
-      | inr there ↦ elim (Contains-append_cases read.notes (note ∷ []) other member) [
-        | inl early ↦ holds.whole other early row small_other (sym (get_or-set_other reasons action other.action (Some reason) None there.1) ∙ none)
-        | inr late ↦ there.1 (ap (λ (n : Note). n.action) (sym (only_one late)))
-      ]
-    ];
-    last = last_more;
+  -- ---- the sets of rows
+  -- before the first row
+  pub noted_none : (sets : List ActionSet) → sets ≡ [] → AreNoted job [] [] sets
+  noted_none sets none = record {
+    count = ap length none;
+    within = All-nil (λ (note : Note). note.row < 0);
+    each = λ row number d low. absurd (omega (arith, low));
   }
 
-  more_past : 144 ≤ action → HoldsNotes (with_item read (given.Note action reason)) reasons
-  more_past past = record {
-    count = holds.count;
-    sound = λ number other some. Contains-append_left read.notes (note ∷ []) (record { row = last_row read; action = number; reason = other }) (holds.sound number other some);
-    whole = λ other member row small none. elim (Contains-append_cases read.notes (note ∷ []) other member) [
-      | inl early ↦ holds.whole other early row small none
-      | inr late ↦ let same = ap (λ (n : Note). n.action) (only_one late) in omega (arith, past, small, same)
-    ];
-    last = last_more;
-  }
+  unnoted_past : (notes : List Note) (row number : ℕ) → All (λ note. note.row < row) notes → has_note notes row number ≡ false
+  unnoted_past notes row number within =
+      list_any_none (is_at row number) notes (λ k d low. ap (λ (b : Bool). b && (get_or notes k d).action == number) (not_eq (get_or notes k d).row row (let less = within k d low in λ same. omega (arith, less, same))))
 
-  pub holds_note : HoldsNotes (with_item read (given.Note action reason)) (with_reason reasons action reason)
-  holds_note = elim (cases_lt action 144) [
-    | inl small ↦ rw (lt-ltb action 144 small) (more_within small)
-    | inr past ↦ rw (le-ltb action 144 past) (more_past past)
-  ]
+  -- a row more
+  pub noted_row : (rows : List RowHead) (head : RowHead) (notes : List Note) (sets : List ActionSet) (none : ActionSet) → IsNone none → AreNoted job rows notes sets → AreNoted job (rows ++ head ∷ []) notes (sets ++ none ∷ [])
+  noted_row rows head notes sets none empty are =
+      let one = length_push rows head in
+      let count = are.count in
+      record {
+        count = let more = length_push sets none in omega (arith, one, more, count);
+        within = λ k d low. let within = are.within k d low in omega (arith, within, one);
+        each = λ row number d low below. elim (cases_lt row (length rows)) [
+          | inl early ↦
+              ap (λ (s : ActionSet). is_noted job s number) (get_or_append_left sets (none ∷ []) d row (omega (arith, early, count)))
+              ∙ are.each row number d early below
+          | inr late ↦
+              let here : row ≡ length rows = omega (arith, late, low, one) in
+              ap (λ (s : ActionSet). is_noted job s number) (get_or_push sets none d row (omega (arith, here, count)))
+              ∙ (empty (place number) (place_within number below)
+              ∙ sym (ap (λ (n : ℕ). has_note notes n number) here ∙ unnoted_past notes (length rows) number are.within))
+        ];
+      }
 
-step_rows : (read : CertData) (step : Step) → ((with_step read step).rows ≡ read.rows) × ((with_step read step).notes ≡ read.notes)
-step_rows read step = by_room (nat_lt (length read.steps) 12)
-  where
-    by_room : (b : Bool) → ((if b then record read { steps = read.steps ++ step ∷ [] } else read).rows ≡ read.rows) × ((if b then record read { steps = read.steps ++ step ∷ [] } else read).notes ≡ read.notes)
-    by_room true = (refl, refl)
-    by_room false = (refl, refl)
+  module _ (notes : List Note) (action : ℕ) (reason : Reason) (own : ℕ) where
+    abbrev more : Note
+    more = note_at own action reason
 
--- what was read of an item
-pub note_read : (before cert : CertData) (reasons : List (Option Reason)) (item : Item) (left : List (Result Item CertFault)) → cert_of before (Ok item ∷ left) ≡ Ok cert
-    → NoteAnswer before cert reasons (with_item_reason reasons item) left (Ok (is_within_row item))
-note_read before cert reasons (given.Note action reason) left is =
-    (with_item before (given.Note action reason), refl, (λ holds. holds_note before reasons action reason holds), sym (of_item before left (given.Note action reason) refl) ∙ is)
-note_read before cert reasons (given.Row head) left is =
-    let rest = sym (of_item before left (given.Row head) refl) ∙ is in
-    (refl, inr (head, (rest, some_answer (with_item before (given.Row head)) cert left rest)))
-note_read before cert reasons given.End left is = (refl, inl (ok_same (sym (of_end before left) ∙ is)))
-note_read before cert reasons (given.Job job) left is = (before, refl, (λ holds. holds), sym (of_item before left (given.Job job) refl) ∙ is)
-note_read before cert reasons (given.Claim claim) left is =
-    (with_item before (given.Claim claim), refl, (λ holds. holds_same before (with_item before (given.Claim claim)) reasons refl refl holds), sym (of_item before left (given.Claim claim) refl) ∙ is)
-note_read before cert reasons (given.Step step) left is =
-    let same = step_rows before step in
-    (with_item before (given.Step step), same.0, (λ holds. holds_same before (with_item before (given.Step step)) reasons same.0 same.1 holds), sym (of_item before left (given.Step step) refl) ∙ is)
+    with_more : (row number : ℕ) → has_note (notes ++ more ∷ []) row number ≡ (has_note notes row number || (is_at row number more || false))
+    with_more row number = list_any-append (is_at row number) notes (more ∷ [])
 
-pub within_is_not_last : (item : Item) → is_within_row item ≡ true → is_last item ≡ false
-within_is_not_last (given.Job job) is = refl
-within_is_not_last (given.Claim claim) is = refl
-within_is_not_last (given.Step step) is = refl
-within_is_not_last (given.Row head) is = refl
-within_is_not_last (given.Note action reason) is = refl
-within_is_not_last given.End is = absurd cc
+    here_more : (number : ℕ) → (has_note notes own number || (action == number)) ≡ has_note (notes ++ more ∷ []) own number
+    here_more number = sym (with_more own number ∙ ap (λ (b : Bool). has_note notes own number || b) (or_false (is_at own number more) ∙ ap (λ (b : Bool). b && action == number) (eq_self own)))
+      where
+        or_false : (b : Bool) → (b || false) ≡ b
+        or_false true = refl
+        or_false false = refl
 
--- ---- later items add no notes of earlier rows
--- each note of the certificate was read before, or is of this row or a later one; and rows are only added
-pub record Grows (before cert : CertData) : Type 0 where
-  pub kept : (note : Note) → Contains before.notes note → Contains cert.notes note
-  pub late : (note : Note) → Contains cert.notes note → Contains before.notes note ⊎ (last_row before ≤ note.row)
-  pub rows : length before.rows ≤ length cert.rows
+    there_more : (row number : ℕ) → row ≢ own → has_note notes row number ≡ has_note (notes ++ more ∷ []) row number
+    there_more row number differ = sym (with_more row number ∙ (ap (λ (b : Bool). has_note notes row number || ((b && action == number) || false)) (not_eq own row (λ same. differ (sym same))) ∙ or_none (has_note notes row number)))
+      where
+        or_none : (b : Bool) → (b || false) ≡ b
+        or_none true = refl
+        or_none false = refl
 
-grows_self : (cert : CertData) → Grows cert cert
-grows_self cert = record { kept = λ note member. member; late = λ note member. inl member; rows = omega arith }
+  -- a note more of a row
+  pub noted_note : (rows : List RowHead) (notes : List Note) (sets after : List ActionSet) (own action : ℕ) (reason : Reason) → own < length rows → action < 2 * bend_count job * stage_count job
+      → IsActionPut job own action sets after → AreNoted job rows notes sets → AreNoted job rows (notes ++ note_at own action reason ∷ []) after
+  noted_note rows notes sets after own action reason low below put are =
+      let count = are.count in
+      let inside : own < length sets = omega (arith, low, count) in
+      record {
+        count = ap length put.put ∙ (length-set sets own put.set ∙ count);
+        within = All-append (λ (note : Note). note.row < length rows) notes (note_at own action reason ∷ []) are.within (single (λ (note : Note). note.row < length rows) (note_at own action reason) low);
+        each = λ row number d row_low number_below. elim (eqb_tells row own) [
+          | inl same ↦
+              let here = same.1 in
+              let set_is : get_or after row d ≡ put.set =
+              ap (λ (ss : List ActionSet). get_or ss row d) put.put ∙ (ap (λ (n : ℕ). get_or (set sets own put.set) n d) here ∙ get_or-set_same sets own put.set d inside) in
+              let old : has_place (get_or sets own d) (place number) ≡ has_note notes own number = are.each own number d low number_below in
+              ap (λ (s : ActionSet). is_noted job s number) set_is
+              ∙ (put.places d (place number) (place_within number number_below)
+              ∙ ((λ i. old i || place_tells number action number_below below i)
+              ∙ (here_more notes action reason own number ∙ ap (λ (n : ℕ). has_note (notes ++ note_at own action reason ∷ []) n number) (sym here))))
+          | inr other ↦
+              ap (λ (ss : List ActionSet). is_noted job (get_or ss row d) number) put.put
+              ∙ (ap (λ (s : ActionSet). is_noted job s number) (get_or-set_other sets own row put.set d other.1)
+              ∙ (are.each row number d row_low number_below ∙ there_more notes action reason own row number other.1))
+        ];
+      }
 
-grows_trans : (before between cert : CertData) → Grows before between → Grows between cert → Grows before cert
-grows_trans before between cert first second = record {
-  kept = λ note member. second.kept note (first.kept note member);
-  late = λ note member. elim (second.late note member) [
-    | inl early ↦ first.late note early
-    | inr late ↦ inr (let more = first.rows in omega (arith, late, more))
-  ];
-  rows = let one = first.rows in let two = second.rows in omega (arith, one, two);
+-- the set with the action is put in its place
+pub put_places : (job : JobData) (sets : List ActionSet) (row number : ℕ) (action : Action) (after other : ActionSet) → row < length sets → action ≡ action_at (stage_count job) number
+    → ArePlaces after (λ place. has_place (get_or sets row other) place || (place == place_of action)) → IsActionPut job row number sets (set sets row after)
+put_places job sets row number action after other low is places = record {
+  set = after;
+  put = refl;
+  places = λ d place within. places place within ∙ (λ i. has_place (get_or_default sets row other d low i) place || (place == place_of (is i)));
 }
 
-grows_row : (before : CertData) (head : RowHead) → Grows before (with_item before (given.Row head))
-grows_row before head = record { kept = λ note member. member; late = λ note member. inl member; rows = let more = length_push before.rows head in omega (arith, more) }
+-- a list that is written back where it was has the place of the list before
+pub written_back : (n : ℕ) (after before : List ActionSet) → length after ≡ n → length before ≡ n → take n (after ++ drop (length after) before) ≡ after
+written_back n after before one two =
+    ap (take n) (ap (λ (k : ℕ). after ++ drop k before) (one ∙ sym two) ∙ (ap (λ (l : List ActionSet). after ++ l) (drop-length before) ∙ append-nil after))
+    ∙ take_all n after (omega (arith, one))
 
-grows_note : (before : CertData) (action : ℕ) (reason : Reason) → Grows before (with_item before (given.Note action reason))
-grows_note before action reason = record {
-  kept = λ note member. Contains-append_left before.notes _ note member;
-  late = λ note member. elim (Contains-append_cases before.notes _ note member) [
-    | inl early ↦ inl early
-    | inr late ↦ inr (late_row late)
-  ];
-  rows = omega arith;
-}
-  where
-    late_row : {note : Note} → Contains (record { row = last_row before; action = action; reason = reason } ∷ []) note → last_row before ≤ note.row
-    late_row (zero, within, is) = let same = ap (λ (n : Note). n.row) is in omega (arith, same)
-    late_row (suc k, within, is) = absurd (omega (arith, within))
+-- ---- the first unsound note
+module _ (job : JobData) (rows : List RowHead) where
+  -- a note behind it
+  pub unsound_stays : (notes : List Note) (note : Note) (place : NotePlace) → IsFirstUnsound job rows notes (Some place) → IsFirstUnsound job rows (notes ++ note ∷ []) (Some place)
+  unsound_stays notes note place (before, reason, behind, is, sound, unsound) =
+      (before, reason, behind ++ note ∷ [], ap (λ (ns : List Note). ns ++ note ∷ []) is ∙ append_assoc before (note_at place.row place.action reason ∷ behind) (note ∷ []), sound, unsound)
 
-grows_same : (before next : CertData) → next.notes ≡ before.notes → next.rows ≡ before.rows → Grows before next
-grows_same before next notes rows = record {
-  kept = λ note member. subst (λ (ns : List Note). Contains ns note) (sym notes) member;
-  late = λ note member. inl (subst (λ (ns : List Note). Contains ns note) notes member);
-  rows = let same = ap length rows in omega (arith, same);
-}
+  pub unsound_on : (notes : List Note) (note : Note) (unsound : Option NotePlace) → (unsound ≡ None → ⊥) → IsFirstUnsound job rows notes unsound → IsFirstUnsound job rows (notes ++ note ∷ []) unsound
+  unsound_on notes note None some first = absurd (some refl)
+  unsound_on notes note (Some place) some first = unsound_stays notes note place first
 
-grows_item : (before : CertData) (item : Item) → Grows before (with_item before item)
-grows_item before (given.Job job) = grows_self before
-grows_item before (given.Claim claim) = grows_same before (with_item before (given.Claim claim)) refl refl
-grows_item before (given.Step step) = by_room (nat_lt (length before.steps) 12)
-  where
-    by_room : (b : Bool) → Grows before (if b then record before { steps = before.steps ++ step ∷ [] } else before)
-    by_room true = grows_same before (record before { steps = before.steps ++ step ∷ [] }) refl refl
-    by_room false = grows_self before
-grows_item before (given.Row head) = grows_row before head
-grows_item before (given.Note action reason) = grows_note before action reason
-grows_item before given.End = grows_self before
+  -- the bends of the mask are of the job, and the action's is a lead
+  pub mask_within : (mask : Mask) (note : Note) → IsAtRow job rows mask note → mask.0 < 2 ^ bend_count job
+  mask_within mask note at = subst (λ (m : Mask). m.0 < 2 ^ bend_count job) at.mask_is (let fits = at.valid.mask in omega (arith, fits))
 
-grows_by : (item : Item) (left : List (Result Item CertFault)) (before cert : CertData) (last : Bool) → is_last item ≡ last → cert_of before (Ok item ∷ left) ≡ Ok cert
-    → (cert_of (with_item before item) left ≡ Ok cert → Grows (with_item before item) cert) → Grows before cert
-grows_by item left before cert false goes is rest = grows_trans before (with_item before item) cert (grows_item before item) (rest (sym (of_item before left item goes) ∙ is))
-grows_by item left before cert true end is rest =
-    let same : before ≡ cert = ok_same (sym (last_item before left item end) ∙ is) in
-    subst (Grows before) same (grows_self before)
+  pub lead_at : (mask : Mask) (note : Note) → IsAtRow job rows mask note → IsTrue (is_lead job mask (action_at (stage_count job) note.action).bend)
+  lead_at mask note at = subst (λ (m : Mask). IsTrue (is_lead job m (action_at (stage_count job) note.action).bend)) at.mask_is (let tried = at.tried.1 in tried.lead)
 
--- what is made of answers behind what was read has grown out of it
-pub grows : (left : List (Result Item CertFault)) (before cert : CertData) → cert_of before left ≡ Ok cert → Grows before cert
-grows [] before cert is = absurd (no_cert_of before cert (of_none before []) is)
-  where
-    no_cert_of : (before cert : CertData) {fault : CertFault} → cert_of before [] ≡ Err fault → cert_of before [] ≡ Ok cert → ⊥
-    no_cert_of before cert refused is = ok_is_no_fault (sym refused ∙ is)
-grows (Err fault ∷ left) before cert is = absurd (ok_is_no_fault (sym (of_fault before left fault) ∙ is))
-grows (Ok item ∷ left) before cert is = grows_by item left before cert (is_last item) refl is (grows left (with_item before item) cert)
+  module _ (notes : List Note) (mask : Mask) (row action : ℕ) (reason : Reason) (at : IsAtRow job rows mask (note_at row action reason)) (sound : All (IsSound job rows) notes) where
+    -- a note whose reason holds
+    pub sound_more : IsReasonFor job mask (action_at (stage_count job) action) reason → IsFirstUnsound job rows (notes ++ note_at row action reason ∷ []) None
+    sound_more holds =
+        All-append (IsSound job rows) notes (note_at row action reason ∷ []) sound
+        (single (IsSound job rows) (note_at row action reason) (λ head its.
+        subst (λ (h : RowHead). IsReasonFor job h.key.mask (action_at (stage_count job) action) reason) (same_Some at.head head (sym at.at ∙ its))
+        (subst (λ (m : Mask). IsReasonFor job m (action_at (stage_count job) action) reason) (sym at.mask_is) holds)))
 
--- ---- the loop over the items of a row
--- while the row isn't read: the notes so far, and the answers that complete the certificate
-pub record Gathers (before cert : CertData) (reasons : List (Option Reason)) (left : List (Result Item CertFault)) : Type 0 where
-  pub read : CertData
-  pub rows : read.rows ≡ before.rows
-  pub holds : HoldsNotes read reasons
-  pub completes : cert_of read left ≡ Ok cert
-
-abbrev pub GathersBy : Bool → CertData → CertData → List (Option Reason) → List (Result Item CertFault) → Type 0
-GathersBy true before cert reasons left = Gathers before cert reasons left
-GathersBy false before cert reasons left = NotesAnswer before cert reasons left (Ok tt)
-
-pub gathers_on : (before cert : CertData) (reasons more : List (Option Reason)) (left rest : List (Result Item CertFault)) (goes : Bool) → (gathers : Gathers before cert reasons left)
-    → NoteAnswer gathers.read cert reasons more rest (Ok goes) → GathersBy goes before cert more rest
-gathers_on before cert reasons more left rest true gathers answer =
-    record { read = answer.0; rows = answer.1 ∙ gathers.rows; holds = answer.2 gathers.holds; completes = answer.3 }
-gathers_on before cert reasons more left rest false gathers answer =
-    (gathers.read, gathers.rows, subst (HoldsNotes gathers.read) (sym answer.0) gathers.holds, answer.1)
-
--- how many answers are left while the row isn't read
-abbrev pub unread : Bool → ℕ → ℕ
-unread true left = suc left
-unread false left = 0
+    -- one whose reason doesn't
+    pub unsound_more : (IsReasonFor job mask (action_at (stage_count job) action) reason → ⊥) → IsFirstUnsound job rows (notes ++ note_at row action reason ∷ []) (Some (record { row = row; action = action }))
+    unsound_more fails =
+        (notes, reason, [], refl, sound, (at.head, at.at, λ holds. fails (subst (λ (m : Mask). IsReasonFor job m (action_at (stage_count job) action) reason) at.mask_is holds)))

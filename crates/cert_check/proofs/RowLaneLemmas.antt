@@ -1,5 +1,5 @@
 -- Rows that are met by lanes.
-use Rattle.std.proofs.Common.{◌≡◌, inl, inr, ℕ, ◌+◌, ◌*◌, ◌<◌, ◌≤◌, Bool, true, false, List, Option, Some, None, arith, refl, sym, ◌∙◌, ap, subst}
+use Rattle.std.proofs.Common.{◌≡◌, inl, inr, ℕ, ◌+◌, ◌*◌, ◌<◌, ◌≤◌, IsTrue, Bool, true, false, List, arith, refl, sym, ◌∙◌, ap, subst}
 use Rattle.std.specs.Prelude.{nat_lt}
 use Rattle.std.proofs.lemmas.Bool.Decides.{eqb_tells}
 use Rattle.brake_base.specs.declared.stroke.Key.{Key}
@@ -8,15 +8,14 @@ use Rattle.brake_base.specs.declared.stroke.Back.TheVariants.{Parent, Child}
 use Rattle.brake_base.specs.declared.stroke.Action.{Action}
 use Rattle.brake_base.specs.declared.stroke.Worth.{Worth}
 use Rattle.brake_base.specs.declared.stroke.Worth.TheVariants.{Cost, Blocked}
-use Rattle.brake_base.specs.declared.reason.Reason.{Reason}
+use Rattle.stage_lanes.specs.declared.actions.ActionSet.{ActionSet}
 use Rattle.brake_base.specs.Actions.{number_of_action}
 use Rattle.brake_base.specs.Worths.{IsAtMost, plus}
-use Rattle.stage_lanes.specs.ActionSets.{side_of}
+use Rattle.stage_lanes.specs.ActionSets.{side_of, has, has_place, place_of}
 use Rattle.job_setup.specs.Setup.{JobData, bend_count, stage_count}
 use Rattle.job_setup.specs.StrokeGroup.{is_lead}
 use Rattle.job_setup.specs.ValidJob.{IsJob}
 use Rattle.handling_cost.specs.StepCost.{attitude_at, key_after, change, change_cost, stage_cost, cost_to, cost_of}
-use Rattle.handling_cost.specs.Plan.{IsReasonFor}
 use Rattle.handling_cost.specs.Good.{Proves}
 use Rattle.handling_cost.proofs.Actions.{few_bends}
 use Rattle.handling_cost.proofs.Small.{cost_to_small}
@@ -26,9 +25,9 @@ use Rattle.plan_cert.specs.WellFormed.{IsWorth, IsRow}
 use Rattle.plan_cert.specs.GoodCert.{HaveRow}
 use Rattle.plan_cert.proofs.ActionNumbers.{number_is, number_below, action_of_number}
 use Rattle.plan_cert.proofs.Actions.{few_actions}
-use Rattle.cert_check.specs.Rows.{ClosesAt, IsActionMet, AreMet, noted_of}
+use Rattle.cert_check.specs.Rows.{ClosesAt, IsMet, AreMet}
 use Rattle.cert_check.specs.ProvedCosts.{worth_cost, IsProvedCost, key_behind}
-use Rattle.cert_check.specs.RowLanes.{AreHeld, IsKnown, IsSideMet, IsBendMet, AreBendsMet}
+use Rattle.cert_check.specs.RowLanes.{IsSideMet, IsBendMet, AreBendsMet}
 
 -- what is proved behind a step is at least the worth where the costs are
 pub closes : (worth next : Worth) (cost : ℕ) → IsWorth next → cost ≤ 8000000 → worth_cost worth ≤ cost + worth_cost next → IsAtMost worth (plus cost next)
@@ -79,39 +78,34 @@ module _ (job : JobData) (is_job : IsJob job) (rows : List RowHead) (head : RowH
       (record { first = first; last = let few = few_bends job is_job in omega (arith, last, few); stage = low }) below
       ∙ ap (action_at (stage_count job)) (sym number_is_of)
 
-  met_by : (noted known : Option Reason) (is_open : Bool) → IsKnown noted known is_open
-      → ((reason : Reason) → known ≡ Some reason → IsReasonFor job head.key.mask (action_at (stage_count job) (side_of bend back * stage_count job + stage)) reason)
-      → (is_open ≡ false → ClosesAt job rows head (action_at (stage_count job) (side_of bend back * stage_count job + stage)))
-      → IsActionMet job rows head (side_of bend back * stage_count job + stage) noted
-  met_by (Some reason) known is_open is holds shut = holds reason is
-  met_by None known is_open is holds shut = shut is
+  place_is : place_of own ≡ 8 * side_of bend back + stage
+  unfolding number_of_action
+  place_is = omega arith
 
-  -- an action is accounted for by what is held and by its lane
-  pub lane_met : (reasons held : List (Option Reason)) (is_open : Bool) (onward turn proved sum : ℕ)
-      → IsKnown (noted_of reasons (side_of bend back * stage_count job + stage)) (noted_of held (side_of bend back * stage_count job + stage)) is_open
-      → AreHeld job head.key.mask held
+  -- an action is met where it is noted unless its lane is closed
+  pub lane_met : (noted : ActionSet) (is_open : Bool) (onward turn proved sum : ℕ)
+      → (IsTrue is_open → IsTrue (has_place noted (8 * side_of bend back + stage)))
       → IsProvedCost job rows (key_behind job head.key.mask bend back stage) proved
       → onward ≡ job.setup.cost.stroke + stage_cost job head.key.mask head.key.stage stage
       → turn ≡ change_cost job.setup.cost (change head.key.attitude (attitude_at job head.key.mask own))
       → sum ≡ proved + (onward + turn) → is_open ≡ nat_lt sum (worth_cost head.worth)
-      → IsActionMet job rows head (side_of bend back * stage_count job + stage) (noted_of reasons (side_of bend back * stage_count job + stage))
-  lane_met reasons held is_open onward turn proved sum known holds is onward_is turn_is sum_is open_is =
-      met_by (noted_of reasons (side_of bend back * stage_count job + stage)) (noted_of held (side_of bend back * stage_count job + stage)) is_open known
-      (holds (side_of bend back * stage_count job + stage))
-      (λ shut.
+      → IsMet job rows head noted (side_of bend back * stage_count job + stage)
+  lane_met noted true onward turn proved sum known is onward_is turn_is sum_is open_is =
+      inl (ap (λ (a : Action). has noted a) (sym own_at) ∙ (ap (has_place noted) place_is ∙ known refl))
+  lane_met noted false onward turn proved sum known is onward_is turn_is sum_is open_is =
       let parts = cost_parts job head.key own in
-      subst (ClosesAt job rows head) own_at
-      (closed (onward + turn) proved sum is (omega (arith, parts, onward_is, turn_is)) sum_is (not_less sum (worth_cost head.worth) (sym open_is ∙ shut))))
+      inr (subst (ClosesAt job rows head) own_at
+      (closed (onward + turn) proved sum is (omega (arith, parts, onward_is, turn_is)) sum_is (not_less sum (worth_cost head.worth) (sym open_is))))
 
-pub both_sides : (job : JobData) (rows : List RowHead) (head : RowHead) (reasons : List (Option Reason)) (bend : ℕ) → IsSideMet job rows head reasons bend Parent → IsSideMet job rows head reasons bend Child → IsBendMet job rows head reasons bend
-both_sides job rows head reasons bend parent child Parent = parent
-both_sides job rows head reasons bend parent child Child = child
+pub both_sides : (job : JobData) (rows : List RowHead) (head : RowHead) (noted : ActionSet) (bend : ℕ) → IsSideMet job rows head noted bend Parent → IsSideMet job rows head noted bend Child → IsBendMet job rows head noted bend
+both_sides job rows head noted bend parent child Parent = parent
+both_sides job rows head noted bend parent child Child = child
 
 -- the bends one after the other
-pub bends_on : (job : JobData) (rows : List RowHead) (head : RowHead) (reasons : List (Option Reason)) (bend : ℕ) → AreBendsMet job rows head reasons bend → (is_lead job head.key.mask bend ≡ true → IsBendMet job rows head reasons bend)
-    → AreBendsMet job rows head reasons (bend + 1)
-bends_on job rows head reasons bend met here lead first low is = elim (eqb_tells lead bend) [
-  | inl same ↦ subst (IsBendMet job rows head reasons) (sym same.1) (here (subst (λ (n : ℕ). is_lead job head.key.mask n ≡ true) same.1 is))
+pub bends_on : (job : JobData) (rows : List RowHead) (head : RowHead) (noted : ActionSet) (bend : ℕ) → AreBendsMet job rows head noted bend → (is_lead job head.key.mask bend ≡ true → IsBendMet job rows head noted bend)
+    → AreBendsMet job rows head noted (bend + 1)
+bends_on job rows head noted bend met here lead first low is = elim (eqb_tells lead bend) [
+  | inl same ↦ subst (IsBendMet job rows head noted) (sym same.1) (here (subst (λ (n : ℕ). is_lead job head.key.mask n ≡ true) same.1 is))
   | inr other ↦ met lead first (let no = other.1 in omega (arith, low, no)) is
 ]
 
@@ -120,12 +114,12 @@ unfolding number_of_action
 side_number stages a = refl
 
 -- where all bends are met each action of the row is
-pub all_met : (job : JobData) (rows : List RowHead) (head : RowHead) (reasons : List (Option Reason)) → AreBendsMet job rows head reasons (bend_count job + 1) → AreMet job rows head reasons (2 * bend_count job * stage_count job)
-all_met job rows head reasons met number low tried =
+pub all_met : (job : JobData) (rows : List RowHead) (head : RowHead) (noted : ActionSet) → AreBendsMet job rows head noted (bend_count job + 1) → AreMet job rows head noted (2 * bend_count job * stage_count job)
+all_met job rows head noted met number low tried =
     let stages = stage_count job in
     let a : Action = action_at stages number in
     let at = tried.1 in
-    subst (λ (n : ℕ). IsActionMet job rows head n (noted_of reasons n)) (side_number stages a ∙ number_is stages number)
+    subst (IsMet job rows head noted) (side_number stages a ∙ number_is stages number)
     (met a.bend at.first (let last = at.last in omega (arith, last)) at.lead a.back a.stage at.stage)
 
 -- what holds of each number below one and of it

@@ -1,15 +1,15 @@
 -- What is proved of a key, and the actions of a row.
-use Rattle.std.proofs.Common.{◌≡◌, inl, inr, ℕ, ◌+◌, Bool, true, false, List, Option, Some, None, arith, refl, sym, subst}
+use Rattle.std.proofs.Common.{◌≡◌, inl, inr, ℕ, ◌+◌, IsTrue, Bool, true, false, not, List, Some, None, arith, refl, sym, subst}
 use Rattle.std.proofs.lemmas.Bool.Decides.{eqb_tells}
 use Rattle.brake_base.specs.declared.mask.Mask.{Mask}
 use Rattle.brake_base.specs.declared.stroke.Key.{Key}
 use Rattle.brake_base.specs.declared.stroke.Action.{Action}
 use Rattle.brake_base.specs.declared.stroke.Worth.{Worth}
 use Rattle.brake_base.specs.declared.stroke.Worth.TheVariants.{Cost}
-use Rattle.brake_base.specs.declared.reason.Reason.{Reason}
+use Rattle.stage_lanes.specs.declared.actions.ActionSet.{ActionSet}
 use Rattle.brake_base.specs.Masks.{union}
 use Rattle.brake_base.specs.Worths.{IsAtMost, plus}
-use Rattle.job_setup.specs.Setup.{JobData}
+use Rattle.job_setup.specs.Setup.{JobData, stage_count}
 use Rattle.job_setup.specs.StrokeGroup.{group_of}
 use Rattle.handling_cost.specs.StepCost.{IsKeyOf, attitude_at, key_after}
 use Rattle.handling_cost.specs.Bound.{bound_of}
@@ -17,7 +17,10 @@ use Rattle.plan_cert.specs.declared.cert.RowHead.{RowHead}
 use Rattle.plan_cert.specs.WellFormed.{IsRow}
 use Rattle.cert_check.specs.RowTable.{IsWorthAt}
 use Rattle.plan_cert.specs.RowFaults.{IsTried}
-use Rattle.cert_check.specs.Rows.{ProvesAfter, IsActionMet, AreMet, noted_of}
+use Rattle.cert_check.specs.Rows.{ProvesAfter, ClosesAt, IsMet, AreMet, NumberAnswer}
+use Rattle.cert_check.specs.RowNotes.{is_noted}
+use Rattle.plan_cert.specs.Lines.{action_at}
+use Rattle.std.specs.Prelude.{◌↔◌}
 
 module _ (job : JobData) (rows : List RowHead) (key : Key) (cost : ℕ) (worth : Worth) where
   pub proved_by_bound : IsAtMost worth (Cost (cost + bound_of job key)) → ProvesAfter job rows key cost worth
@@ -45,12 +48,18 @@ pub row_key : (job : JobData) (head : RowHead) → IsRow job head → IsKeyOf jo
 row_key job head row = let mask = row.mask in record { mask = omega (arith, mask); attitude = row.attitude; stage = row.stage }
 
 -- ---- the actions of a row one after the other
-pub met_on : (job : JobData) (rows : List RowHead) (head : RowHead) (reasons : List (Option Reason)) (count : ℕ) → AreMet job rows head reasons count → (IsTried job head count → IsActionMet job rows head count (noted_of reasons count))
-    → AreMet job rows head reasons (count + 1)
-met_on job rows head reasons count met here number less tried = elim (eqb_tells number count) [
-  | inl same ↦ subst (λ (n : ℕ). IsActionMet job rows head n (noted_of reasons n)) (sym same.1) (here (subst (IsTried job head) same.1 tried))
+pub met_on : (job : JobData) (rows : List RowHead) (head : RowHead) (noted : ActionSet) (count : ℕ) → AreMet job rows head noted count → (IsTried job head count → IsMet job rows head noted count)
+    → AreMet job rows head noted (count + 1)
+met_on job rows head noted count met here number less tried = elim (eqb_tells number count) [
+  | inl same ↦ subst (IsMet job rows head noted) (sym same.1) (here (subst (IsTried job head) same.1 tried))
   | inr other ↦ met number (let no = other.1 in omega (arith, less, no)) tried
 ]
+
+-- an action that can be tried and isn't noted is open or closed
+pub number_answer : (job : JobData) (rows : List RowHead) (head : RowHead) (noted : ActionSet) (number : ℕ) (shut : Bool) → IsTried job head number → is_noted job noted number ≡ false → IsTrue shut ↔ ClosesAt job rows head (action_at (stage_count job) number)
+    → NumberAnswer job rows head noted number (not shut)
+number_answer job rows head noted number true tried unnoted is = λ again. inr (is.0 refl)
+number_answer job rows head noted number false tried unnoted is = record { tried = tried; unnoted = unnoted; unclosed = λ closed. absurd (let one = is.1 closed in cc) }
 
 pub true_unless : (b : Bool) → (b ≡ false → ⊥) → b ≡ true
 true_unless true never = refl

@@ -5,11 +5,13 @@ use Rattle.brake_base.specs.declared.stroke.Worth.{Worth}
 use Rattle.brake_base.specs.declared.stroke.Worth.TheVariants.{Cost, Blocked}
 use Rattle.brake_base.specs.Worths.{IsAtMost}
 use Rattle.job_setup.specs.Setup.{JobData}
+use Rattle.job_setup.specs.ValidJob.{IsJob}
 use Rattle.handling_cost.specs.Plan.{start}
 use Rattle.handling_cost.specs.Claim.{HasNoPlan, IsLeastCost}
 use Rattle.handling_cost.specs.Good.{AreClaimed, Proves}
 use Rattle.plan_cert.specs.declared.cert.RowHead.{RowHead}
 use Rattle.plan_cert.specs.Cert.{CertData}
+use Rattle.plan_cert.specs.WellFormed.{IsWellFormed}
 use Rattle.plan_cert.specs.GoodCert.{HasRow, IsGoodCert}
 use Rattle.cert_check.specs.declared.verdict.Verdict.{Verdict}
 use Rattle.cert_check.specs.declared.verdict.Verdict.TheVariants.{Optimal, NoPlan}
@@ -20,6 +22,8 @@ use Rattle.cert_check.specs.declared.fault.CheckFault.TheVariants.{BadReason, No
 use Rattle.cert_check.specs.declared.fault.CheckFault.TheVariants.{NoMemory, Unfinished}
 use Rattle.cert_check.specs.StepFaults.{IsFirstBadStep, AreUnfinished, IsBadCost}
 use Rattle.plan_cert.specs.RowFaults.{RowsAreAccounted, IsFirstFault, IsBadReason, IsNotClosed}
+use Rattle.cert_check.specs.declared.row_notes.RowNotes.{RowNotes}
+use Rattle.cert_check.specs.ReadCert.{KeepsAll}
 use Rattle.cert_check.specs.Texts.{IsTextOfCert, IsRefusedFor}
 
 -- an accepted claim, and the job of which it is proved
@@ -135,11 +139,19 @@ abbrev pub CertAnswer : JobData → CertData → Result (Unit {0}) CheckFault �
 CertAnswer job cert (Ok _) = HasGoodRows job cert × IsProved job cert
 CertAnswer job cert (Err fault) = (fault ≡ NoMemory) ⊎ IsFault job cert fault
 
--- the text is that of the job's certificate, of which these are all parts but the notes
-pub record AreParts (text : List ℕ) (job : JobData) (claim : Worth) (steps : List Step)
-    (rows : List RowHead) : Type 0 where
-  pub cert : CertData
-  pub written : IsTextOfCert text job cert
+-- these are the rows and the claim of a certificate that is well formed for a valid job, and what is
+-- kept of its notes
+pub record AreRowParts (job : JobData) (claim : Worth) (rows : List RowHead) (notes : RowNotes)
+    (cert : CertData) : Type 0 where
+  pub valid : IsJob job
+  pub form : IsWellFormed job cert
   pub claim_is : claim ≡ cert.claim
-  pub steps_are : steps ≡ cert.steps
   pub rows_are : rows ≡ cert.rows
+  pub notes_are : KeepsAll job cert notes
+  pub table : notes.table ≡ job
+
+-- and the steps
+pub record AreParts (job : JobData) (claim : Worth) (steps : List Step) (rows : List RowHead)
+    (notes : RowNotes) (cert : CertData) : Type 0 where
+  pub parts : AreRowParts job claim rows notes cert
+  pub steps_are : steps ≡ cert.steps

@@ -4,10 +4,11 @@ pub mod StepFaults
 pub mod Steps
 pub mod Standing
 pub mod SetActions
+pub mod HeldReasons
+pub mod RowNotes
 pub mod RowTable
 pub mod Rows
 pub mod ProvedCosts
 pub mod RowLanes
-pub mod Heads
-pub mod Notes
+pub mod ReadCert
 pub mod Checking

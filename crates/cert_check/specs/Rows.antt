@@ -1,20 +1,23 @@
--- What a check of rows comes to, where the notes of a row are given by its actions' numbers.
-use Rattle.std.specs.Prelude.{◌≡◌, ℕ, ◌*◌, ◌<◌, List, slice_get, slice_index_or, Option, Some, None}
-use Rattle.std.specs.Prelude.{Result, Ok, Err}
+-- What a check of rows comes to, where of each row the noted actions are given as a set.
+use Rattle.std.specs.Prelude.{◌≡◌, ◌⊎◌, ℕ, ◌*◌, ◌<◌, nat_lt, Bool, true, false, IsTrue, List, length}
+use Rattle.std.specs.Prelude.{if◌then◌else◌, Option, Some, None, Result, Ok, Err}
 use Rattle.brake_base.specs.declared.stroke.Key.{Key}
 use Rattle.brake_base.specs.declared.stroke.Action.{Action}
 use Rattle.brake_base.specs.declared.stroke.Worth.{Worth}
-use Rattle.brake_base.specs.declared.reason.Reason.{Reason}
 use Rattle.brake_base.specs.Worths.{IsAtMost, plus}
+use Rattle.stage_lanes.specs.declared.actions.ActionSet.{ActionSet}
 use Rattle.job_setup.specs.Setup.{JobData, bend_count, stage_count}
 use Rattle.handling_cost.specs.Plan.{start}
 use Rattle.handling_cost.specs.Good.{Proves, IsClosed}
 use Rattle.plan_cert.specs.declared.cert.RowHead.{RowHead}
+use Rattle.plan_cert.specs.declared.cert.Note.{Note}
 use Rattle.plan_cert.specs.Lines.{action_at}
+use Rattle.plan_cert.specs.GoodCert.{HaveRow}
+use Rattle.plan_cert.specs.RowFaults.{IsTried, RowsAreAccounted, IsFirstFault, IsBadReason}
+use Rattle.plan_cert.specs.RowFaults.{IsNotClosed}
 use Rattle.cert_check.specs.declared.fault.CheckFault.{CheckFault}
 use Rattle.cert_check.specs.declared.fault.CheckFault.TheVariants.{BadReason, NotClosed, TooLow}
-use Rattle.plan_cert.specs.GoodCert.{HaveRow}
-use Rattle.plan_cert.specs.RowFaults.{HoldsAt, IsTried}
+use Rattle.cert_check.specs.RowNotes.{is_noted}
 
 -- a cost and what a worth that stands for the key says are at least a worth
 abbrev pub ProvesAfter : JobData → List RowHead → Key → ℕ → Worth → Type 0
@@ -25,66 +28,56 @@ ProvesAfter job rows key cost worth =
 abbrev pub ClosesAt : JobData → List RowHead → RowHead → Action → Type 0
 ClosesAt job rows head action = IsClosed job (HaveRow rows) head.key action head.worth
 
--- the noted reason holds, or the action is closed where none is noted
-abbrev pub IsActionMet : JobData → List RowHead → RowHead → ℕ → Option Reason → Type 0
-IsActionMet job rows head number (Some reason) = HoldsAt job head number reason
-IsActionMet job rows head number None = ClosesAt job rows head (action_at (stage_count job) number)
+-- an action is noted at a row, or closed
+abbrev pub IsMet : JobData → List RowHead → RowHead → ActionSet → ℕ → Type 0
+IsMet job rows head noted number =
+    IsTrue (is_noted job noted number) ⊎ ClosesAt job rows head (action_at (stage_count job) number)
 
--- the cause for which it isn't so, with the numbers of the row and the action
-abbrev pub IsActionUnmet : JobData → List RowHead → ℕ → RowHead → ℕ → Option Reason → CheckFault
-    → Type 0
-IsActionUnmet job rows row head number (Some reason) (BadReason r n) =
-    (r ≡ row) × (n ≡ number) × (HoldsAt job head number reason → ⊥)
-IsActionUnmet job rows row head number None (NotClosed r n) =
-    (r ≡ row) × (n ≡ number) × (ClosesAt job rows head (action_at (stage_count job) number) → ⊥)
-IsActionUnmet job rows row head number noted fault = ⊥
-
-abbrev pub ActionAnswer : JobData → List RowHead → ℕ → RowHead → ℕ → Option Reason
-    → Result (Unit {0}) CheckFault → Type 0
-ActionAnswer job rows row head number noted (Ok _) = IsActionMet job rows head number noted
-ActionAnswer job rows row head number noted (Err fault) =
-    IsActionUnmet job rows row head number noted fault
-
--- the action of a number is accounted for where it can be tried, or it can and isn't, for this
--- cause
-abbrev pub NumberAnswer : JobData → List RowHead → ℕ → RowHead → ℕ → Option Reason
-    → Result (Unit {0}) CheckFault → Type 0
-NumberAnswer job rows row head number noted (Ok _) =
-    IsTried job head number → IsActionMet job rows head number noted
-NumberAnswer job rows row head number noted (Err fault) =
-    IsTried job head number × IsActionUnmet job rows row head number noted fault
-
--- what is noted of the action of a number
-abbrev pub noted_of : List (Option Reason) → ℕ → Option Reason
-noted_of reasons number = slice_index_or reasons number None
-
--- each action below a number is accounted for
-abbrev pub AreMet : JobData → List RowHead → RowHead → List (Option Reason) → ℕ → Type 0
-AreMet job rows head reasons count =
-    (number : ℕ) → number < count → IsTried job head number
-    → IsActionMet job rows head number (noted_of reasons number)
-
--- some action isn't, for this cause, and all before it are
-pub record IsRowFault (job : JobData) (rows : List RowHead) (row : ℕ) (head : RowHead)
-    (reasons : List (Option Reason)) (fault : CheckFault) : Type 0 where
-  pub number : ℕ
+-- it can be tried, isn't noted and isn't closed
+pub record IsOpen (job : JobData) (rows : List RowHead) (head : RowHead) (noted : ActionSet)
+    (number : ℕ) : Type 0 where
   pub tried : IsTried job head number
-  pub before : AreMet job rows head reasons number
-  pub cause : IsActionUnmet job rows row head number (noted_of reasons number) fault
+  pub unnoted : is_noted job noted number ≡ false
+  pub unclosed : ClosesAt job rows head (action_at (stage_count job) number) → ⊥
 
--- each action of a row is accounted for, or the first that isn't
-abbrev pub HeadAnswer : JobData → List RowHead → ℕ → RowHead → List (Option Reason)
-    → Result (Unit {0}) CheckFault → Type 0
-HeadAnswer job rows row head reasons (Ok _) =
-    AreMet job rows head reasons (2 * bend_count job * stage_count job)
-HeadAnswer job rows row head reasons (Err fault) = IsRowFault job rows row head reasons fault
+-- the action of a number is open, or is met where it can be tried
+abbrev pub NumberAnswer : JobData → List RowHead → RowHead → ActionSet → ℕ → Bool → Type 0
+NumberAnswer job rows head noted number true = IsOpen job rows head noted number
+NumberAnswer job rows head noted number false =
+    IsTried job head number → IsMet job rows head noted number
 
--- so for the row of a number
-abbrev pub RowAnswer : JobData → List RowHead → ℕ → List (Option Reason)
-    → Result (Unit {0}) CheckFault → Type 0
-RowAnswer job rows row reasons result =
-    (head : RowHead) × (slice_get rows row ≡ Some head)
-    × HeadAnswer job rows row head reasons result
+-- each action below a number is met where it can be tried
+abbrev pub AreMet : JobData → List RowHead → RowHead → ActionSet → ℕ → Type 0
+AreMet job rows head noted count =
+    (number : ℕ) → number < count → IsTried job head number → IsMet job rows head noted number
+
+-- the first open action of a row; none where each action is met
+abbrev pub OpenAnswer : JobData → List RowHead → RowHead → ActionSet → Option ℕ → Type 0
+OpenAnswer job rows head noted None =
+    AreMet job rows head noted (2 * bend_count job * stage_count job)
+OpenAnswer job rows head noted (Some number) =
+    IsOpen job rows head noted number × AreMet job rows head noted number
+
+-- the first of an open action of a row, where there is one, and of one whose note is unsound
+abbrev pub first_of : ℕ → Option ℕ → ℕ → CheckFault
+first_of row None unsound = BadReason row unsound
+first_of row (Some number) unsound =
+    if nat_lt number unsound then NotClosed row number else BadReason row unsound
+
+-- the refusal of a row with an open action or an unsound note
+abbrev pub first_fault : ℕ → Option ℕ → Option ℕ → Result (Unit {0}) CheckFault
+first_fault row open_action (Some unsound) = Err (first_of row open_action unsound)
+first_fault row (Some number) None = Err (NotClosed row number)
+first_fault row None None = Ok tt
+
+-- each action at each row is accounted for, or the first that isn't
+abbrev pub RowsAnswer : JobData → List RowHead → List Note → Result (Unit {0}) CheckFault → Type 0
+RowsAnswer job rows notes (Ok _) = RowsAreAccounted job rows notes (length rows)
+RowsAnswer job rows notes (Err (BadReason row action)) =
+    IsFirstFault job rows notes row action (IsBadReason job notes row action)
+RowsAnswer job rows notes (Err (NotClosed row action)) =
+    IsFirstFault job rows notes row action (IsNotClosed job rows notes row action)
+RowsAnswer job rows notes (Err _) = ⊥
 
 -- the claim is proved of the start, or it is too high
 abbrev pub ProvesAnswer : JobData → List RowHead → Worth → Result (Unit {0}) CheckFault → Type 0

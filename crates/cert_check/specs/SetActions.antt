@@ -2,13 +2,11 @@
 use Rattle.std.specs.Prelude.{◌≡◌, ℕ, ◌*◌, ◌<◌, false, IsTrue, slice_index_or, Option, Some, None}
 use Rattle.brake_base.specs.declared.mask.Mask.{Mask}
 use Rattle.brake_base.specs.declared.stroke.Action.{Action}
-use Rattle.brake_base.specs.declared.reason.Reason.{Reason}
 use Rattle.brake_base.specs.Masks.{union}
 use Rattle.job_setup.specs.Setup.{JobData, bend_count, stage_count}
 use Rattle.job_setup.specs.StrokeGroup.{group_of, is_lead}
 use Rattle.handling_cost.specs.StepCost.{attitude_at}
 use Rattle.handling_cost.specs.Bound.{bound_of}
-use Rattle.handling_cost.specs.Plan.{IsReasonFor}
 use Rattle.plan_cert.specs.Lines.{action_at}
 use Rattle.cert_check.specs.declared.set_actions.NextKey.{NextKey}
 use Rattle.cert_check.specs.declared.set_actions.SetActions.{SetActions}
@@ -26,10 +24,9 @@ abbrev pub IsNextOf : JobData → Mask → Action → Option NextKey → Type 0
 IsNextOf job mask action (Some next) = IsNext job mask action next
 IsNextOf job mask action None = is_lead job mask action.bend ≡ false
 
--- where each action leads, and reasons that hold against some of them
-pub record AreActionsOf (job : JobData) (actions : SetActions) : Type 0 where
-  pub next : (number : ℕ) → number < 2 * bend_count job * stage_count job
-      → IsNextOf job actions.mask (action_at (stage_count job) number)
-      (slice_index_or actions.next number None)
-  pub held : (number : ℕ) (reason : Reason) → slice_index_or actions.held number None ≡ Some reason
-      → IsReasonFor job actions.mask (action_at (stage_count job) number) reason
+-- where each action leads
+abbrev pub AreActionsOf : JobData → SetActions → Type 0
+AreActionsOf job actions =
+    (number : ℕ) → number < 2 * bend_count job * stage_count job
+    → IsNextOf job actions.mask (action_at (stage_count job) number)
+    (slice_index_or actions.next number None)

@@ -1,34 +1,36 @@
 //! The condition on rows: each action at each row has a note whose reason holds, or has none and is
-//! closed.
-ghost use Rattle.std.specs.Prelude.{◌≡◌, ◌↔◌, ◌*◌, ◌<◌, ◌≤◌, IsTrue, length};
+//! closed. The reasons are tested where the notes are read.
+ghost use Rattle.std.specs.Prelude.{◌≡◌, ◌↔◌, ◌*◌, ◌<◌, ◌≤◌, IsTrue, List, Some, length, slice_get, slice_index_or};
 ghost use Rattle.brake_base.specs.Worths.{plus};
 ghost use Rattle.job_setup.specs.Setup.{bend_count, stage_count};
 ghost use Rattle.handling_cost.specs.StepCost.{IsKeyOf};
 ghost use Rattle.handling_cost.specs.Bound.{bound_of};
 ghost use Rattle.plan_cert.specs.Lines.{action_at};
+ghost use Rattle.plan_cert.specs.declared.cert.Note.{Note};
 ghost use Rattle.plan_cert.specs.WellFormed.{IsRow, IsWorth};
 ghost use Rattle.cert_check.specs.SetActions.{IsNext, AreActionsOf};
-ghost use Rattle.cert_check.specs.Rows.{ProvesAfter, ClosesAt, ActionAnswer, NumberAnswer, HeadAnswer, RowAnswer, AreMet, noted_of};
+ghost use Rattle.cert_check.specs.Rows.{ProvesAfter, ClosesAt, NumberAnswer, OpenAnswer, AreMet, RowsAnswer, first_fault, first_of};
+ghost use Rattle.cert_check.specs.RowNotes.{HasNotes, unsound_at};
 ghost use Rattle.cert_check.specs.RowLanes.{IsCheckedSet};
 
-use crate::check_table::CheckTable;
 use crate::fault::CheckFault;
 use crate::proved_costs::ProvedCosts;
 use crate::row_lanes::is_met;
+use crate::row_notes::{NotePlace, RowNotes};
 use crate::row_table::RowTable;
 use crate::set_actions::{NextKey, SetActions};
-use brake_base::{Action, Key, Mask, Reason, Worth, action_of};
+use brake_base::{Action, Key, Mask, Worth, action_of};
 use handling_cost::cost_to;
 use job_setup::Job;
 use plan_cert::RowHead;
 use set_facts::LaneFacts;
+use stage_lanes::ActionSet;
 
-/// A row with its number, and the reasons of its notes by the numbers of their actions.
+/// A row with the actions that are noted at it.
 #[derive(Clone, Copy)]
-struct NotedRow<'a> {
-    number: u32,
+struct NotedRow {
     head: RowHead,
-    reasons: &'a [Option<Reason>; 144],
+    noted: ActionSet,
 }
 
 /// What is known of the set of folded bends whose rows are looked at.
@@ -52,38 +54,115 @@ impl CheckedSet {
     }
 }
 
-/// Refuses a row of which an action isn't accounted for. The reasons are those of its notes, by the
-/// numbers of their actions.
-pub(crate) fn check_row(
-    job: &Job,
-    rows: &RowTable,
-    sets: &mut CheckTable,
-    set: &mut CheckedSet,
-    row: u32,
-    reasons: &[Option<Reason>; 144],
-) -> Result<(), CheckFault>
+/// Refuses the first row and action that aren't accounted for.
+pub(crate) fn check_rows(job: &Job, rows: &RowTable, notes: &RowNotes) -> Result<(), CheckFault>
     requires rows { rows.now.job ≡ job.now }
-    requires sets { sets.old ≡ job.now }
-    requires set { IsCheckedSet job.now rows.now.rows set.old }
-    requires row { row < length rows.now.rows }
-    ensures answer { RowAnswer job.now rows.now.rows row reasons.now result }
-    ensures sets { sets.new ≡ sets.old }
-    ensures set { IsCheckedSet job.now rows.now.rows set.new }
+    requires table { notes.now.table ≡ job.now }
+    requires count { length notes.now.sets.items ≡ length rows.now.rows }
+    ensures { (all : List Note) → HasNotes job.now rows.now.rows all notes.now
+        → RowsAnswer job.now rows.now.rows all result }
 {
-    let row = NotedRow {
-        number: row,
-        head: rows.head(row),
-        reasons,
-    };
-    if is_row_met(job, rows, sets.facts(), set, &row) {
-        Ok(())
-    } else {
-        check_actions(job, rows, sets, &mut set.actions, &row)
+    let facts = notes.facts();
+    let mut set = CheckedSet::first(job, rows, facts);
+    for row in 0..rows.len() {
+        let noted = noted_row(rows, notes, row);
+        let found = first_open(job, rows, facts, &mut set, &noted);
+        if let Err(fault) = check_row(row, found, unsound_at(row, notes.unsound)) {
+            return Err(fault);
+        }
+    }
+    Ok(())
+}
+
+/// The row of a number.
+fn noted_row(rows: &RowTable, notes: &RowNotes, row: u32) -> NotedRow
+    requires row { row < length rows.now.rows }
+    requires count { length notes.now.sets.items ≡ length rows.now.rows }
+    ensures row { slice_get rows.now.rows row ≡ Some result.head }
+    ensures valid { IsRow rows.now.job result.head }
+    ensures noted { result.noted ≡ slice_index_or notes.now.sets.items row result.noted }
+{
+    let head = rows.head(row);
+    let noted = notes.sets[row as usize];
+    NotedRow { head, noted }
+}
+
+/// The action of the unsound note, where the note is of this row.
+fn unsound_at(row: u32, unsound: Option<NotePlace>) -> Option<u8>
+    ensures { result ≡ unsound_at row unsound }
+{
+    match unsound {
+        Some(note) => {
+            if note.row == row as usize {
+                Some(note.action)
+            } else {
+                None
+            }
+        }
+        None => None,
     }
 }
 
-/// Whether each action of a row is accounted for by what is known of its set. False also where that
-/// isn't known.
+/// Refuses a row with an open action or an unsound note, for the first of both.
+fn check_row(row: u32, open_action: Option<u8>, unsound: Option<u8>) -> Result<(), CheckFault>
+    ensures { result ≡ first_fault row open_action unsound }
+{
+    match unsound {
+        Some(action) => Err(first_of(row, open_action, action)),
+        None => match open_action {
+            Some(action) => Err(CheckFault::NotClosed { row, action }),
+            None => Ok(()),
+        },
+    }
+}
+
+/// The first of an open action, where there is one, and of one whose note is unsound.
+fn first_of(row: u32, open_action: Option<u8>, unsound: u8) -> CheckFault
+    ensures { result ≡ first_of row open_action unsound }
+{
+    match open_action {
+        Some(action) => {
+            if action < unsound {
+                CheckFault::NotClosed { row, action }
+            } else {
+                CheckFault::BadReason {
+                    row,
+                    action: unsound,
+                }
+            }
+        }
+        None => CheckFault::BadReason {
+            row,
+            action: unsound,
+        },
+    }
+}
+
+/// The first action that can be tried at a row, isn't noted and isn't closed.
+fn first_open(
+    job: &Job,
+    rows: &RowTable,
+    facts: &LaneFacts,
+    set: &mut CheckedSet,
+    row: &NotedRow,
+) -> Option<u8>
+    requires rows { rows.now.job ≡ job.now }
+    requires facts { facts.now ≡ job.now }
+    requires set { IsCheckedSet job.now rows.now.rows set.old }
+    requires row { IsRow job.now row.now.head }
+    ensures first { OpenAnswer job.now rows.now.rows row.now.head row.now.noted result }
+    ensures set { IsCheckedSet job.now rows.now.rows set.new }
+{
+    if is_row_met(job, rows, facts, set, row) {
+        None
+    } else {
+        set.actions.turn_to(job, facts, row.head.key.mask);
+        open_action(job, rows, &set.actions, row)
+    }
+}
+
+/// Whether each action of a row is noted, or closed by what is proved of the next keys. False also
+/// where that isn't known.
 fn is_row_met(
     job: &Job,
     rows: &RowTable,
@@ -95,84 +174,52 @@ fn is_row_met(
     requires facts { facts.now ≡ job.now }
     requires set { IsCheckedSet job.now rows.now.rows set.old }
     requires row { IsRow job.now row.now.head }
-    ensures met { IsTrue result → AreMet job.now rows.now.rows row.now.head row.now.reasons.now
+    ensures met { IsTrue result → AreMet job.now rows.now.rows row.now.head row.now.noted
         (2 * bend_count job.now * stage_count job.now) }
     ensures set { IsCheckedSet job.now rows.now.rows set.new }
 {
-    if set.actions.mask != row.head.key.mask {
-        return false;
-    }
     set.proved.turn_to(job, rows, facts, row.head.key.mask);
-    is_met(
-        job,
-        facts,
-        &set.proved,
-        &row.head,
-        row.reasons,
-        &set.actions.held,
-    )
+    is_met(job, facts, &set.proved, &row.head, row.noted)
 }
 
-/// Refuses the first action of a row that isn't accounted for.
-fn check_actions(
-    job: &Job,
-    rows: &RowTable,
-    sets: &mut CheckTable,
-    actions: &mut SetActions,
-    row: &NotedRow,
-) -> Result<(), CheckFault>
+/// The first action that can be tried at a row, isn't noted and isn't closed, where the actions are
+/// those of its set.
+fn open_action(job: &Job, rows: &RowTable, actions: &SetActions, row: &NotedRow) -> Option<u8>
     requires rows { rows.now.job ≡ job.now }
-    requires sets { sets.old ≡ job.now }
-    requires actions { AreActionsOf job.now actions.old }
+    requires actions { AreActionsOf job.now actions.now }
+    requires same { actions.now.mask ≡ row.now.head.key.mask }
     requires row { IsRow job.now row.now.head }
-    ensures answer { HeadAnswer job.now rows.now.rows row.now.number row.now.head
-        row.now.reasons.now result }
-    ensures sets { sets.new ≡ sets.old }
-    ensures actions { AreActionsOf job.now actions.new }
+    ensures { OpenAnswer job.now rows.now.rows row.now.head row.now.noted result }
 {
-    actions.turn_to(job, sets.facts(), row.head.key.mask);
     for number in 0..action_count(job) {
-        if let Err(fault) = check_number(job, rows, sets, actions, row, number) {
-            return Err(fault);
+        if is_open(job, rows, actions, row, number) {
+            return Some(number);
         }
     }
-    Ok(())
+    None
 }
 
-/// Refuses an action that can be tried at the row and isn't accounted for.
-fn check_number(
-    job: &Job,
-    rows: &RowTable,
-    sets: &mut CheckTable,
-    actions: &mut SetActions,
-    row: &NotedRow,
-    number: u8,
-) -> Result<(), CheckFault>
+/// Whether the action of a number can be tried at a row, isn't noted and isn't closed.
+fn is_open(job: &Job, rows: &RowTable, actions: &SetActions, row: &NotedRow, number: u8) -> bool
     requires rows { rows.now.job ≡ job.now }
-    requires sets { sets.old ≡ job.now }
-    requires actions { AreActionsOf job.now actions.old }
-    requires same { actions.old.mask ≡ row.now.head.key.mask }
+    requires actions { AreActionsOf job.now actions.now }
+    requires same { actions.now.mask ≡ row.now.head.key.mask }
     requires row { IsRow job.now row.now.head }
     requires number { number < 2 * bend_count job.now * stage_count job.now }
     requires few { number < 144 }
-    ensures answer { NumberAnswer job.now rows.now.rows row.now.number row.now.head number
-        (noted_of row.now.reasons.now number) result }
-    ensures sets { sets.new ≡ sets.old }
-    ensures actions { AreActionsOf job.now actions.new }
-    ensures same { actions.new.mask ≡ row.now.head.key.mask }
+    ensures { NumberAnswer job.now rows.now.rows row.now.head row.now.noted number result }
 {
+    job.recall_valid();
     match actions.next(number) {
-        Some(next) => check_action(job, rows, sets, actions, row, number, &next),
-        None => Ok(()),
+        Some(next) => {
+            if row.noted.contains(action_at(job, number)) {
+                false
+            } else {
+                !is_closed(job, rows, &row.head, number, &next)
+            }
+        }
+        None => false,
     }
-}
-
-/// What is noted of the action of a number.
-fn noted_at(reasons: &[Option<Reason>; 144], number: u8) -> Option<Reason>
-    requires { number < 144 }
-    ensures { result ≡ noted_of reasons.now number }
-{
-    reasons[usize::from(number)]
 }
 
 /// The number of the actions of all bends at all stages.
@@ -192,55 +239,6 @@ pub(crate) fn action_at(job: &Job, number: u8) -> Action
     ensures stage { result.stage < stage_count job.now }
 {
     action_of(number, job.stages())
-}
-
-/// Refuses an action whose noted reason doesn't hold, or that has none and isn't closed.
-fn check_action(
-    job: &Job,
-    rows: &RowTable,
-    sets: &mut CheckTable,
-    actions: &mut SetActions,
-    row: &NotedRow,
-    number: u8,
-    next: &NextKey,
-) -> Result<(), CheckFault>
-    requires rows { rows.now.job ≡ job.now }
-    requires sets { sets.old ≡ job.now }
-    requires actions { AreActionsOf job.now actions.old }
-    requires same { actions.old.mask ≡ row.now.head.key.mask }
-    requires row { IsRow job.now row.now.head }
-    requires number { number < 2 * bend_count job.now * stage_count job.now }
-    requires few { number < 144 }
-    requires next { IsNext job.now row.now.head.key.mask
-        (action_at (stage_count job.now) number) next.now }
-    ensures answer { ActionAnswer job.now rows.now.rows row.now.number row.now.head number
-        (noted_of row.now.reasons.now number) result }
-    ensures sets { sets.new ≡ sets.old }
-    ensures actions { AreActionsOf job.now actions.new }
-    ensures same { actions.new.mask ≡ row.now.head.key.mask }
-{
-    match noted_at(row.reasons, number) {
-        Some(reason) => {
-            if actions.holds(job, sets, row.head.key.mask, number, reason) {
-                Ok(())
-            } else {
-                Err(CheckFault::BadReason {
-                    row: row.number,
-                    action: number,
-                })
-            }
-        }
-        None => {
-            if is_closed(job, rows, &row.head, number, next) {
-                Ok(())
-            } else {
-                Err(CheckFault::NotClosed {
-                    row: row.number,
-                    action: number,
-                })
-            }
-        }
-    }
 }
 
 /// Whether the step cost of the action of a number and what is proved of its next key are at least

@@ -1,15 +1,13 @@
 //! What belongs to the actions where the bends of a set are folded: it is found once for all rows
 //! of the set, which follow one another.
-ghost use Rattle.std.specs.Prelude.{◌≡◌, ◌↔◌, ◌*◌, ◌^◌, ◌<◌, ◌≤◌, ℕ, IsTrue, None, Some, slice_index_or, slice_set};
+ghost use Rattle.std.specs.Prelude.{◌≡◌, ◌*◌, ◌^◌, ◌<◌, ◌≤◌, ℕ, IsTrue, None, slice_index_or};
 ghost use Rattle.job_setup.specs.Setup.{bend_count, stage_count};
 ghost use Rattle.job_setup.specs.StrokeGroup.{is_lead};
-ghost use Rattle.handling_cost.specs.Plan.{IsReasonFor};
 ghost use Rattle.plan_cert.specs.Lines.{action_at};
 ghost use Rattle.cert_check.specs.SetActions.{IsNext, IsNextOf, AreActionsOf};
 
-use crate::check_table::CheckTable;
 use crate::rows::{action_at, action_count, bound_at};
-use brake_base::{Action, Key, Mask, Reason};
+use brake_base::{Action, Key, Mask};
 use job_setup::{Job, group};
 use set_facts::LaneFacts;
 
@@ -26,8 +24,6 @@ pub(crate) struct SetActions {
     pub mask: Mask,
     /// Where they lead. None where the bend of the number's action is no lead.
     pub next: [Option<NextKey>; 144],
-    /// Reasons that were found to hold against them.
-    pub held: [Option<Reason>; 144],
 }
 
 /// Where an action leads whose bend is a lead.
@@ -83,7 +79,7 @@ fn all_next(job: &Job, facts: &LaneFacts, mask: Mask) -> [Option<NextKey>; 144]
 }
 
 impl SetActions {
-    /// What belongs to the actions of a set, against which no reason is known to hold.
+    /// What belongs to the actions of a set.
     pub fn of(job: &Job, facts: &LaneFacts, mask: Mask) -> SetActions
         requires facts { facts.now ≡ job.now }
         requires mask { mask.0 < 2 ^ bend_count job.now }
@@ -91,11 +87,7 @@ impl SetActions {
         ensures mask { result.mask ≡ mask }
     {
         let next = all_next(job, facts, mask);
-        SetActions {
-            mask,
-            next,
-            held: [None; 144],
-        }
+        SetActions { mask, next }
     }
 
     /// Makes them those of a set.
@@ -118,65 +110,4 @@ impl SetActions {
     {
         self.next[usize::from(number)]
     }
-
-    /// Whether the reason holds against the action of a number.
-    pub fn holds(
-        &mut self,
-        job: &Job,
-        sets: &mut CheckTable,
-        mask: Mask,
-        number: u8,
-        reason: Reason,
-    ) -> bool
-        requires actions { AreActionsOf job.now self.old }
-        requires same { self.old.mask ≡ mask }
-        requires sets { sets.old ≡ job.now }
-        requires mask { mask.0 < 2 ^ bend_count job.now }
-        requires number { number < 2 * bend_count job.now * stage_count job.now }
-        requires lead { IsTrue (is_lead job.now mask (action_at (stage_count job.now) number).bend) }
-        ensures holds { IsTrue result
-            ↔ IsReasonFor job.now mask (action_at (stage_count job.now) number) reason }
-        ensures actions { AreActionsOf job.now self.new }
-        ensures same { self.new.mask ≡ mask }
-        ensures sets { sets.new ≡ sets.old }
-    {
-        job.recall_valid();
-        let action = action_at(job, number);
-        if self.is_held(number, reason) {
-            true
-        } else if sets.holds(job, mask, action, reason) {
-            self.keep(number, reason);
-            true
-        } else {
-            false
-        }
-    }
-
-    /// Whether the reason was found to hold against the action of a number.
-    fn is_held(&self, number: u8, reason: Reason) -> bool
-        requires { number < 144 }
-        ensures { IsTrue result → slice_index_or self.now.held number None ≡ Some reason }
-    {
-        match self.held[usize::from(number)] {
-            Some(held) => is_same(held, reason),
-            None => false,
-        }
-    }
-
-    /// Keeps a reason that holds against the action of a number.
-    fn keep(&mut self, number: u8, reason: Reason)
-        requires { number < 144 }
-        ensures mask { self.new.mask ≡ self.old.mask }
-        ensures next { self.new.next ≡ self.old.next }
-        ensures held { self.new.held ≡ slice_set self.old.held number (Some reason) }
-    {
-        self.held[usize::from(number)] = Some(reason);
-    }
-}
-
-/// Whether both reasons are one.
-pub(crate) fn is_same(first: Reason, second: Reason) -> bool
-    ensures { IsTrue result ↔ (first ≡ second) }
-{
-    first == second
 }

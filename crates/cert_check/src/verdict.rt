@@ -1,17 +1,15 @@
 //! The check of a certificate.
-ghost use Rattle.std.specs.Prelude.{◌≡◌, IfOk};
+ghost use Rattle.std.specs.Prelude.{◌≡◌, ℕ, IfOk, List};
 ghost use Rattle.plan_cert.specs.Cert.{CertData};
 ghost use Rattle.cert_check.specs.Texts.{IsTextOfCert};
-ghost use Rattle.cert_check.specs.Heads.{AreRowParts};
-ghost use Rattle.cert_check.specs.Checking.{Answers, AcceptsGood, AreParts, CertAnswer, IsTrueOf, RowsVerdict, verdict_of};
+ghost use Rattle.cert_check.specs.Checking.{Answers, AcceptsGood, AreParts, AreRowParts, CertAnswer, IsTrueOf, RowsVerdict, verdict_of};
 ghost use Rattle.cert_check.specs.Rows.{ProvesAnswer};
 
-use crate::check_table::CheckTable;
 use crate::fault::CheckFault;
-use crate::heads::{Heads, read_heads};
-use crate::notes::check_notes;
+use crate::read_cert::{ReadCert, read_cert};
+use crate::row_notes::RowNotes;
 use crate::row_table::RowTable;
-use crate::rows::is_proved;
+use crate::rows::{check_rows, is_proved};
 use crate::steps::check_steps;
 use brake_base::{Step, Worth};
 use handling_cost::start_key;
@@ -46,25 +44,29 @@ pub fn check(alloc: Global, text: &[u8]) -> Result<Checked, CheckFault>
     // The verdict is the least cost of a plan of the job, or there is no plan.
     ensures truth { IfOk result (λ checked. IsTrueOf checked.job checked.verdict) }
 {
-    match read_heads(alloc, text) {
-        Ok(heads) => check_heads(alloc, text, heads),
+    match read_cert(alloc, text) {
+        Ok(read) => check_read(alloc, read),
         Err(fault) => Err(fault),
     }
 }
 
-/// The same where all of the certificate but its notes is read.
-fn check_heads(alloc: Global, text: &[u8], heads: Heads) -> Result<Checked, CheckFault>
-    requires { AreParts text.now heads.job heads.claim heads.steps.items heads.rows.items }
-    ensures answer { Answers text.now result }
+/// The same of a certificate that was read.
+fn check_read(alloc: Global, read: ReadCert) -> Result<Checked, CheckFault>
+    requires { (cert : CertData)
+        × AreParts read.job read.claim read.steps.items read.rows.items read.notes cert }
+    ensures answer { (text : List ℕ) (cert : CertData) → IsTextOfCert text read.job cert
+        → AreParts read.job read.claim read.steps.items read.rows.items read.notes cert
+        → Answers text result }
     ensures truth { IfOk result (λ checked. IsTrueOf checked.job checked.verdict) }
 {
-    let Heads {
+    let ReadCert {
         job,
         claim,
         steps,
         rows,
-    } = heads;
-    match check_cert(alloc, text, &job, claim, steps.as_slice(), rows) {
+        notes,
+    } = read;
+    match check_cert(alloc, &job, claim, steps.as_slice(), rows, &notes) {
         Ok(()) => Ok(Checked {
             verdict: verdict_of(claim),
             job,
@@ -76,38 +78,37 @@ fn check_heads(alloc: Global, text: &[u8], heads: Heads) -> Result<Checked, Chec
 /// Refuses a certificate that isn't good.
 fn check_cert(
     alloc: Global,
-    text: &[u8],
     job: &Job,
     claim: Worth,
     steps: &[Step],
     rows: Vec<RowHead>,
+    notes: &RowNotes,
 ) -> Result<(), CheckFault>
-    requires { AreParts text.now job.now claim steps.now rows.items }
-    ensures { (cert : CertData) → IsTextOfCert text.now job.now cert
+    requires { (cert : CertData) × AreParts job.now claim steps.now rows.items notes.now cert }
+    ensures { (cert : CertData) → AreParts job.now claim steps.now rows.items notes.now cert
         → CertAnswer job.now cert result }
 {
     match check_steps(job, claim, steps) {
-        Ok(()) => check_rows(alloc, text, job, claim, rows),
+        Ok(()) => check_proof(alloc, job, claim, rows, notes),
         Err(fault) => Err(fault),
     }
 }
 
 /// Refuses rows and notes that don't prove the claim.
-fn check_rows(
+fn check_proof(
     alloc: Global,
-    text: &[u8],
     job: &Job,
     claim: Worth,
     rows: Vec<RowHead>,
+    notes: &RowNotes,
 ) -> Result<(), CheckFault>
-    requires { AreRowParts text.now job.now claim rows.items }
-    ensures { (cert : CertData) → IsTextOfCert text.now job.now cert
+    requires { (cert : CertData) × AreRowParts job.now claim rows.items notes.now cert }
+    ensures { (cert : CertData) → AreRowParts job.now claim rows.items notes.now cert
         → RowsVerdict job.now cert result }
 {
     let rows = RowTable::open(alloc, job, rows)?;
-    let mut sets = CheckTable::open(alloc, job)?;
-    match check_notes(text, job, &rows, &mut sets) {
-        Ok(()) => check_claim(job, &rows, sets.facts(), claim),
+    match check_rows(job, &rows, notes) {
+        Ok(()) => check_claim(job, &rows, notes.facts(), claim),
         Err(fault) => Err(fault),
     }
 }

@@ -9,7 +9,7 @@ pub loop-bend-preserved : goal.loop-bend-preserved
 loop-bend-preserved c =
     let job = c.args.job.now in
     let head = c.args.row.now.head in
-    let reasons = c.args.row.now.reasons.now in
+    let reasons = c.args.row.now.noted in
     let bend = c.loop-bend.bend in
     let first = c.loop-bend.invariant.first in
     let test = c.loop-bend-test.true in
@@ -28,5 +28,5 @@ loop-bend-preserved c =
 
 pub returns : goal.returns
 returns c = λ yes rows proved.
-    all_met c.args.job.now rows c.args.row.now.head c.args.row.now.reasons.now (λ lead first low is.
+    all_met c.args.job.now rows c.args.row.now.head c.args.row.now.noted (λ lead first low is.
     c.loop-bend.invariant.met rows proved lead first (let test = c.loop-bend-test.false in let end = c.bends-bend-end.ensures.value in omega (arith, low, test, end)) is)

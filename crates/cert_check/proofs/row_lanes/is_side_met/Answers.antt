@@ -1,4 +1,4 @@
-use Rattle.std.proofs.Common.{◌≡◌, ◌<◌, ◌+◌, ◌*◌, ◌∙◌, ℕ, arith, ap, subst}
+use Rattle.std.proofs.Common.{◌≡◌, ◌<◌, ◌+◌, ◌*◌, ◌∙◌, ℕ, arith, sym, ap, subst}
 use Rattle.std.specs.Prelude.{slice_index, nat_lt}
 use Rattle.brake_base.specs.declared.mask.Mask.{Mask}
 use Rattle.stage_lanes.specs.ActionSets.{side_of}
@@ -7,9 +7,7 @@ use Rattle.action_lanes.specs.Costs.{cost_at}
 use Rattle.job_setup.specs.Setup.{JobData}
 use Rattle.handling_cost.specs.StepCost.{attitude_at, change, change_cost}
 use Rattle.handling_cost.proofs.Actions.{few_bends}
-use Rattle.cert_check.specs.Rows.{noted_of}
 use Rattle.cert_check.specs.ProvedCosts.{IsProvedCost, key_behind}
-use Rattle.cert_check.specs.RowLanes.{IsKnown}
 use Rattle.cert_check.proofs.RowLaneLemmas.{lane_met, side_within}
 use Rattle.cert_check.proofs.row_lanes.is_side_met.Goals as goal
 
@@ -36,11 +34,8 @@ plus-requires c = record {
       omega (arith, most, side, sum, onward, all, turn);
 }
 
-pub are_known-requires-clause-room : goal.are_known-requires-clause-room
-are_known-requires-clause-room c = let room = c.first_number.ensures.room in let stages = c.stages.ensures.value in omega (arith, room, stages)
-
-pub are_known-requires-clause-few : goal.are_known-requires-clause-few
-are_known-requires-clause-few c = let few = c.recall_valid.ensures.setup.stages.few_stages in let stages = c.stages.ensures.value in omega (arith, few, stages)
+pub are_noted-requires : goal.are_noted-requires
+are_noted-requires c = let few = c.recall_valid.ensures.setup.stages.few_stages in let stages = c.stages.ensures.value in omega (arith, few, stages)
 
 pub returns : goal.returns
 returns c = λ yes rows costs stage low.
@@ -55,7 +50,7 @@ returns c = λ yes rows costs stage low.
     let wide : stage < 8 = omega (arith, few, low) in
     let mask = c.args.proved.now.mask in
     let proved = cost_at c.args.proved.now.costs (8 * side_of bend back + stage) in
-    let known = c.are_known.ensures yes stage (omega (arith, stages, low)) in
+    let known = c.are_noted.ensures yes stage (omega (arith, stages, low)) in
     let attitude : c.attitude-attitude.result ≡ attitude_at job head.key.mask (record { bend = bend; back = back; stage = stage }) =
     c.attitude-attitude.ensures stage
     ∙ (ap (λ (j : JobData). attitude_at j mask (record { bend = bend; back = back; stage = stage })) c.requires.facts
@@ -71,8 +66,7 @@ returns c = λ yes rows costs stage low.
     omega (arith, whole, side, part, all) in
     let shut = c.below-unclosed.ensures.stages stage wide ∙ ap (nat_lt (slice_index c.plus.result.0 stage)) is.worth in
     lane_met job c.recall_valid.ensures rows head is.head bend back stage c.requires.first c.requires.last low
-    row.reasons.now row.held.now (Stages.has c.below-unclosed.result stage) (slice_index row.onward.0 stage) c.change-change.result proved (slice_index c.plus.result.0 stage)
-    (subst (λ (n : ℕ). IsKnown (noted_of row.reasons.now (n + stage)) (noted_of row.held.now (n + stage)) (Stages.has c.below-unclosed.result stage)) c.first_number.ensures.value known)
-    is.held
+    row.noted (Stages.has c.below-unclosed.result stage) (slice_index row.onward.0 stage) c.change-change.result proved (slice_index c.plus.result.0 stage)
+    (λ unclosed. sym (c.stages-noted.ensures.stages stage wide) ∙ known unclosed)
     (subst (λ (m : Mask). IsProvedCost job rows (key_behind job m bend back stage) proved) c.requires.same (costs back stage low))
     (is.onward.each stage low) turn sum shut

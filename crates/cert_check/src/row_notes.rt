@@ -1,0 +1,173 @@
+//! The notes of a certificate's rows: of each row the actions that are noted, and the first note
+//! whose reason doesn't hold. Each reason is tested where its note is read.
+ghost use Rattle.std.specs.Prelude.{◌≡◌, ◌-◌, ◌*◌, ◌<◌, ◌++◌, ◌∷◌, [], IfOk, IsTrue, OnOk, List, None, length};
+ghost use Rattle.job_setup.specs.Setup.{bend_count, stage_count};
+ghost use Rattle.plan_cert.specs.declared.cert.RowHead.{RowHead};
+ghost use Rattle.plan_cert.specs.declared.cert.Note.{Note};
+ghost use Rattle.cert_check.specs.RowNotes.{AreNoted, HasNoNotes, IsActionPut, IsAtRow, IsFirstUnsound, IsTesting, last_note, note_at};
+
+use crate::check_table::CheckTable;
+use crate::held_reasons::HeldReasons;
+use crate::rows::{action_at, action_count};
+use brake_base::{Mask, Reason};
+use job_setup::Job;
+use set_facts::LaneFacts;
+use stage_lanes::ActionSet;
+use std::alloc::{AllocError, Global};
+
+/// The place of a note: the number of its row, and that of its action.
+#[derive(Clone, Copy, Debug, PartialEq, Eq)]
+pub(crate) struct NotePlace {
+    pub row: usize,
+    pub action: u8,
+}
+
+/// The notes of a certificate's rows, as they are read.
+#[derive(Drop)]
+pub(crate) struct RowNotes {
+    /// What belongs to each set of folded bends.
+    pub table: CheckTable,
+    /// Reasons that hold where the bends of the last row are folded.
+    pub reasons: HeldReasons,
+    /// The noted actions of each row.
+    pub sets: Vec<ActionSet>,
+    /// The first note whose reason doesn't hold.
+    pub unsound: Option<NotePlace>,
+}
+
+impl RowNotes {
+    /// No row and no note.
+    pub fn open(alloc: Global, job: &Job) -> Result<RowNotes, AllocError>
+        ensures testing { IfOk result (IsTesting job.now) }
+        ensures none { IfOk result HasNoNotes }
+    {
+        let table = CheckTable::open(alloc, job)?;
+        let reasons = HeldReasons::of(job, table.facts(), Mask::empty());
+        Ok(RowNotes {
+            table,
+            reasons,
+            sets: Vec::new(alloc),
+            unsound: None,
+        })
+    }
+
+    /// What belongs to each set of folded bends.
+    pub fn facts(&self) -> &LaneFacts
+        ensures { result.now ≡ self.now.table }
+    {
+        self.table.facts()
+    }
+
+    /// A row more, without notes, where the bends of the mask are folded.
+    pub fn add_row(&mut self, job: &Job, mask: Mask) -> Result<(), AllocError>
+        requires testing { IsTesting job.now self.old }
+        ensures testing { OnOk result (IsTesting job.now self.new) }
+        ensures mask { OnOk result (self.new.reasons.mask ≡ mask) }
+        ensures sets { OnOk result ((rows : List RowHead) (head : RowHead) (notes : List Note)
+            → AreNoted job.now rows notes self.old.sets.items
+            → AreNoted job.now (rows ++ head ∷ []) notes self.new.sets.items) }
+        ensures unsound { OnOk result (self.new.unsound ≡ self.old.unsound) }
+    {
+        job.recall_valid();
+        self.sets.push(ActionSet::empty())?;
+        self.reasons.turn_to(job, self.table.facts(), mask);
+        Ok(())
+    }
+
+    /// A note more of the last row. One without a row, or of no action, is left out.
+    pub fn add_note(&mut self, job: &Job, action: u8, reason: Reason)
+        requires testing { IsTesting job.now self.old }
+        ensures testing { IsTesting job.now self.new }
+        ensures mask { self.new.reasons.mask ≡ self.old.reasons.mask }
+        ensures sets { (rows : List RowHead) (notes : List Note) → 0 < length rows
+            → action < 2 * bend_count job.now * stage_count job.now
+            → AreNoted job.now rows notes self.old.sets.items
+            → AreNoted job.now rows (notes ++ last_note self.old action reason ∷ [])
+            self.new.sets.items }
+        ensures unsound { (rows : List RowHead) (notes : List Note)
+            → 0 < length self.old.sets.items
+            → IsAtRow job.now rows self.old.reasons.mask (last_note self.old action reason)
+            → IsFirstUnsound job.now rows notes self.old.unsound
+            → IsFirstUnsound job.now rows (notes ++ last_note self.old action reason ∷ [])
+            self.new.unsound }
+    {
+        job.recall_valid();
+        if self.is_notable(job, action) {
+            let row = self.last_row();
+            put_action(job, self.sets.as_mut_slice(), row, action);
+            self.test(job, row, action, reason);
+        }
+    }
+
+    /// Whether there is a row, and the number is one of an action.
+    fn is_notable(&self, job: &Job, action: u8) -> bool
+        ensures row { IsTrue result → 0 < length self.now.sets.items }
+        ensures action { IsTrue result → action < 2 * bend_count job.now * stage_count job.now }
+        ensures all { 0 < length self.now.sets.items
+            → action < 2 * bend_count job.now * stage_count job.now → IsTrue result }
+    {
+        if self.sets.is_empty() {
+            false
+        } else {
+            action < action_count(job)
+        }
+    }
+
+    /// The number of the last row.
+    fn last_row(&self) -> usize
+        requires { 0 < length self.now.sets.items }
+        ensures { result ≡ length self.now.sets.items - 1 }
+    {
+        self.sets.len() - 1
+    }
+
+    /// Tests the reason of a note, unless one before it doesn't hold.
+    fn test(&mut self, job: &Job, row: usize, action: u8, reason: Reason)
+        requires testing { IsTesting job.now self.old }
+        requires action { action < 2 * bend_count job.now * stage_count job.now }
+        ensures testing { IsTesting job.now self.new }
+        ensures mask { self.new.reasons.mask ≡ self.old.reasons.mask }
+        ensures sets { self.new.sets.items ≡ self.old.sets.items }
+        ensures unsound { (rows : List RowHead) (notes : List Note)
+            → IsAtRow job.now rows self.old.reasons.mask (note_at row action reason)
+            → IsFirstUnsound job.now rows notes self.old.unsound
+            → IsFirstUnsound job.now rows (notes ++ note_at row action reason ∷ [])
+            self.new.unsound }
+    {
+        match self.unsound {
+            Some(_) => {}
+            None => self.test_next(job, row, action, reason),
+        }
+    }
+
+    /// The same where each note before it holds.
+    fn test_next(&mut self, job: &Job, row: usize, action: u8, reason: Reason)
+        requires testing { IsTesting job.now self.old }
+        requires action { action < 2 * bend_count job.now * stage_count job.now }
+        requires none { self.old.unsound ≡ None }
+        ensures testing { IsTesting job.now self.new }
+        ensures mask { self.new.reasons.mask ≡ self.old.reasons.mask }
+        ensures sets { self.new.sets.items ≡ self.old.sets.items }
+        ensures unsound { (rows : List RowHead) (notes : List Note)
+            → IsAtRow job.now rows self.old.reasons.mask (note_at row action reason)
+            → IsFirstUnsound job.now rows notes None
+            → IsFirstUnsound job.now rows (notes ++ note_at row action reason ∷ [])
+            self.new.unsound }
+    {
+        if !self.reasons.holds(job, &mut self.table, action, reason) {
+            self.unsound = Some(NotePlace { row, action });
+        }
+    }
+}
+
+/// The action of a number more in the set of a row.
+fn put_action(job: &Job, sets: &mut [ActionSet], row: usize, number: u8)
+    requires row { row < length sets.old }
+    requires number { number < 2 * bend_count job.now * stage_count job.now }
+    ensures { IsActionPut job.now row number sets.old sets.new }
+{
+    job.recall_valid();
+    let action = action_at(job, number);
+    let set = sets[row];
+    sets[row] = set.with(action);
+}
