@@ -1,0 +1,79 @@
+//! The text of the keys of a range of masks, settled over no base.
+
+use crate::set_writer::SetWriter;
+use crate::settled::{key_at, settle_sets};
+use crate::settled_sets::{SettledSets, proved_over};
+use brake_base::{Mask, Worth};
+use brake_text::put_word;
+use handling_cost::start_key;
+use job_setup::Job;
+use plan_cert::write_job;
+use set_facts::LaneFacts;
+use std::alloc::{AllocError, Global};
+
+/// Room for a row and its notes, in bytes. Most take less, and what isn't written costs nothing.
+const ROW_ROOM: usize = 320;
+
+/// The text of a settled table, with its number of rows and what they prove of the start.
+#[derive(Drop)]
+pub struct SettledText {
+    pub text: Vec<u8>,
+    pub rows: u32,
+    pub at_start: Worth,
+}
+
+/// The text of the table that [`settle`](crate::settle) gives over a table without rows.
+pub fn settle_text(
+    alloc: Global,
+    job: &Job,
+    low: u16,
+    high: u16,
+) -> Result<SettledText, AllocError>
+{
+    let facts = LaneFacts::open(alloc, job)?;
+    let settled = settle_sets(alloc, job, &facts, &[], low, high)?;
+    let mut text = beginning(alloc, job)?;
+    let rows = put_rows(alloc, job, &settled, low, high, &mut text)?;
+    put_word(&mut text, b"end\n")?;
+    Ok(SettledText {
+        text,
+        rows,
+        at_start: proved_over(job, &facts, &[], &settled, &start_key()),
+    })
+}
+
+/// The text of a table up to its rows.
+fn beginning(alloc: Global, job: &Job) -> Result<Vec<u8>, AllocError>
+{
+    let lines = write_job(alloc, job)?;
+    let mut text = Vec::new(alloc);
+    put_word(&mut text, b"brake-table 1\n")?;
+    put_word(&mut text, lines.as_slice())?;
+    Ok(text)
+}
+
+/// Appends the rows of the keys of a range that is settled, masks upwards, each with its notes. Their
+/// number.
+fn put_rows(
+    alloc: Global,
+    job: &Job,
+    settled: &SettledSets,
+    low: u16,
+    high: u16,
+    out: &mut Vec<u8>,
+) -> Result<u32, AllocError>
+{
+    job.recall_valid();
+    out.reserve((usize::from(high - low) + 1) * 24 * usize::from(job.stages()) * ROW_ROOM)?;
+    let mut writer = SetWriter::open(alloc, job, Mask(low), settled.set(Mask(low)))?;
+    let mut rows = 0;
+    for place in usize::from(low) * 144..(usize::from(high) + 1) * 144 {
+        if let Some(key) = key_at(job, place) {
+            let set = settled.set(key.mask);
+            writer.turn_to(job, key.mask, set)?;
+            writer.put_row(&key, set, out)?;
+            rows += 1;
+        }
+    }
+    Ok(rows)
+}
