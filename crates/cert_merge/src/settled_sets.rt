@@ -265,6 +265,7 @@ fn key_behind(job: &Job, facts: &LaneFacts, mask: Mask, action: Action) -> Key
     ensures key { (key : Key) → key.mask ≡ mask → result ≡ key_after job.now key action }
     ensures range { IsKeyOf job.now result }
 {
+    job.recall_valid();
     Key {
         mask: mask.union(group(job, mask, action.bend)),
         attitude: facts.attitude(mask, action.bend, action.back),
@@ -289,7 +290,7 @@ pub(crate) fn proved_over(
     ensures small { IsWorth result }
 {
     job.recall_valid();
-    let bound = bound_at(facts, key);
+    let bound = bound_at(job, facts, key);
     let by_base = at_least(Worth::Cost(bound), worth_of(base, key));
     let known = settled.worth(key);
     at_least(by_base, known)
@@ -306,10 +307,12 @@ fn at_least(worth: Worth, other: Option<Worth>) -> Worth
 }
 
 /// What every rest from a key costs at least.
-fn bound_at(facts: &LaneFacts, key: &Key) -> u64
-    requires key { IsKeyOf facts.now key.now }
-    ensures value { result ≡ bound_of facts.now key.now }
+fn bound_at(job: &Job, facts: &LaneFacts, key: &Key) -> u64
+    requires facts { job.now ≡ facts.now }
+    requires key { IsKeyOf job.now key.now }
+    ensures value { result ≡ bound_of job.now key.now }
     ensures small { result ≤ 1000000000 }
 {
+    job.recall_valid();
     u64::from(facts.bounds(key.mask).cost(key.stage))
 }

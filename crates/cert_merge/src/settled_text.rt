@@ -1,4 +1,11 @@
 //! The text of the keys of a range of masks, settled over no base.
+ghost use Rattle.std.specs.Prelude.{◌≡◌, ◌×◌, ◌+◌, ◌^◌, ◌<◌, ◌≤◌, ◌++◌, codes, IfOk};
+ghost use Rattle.brake_base.specs.declared.stroke.Key.{Key};
+ghost use Rattle.brake_base.specs.declared.stroke.Worth.{Worth};
+ghost use Rattle.job_setup.specs.Setup.{bend_count};
+ghost use Rattle.plan_cert.specs.JobText.{job_text};
+ghost use Rattle.cert_merge.specs.Settling.{AreSettledBy, HasSets};
+ghost use Rattle.cert_merge.specs.SettledText.{AreRowsPut, IsSettledText};
 
 use crate::set_writer::SetWriter;
 use crate::settled::{key_at, settle_sets};
@@ -14,7 +21,7 @@ use std::alloc::{AllocError, Global};
 /// Room for a row and its notes, in bytes. Most take less, and what isn't written costs nothing.
 const ROW_ROOM: usize = 320;
 
-/// The text of a settled table, with its number of rows and what they prove of the start.
+/// The text of a table, with its number of rows and what they prove of the start.
 #[derive(Drop)]
 pub struct SettledText {
     pub text: Vec<u8>,
@@ -22,14 +29,19 @@ pub struct SettledText {
     pub at_start: Worth,
 }
 
-/// The text of the table that [`settle`](crate::settle) gives over a table without rows.
+/// The text of every key whose mask is `low` to `high`, settled over no base: that of the table that
+/// [`settle`](crate::settle) gives over a table without rows, without the table.
 pub fn settle_text(
     alloc: Global,
     job: &Job,
     low: u16,
     high: u16,
 ) -> Result<SettledText, AllocError>
+    requires range { low ≤ high }
+    requires open { high + 1 < 2 ^ bend_count job.now }
+    ensures { IfOk result (IsSettledText job.now low high) }
 {
+    job.recall_valid();
     let facts = LaneFacts::open(alloc, job)?;
     let settled = settle_sets(alloc, job, &facts, &[], low, high)?;
     let mut text = beginning(alloc, job)?;
@@ -44,6 +56,8 @@ pub fn settle_text(
 
 /// The text of a table up to its rows.
 fn beginning(alloc: Global, job: &Job) -> Result<Vec<u8>, AllocError>
+    ensures { IfOk result (λ text. text.items
+        ≡ codes "brake-table 1\n" ++ job_text job.now) }
 {
     let lines = write_job(alloc, job)?;
     let mut text = Vec::new(alloc);
@@ -52,8 +66,8 @@ fn beginning(alloc: Global, job: &Job) -> Result<Vec<u8>, AllocError>
     Ok(text)
 }
 
-/// Appends the rows of the keys of a range that is settled, masks upwards, each with its notes. Their
-/// number.
+/// Appends the rows of the keys of a range that is settled, masks upwards, each with its notes. How
+/// many they are.
 fn put_rows(
     alloc: Global,
     job: &Job,
@@ -62,18 +76,29 @@ fn put_rows(
     high: u16,
     out: &mut Vec<u8>,
 ) -> Result<u32, AllocError>
+    requires range { HasSets low high settled.now }
+    requires settled { (proved : Key → Worth) × AreSettledBy job.now proved settled.now }
+    requires order { low ≤ high }
+    requires open { high + 1 < 2 ^ bend_count job.now }
+    ensures { IfOk result (AreRowsPut job.now low high settled.now out.old.items out.new.items) }
 {
     job.recall_valid();
-    out.reserve((usize::from(high - low) + 1) * 24 * usize::from(job.stages()) * ROW_ROOM)?;
-    let mut writer = SetWriter::open(alloc, job, Mask(low), settled.set(Mask(low)))?;
+    out.reserve(room(job, low, high))?;
+    let mut writer = SetWriter::open(alloc, job.stages(), settled, Mask(low))?;
     let mut rows = 0;
     for place in usize::from(low) * 144..(usize::from(high) + 1) * 144 {
         if let Some(key) = key_at(job, place) {
-            let set = settled.set(key.mask);
-            writer.turn_to(job, key.mask, set)?;
-            writer.put_row(&key, set, out)?;
+            writer.turn_to(job.stages(), settled, key.mask)?;
+            writer.put_row(settled, &key, out)?;
             rows += 1;
         }
     }
     Ok(rows)
+}
+
+/// Room for all rows of a range, in bytes.
+fn room(job: &Job, low: u16, high: u16) -> usize
+    requires { low ≤ high }
+{
+    (usize::from(high - low) + 1) * 24 * usize::from(job.stages()) * ROW_ROOM
 }
