@@ -13,14 +13,14 @@ use Rattle.handling_cost.proofs.Keys.{start_in_range}
 use Rattle.sweep_check.proofs.Ascending.{pairs_nil}
 use Rattle.brake_base.specs.Keys.{KeyIsBefore}
 use Rattle.plan_cert.specs.declared.cert.RowHead.{RowHead}
-use Rattle.plan_cert.specs.WellFormed.{NoteIsBefore}
+use Rattle.plan_cert.specs.WellFormed.{IsWorth, NoteIsBefore}
 use Rattle.plan_cert.specs.JobText.{job_text}
 use Rattle.plan_cert.specs.Lines.{lines_text}
 use Rattle.plan_cert.specs.CertText.{rows_lines, table_text}
 use Rattle.cert_merge.specs.declared.settled_sets.SettledSet.{SettledSet}
 use Rattle.cert_merge.specs.declared.settled_sets.SettledSets.{SettledSets}
 use Rattle.cert_merge.specs.declared.settled_text.SettledText.{SettledText}
-use Rattle.cert_merge.specs.Table.{TableData, IsTable, IsClosedTable}
+use Rattle.cert_merge.specs.Table.{TableData, IsTable}
 use Rattle.cert_merge.specs.TableTexts.{empty_table}
 use Rattle.cert_merge.specs.MergeSteps.{row_said, with_row, written}
 use Rattle.cert_merge.specs.Settling.{proved_over, said_by, said_in, AreSettled, AreSettledBy, HasSets, IsKeyAt, SaysSettled}
@@ -91,17 +91,15 @@ empty_is_table job valid = record {
   };
 }
 
-pub empty_is_closed : (job : JobData) → IsClosedTable job empty_table
-empty_is_closed job key worth (i, at) action here = absurd cc
-
 pub settled_text : (job : JobData) → IsJob job → (low high : ℕ) (settled : SettledSets) → HasSets low high settled → AreSettled job [] settled → (told : SettledText) (old new : List ℕ) → AreRowsPut job low high settled old new told.rows
-    → old ≡ codes "brake-table 1\n" ++ job_text job → told.text.items ≡ new ++ codes "end\n" → told.at_start ≡ proved_over job [] settled start → IsSettledText job low high told
-settled_text job is_job low high settled has are told old new put begun ended proves =
+    → old ≡ codes "brake-table 1\n" ++ job_text job → told.text.items ≡ new ++ codes "end\n" → told.at_start ≡ proved_over job [] settled start → IsWorth told.at_start → IsSettledText job low high told
+settled_text job is_job low high settled has are told old new put begun ended proves small =
     let table = put.table in
     let is_base = empty_is_table job is_job in
     let both = settled_merge job empty_table table table low high settled [] refl is_base has put.says are (λ key. refl) (λ j a b. b) in
     record {
       table = table;
+      small = small;
       tells = record {
         text_is = table_written job table.rows table.notes (stage_count job) [] (codes "brake-table 1\n") old new told.text.items refl refl refl begun put.text ended;
         rows_are = put.counted;

@@ -3,6 +3,7 @@ use Rattle.std.specs.Prelude.{◌≡◌, ℕ, ◌+◌, ◌<◌, ◌^◌, List, �
 use Rattle.job_setup.specs.Setup.{JobData, stage_count}
 use Rattle.handling_cost.specs.Plan.{start}
 use Rattle.plan_cert.specs.CertText.{table_text}
+use Rattle.plan_cert.specs.WellFormed.{IsWorth}
 use Rattle.cert_merge.specs.declared.settled_sets.SettledSets.{SettledSets}
 use Rattle.cert_merge.specs.declared.settled_text.SettledText.{SettledText}
 use Rattle.cert_merge.specs.Table.{TableData, IsTable}
@@ -23,6 +24,7 @@ pub record TellsTable (job : JobData) (t : TableData) (told : SettledText) : Typ
 pub record IsSettledText (job : JobData) (low high : ℕ) (told : SettledText) : Type 0 where
   pub table : TableData
   pub tells : TellsTable job table told
+  pub small : IsWorth told.at_start
   pub settled : IsSettled job empty_table low high table
   pub one : IsOneSettled job empty_table low high table
   pub form : IsTable job table
