@@ -1,5 +1,5 @@
 -- The least over the next keys of a set, from lanes.
-use Rattle.std.proofs.Common.{◌≡◌, inl, inr, ℕ, ◌+◌, ◌*◌, ◌<◌, ◌≤◌, nat_lt, Bool, true, false, List, [], length, set, get_or, replicate, Option, Some, None, refl, sym, ◌∙◌, ap, subst, arith}
+use Rattle.std.proofs.Common.{◌≡◌, inl, inr, ℕ, ◌+◌, ◌*◌, ◌<◌, ◌≤◌, ◌==◌, nat_lt, Bool, true, false, List, [], length, set, get_or, replicate, Option, Some, None, refl, sym, ◌∙◌, ap, subst, arith}
 use Rattle.std.specs.Prelude.{◌⊎◌, min, slice_index, if◌then◌else◌}
 use Rattle.std.proofs.lemmas.Bool.{cases_lt, lt-ltb, le-ltb}
 use Rattle.std.proofs.lemmas.Bool.Decides.{eqb_tells}
@@ -176,7 +176,7 @@ module _ (job : JobData) (is_job : IsJob job) (key : Key) (nexts : List (Option 
   below_is number less = ap (λ (b : Bool). if b then Cost number else Blocked) (lt-ltb number 1200000000 less)
 
   above_is : (number : ℕ) → 1200000000 ≤ number → worth_of number ≡ Blocked
-  above_is number more = ap (λ (b : Bool). if b then Cost number else Blocked) (le-ltb 1200000000 number more)
+  above_is number more = ap (λ (b : Bool). if b then Cost number else Blocked) (le-ltb number 1200000000 more)
 
   is_after : (number cost : ℕ) (proved : Worth) → number < 1200000000 → number ≡ cost + number_of proved → Cost number ≡ plus cost proved
   is_after number cost (Cost rest) less is = ap Cost is
@@ -211,10 +211,10 @@ module _ (job : JobData) (is_job : IsJob job) (key : Key) (nexts : List (Option 
   -- the worth that is found by lanes is the least
   pub settled_by_lanes : (proved changed : List StageCosts) (worth : Worth) → stage_count job ≤ 6 → key.stage < stage_count job → key.attitude < 24 → AreProved nexts proved → AreChanged job proved changed
       → IsSettledByLanes job key (lanes_of changed key.attitude) worth → IsLeastAfter job key nexts worth
-  settled_by_lanes proved changed worth few ranged turn are are_changed by = record {
-    least = worth_of by.number;
-    is_least = floor_worth by.number few ranged (number_floor by.ways (lanes_of changed key.attitude) by.number few by.are_ways (changed_floor proved (lanes_of changed key.attitude) are (are_changed key.attitude turn)) by.is_least);
-    is = by.is;
+  settled_by_lanes proved changed worth few ranged turn are are_changed found = record {
+    least = worth_of found.number;
+    is_least = floor_worth found.number few ranged (number_floor found.ways (lanes_of changed key.attitude) found.number few found.are_ways (changed_floor proved (lanes_of changed key.attitude) are (are_changed key.attitude turn)) found.is_least);
+    is = found.is;
   }
 
 -- ---- rows of lanes
@@ -284,3 +284,27 @@ lane_sums cost ways lanes sums least are is = record {
   );
   least = λ k low. let value = is.least k low in let sum = are k low in omega (arith, value, sum);
 }
+
+-- ---- one lane of a row is set
+module _ (rows : List StageCosts) (at attitude stage least : ℕ) (lanes : StageCosts) (count : length rows ≡ 24) (turn : attitude < 24) (here : at ≡ attitude) (with : AreLanes lanes.0 (λ s. if s == stage then least else slice_index (lanes_of rows at) s)) where
+  own_lane : (s : ℕ) → s < 8 → lane_at (set rows at lanes) attitude s ≡ (if s == stage then least else lane_at rows attitude s)
+  own_lane s low =
+      (λ i. lane_at (set rows at lanes) (sym here i) s)
+      ∙ (ap (λ (xs : List ℕ). slice_index xs s) (lanes_here rows at lanes (omega (arith, count, turn, here)))
+      ∙ (with s low ∙ (λ i. if s == stage then least else lane_at rows (here i) s)))
+
+  pub lane_lowered : (number : ℕ) → stage < 8 → least ≡ min (slice_index (lanes_of rows at) stage) number → lane_at (set rows at lanes) attitude stage ≡ min (lane_at rows attitude stage) number
+  lane_lowered number low is =
+      own_lane stage low
+      ∙ (ap (λ (b : Bool). if b then least else lane_at rows attitude stage) (elim (eqb_tells stage stage) [ inl same ↦ same.0 | inr apart ↦ absurd (apart.1 refl) ])
+      ∙ (is ∙ (λ i. min (lane_at rows (here i) stage) number)))
+
+  pub lane_left : (a s : ℕ) → s < 8 → (a ≡ attitude → s ≡ stage → ⊥) → lane_at (set rows at lanes) a s ≡ lane_at rows a s
+  lane_left a s low apart = elim (eqb_tells a attitude) [
+    | inl same ↦
+        (λ i. lane_at (set rows at lanes) (same.1 i) s)
+        ∙ (own_lane s low
+        ∙ (ap (λ (b : Bool). if b then least else lane_at rows attitude s) (elim (eqb_tells s stage) [ inl too ↦ absurd (apart same.1 too.1) | inr other ↦ other.0 ])
+        ∙ (λ i. lane_at rows (sym same.1 i) s)))
+    | inr other ↦ ap (λ (xs : List ℕ). slice_index xs s) (lanes_rest rows at a lanes (λ e. other.1 (e ∙ here)))
+  ]

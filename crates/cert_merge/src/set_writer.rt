@@ -54,6 +54,17 @@ impl SetWriter {
         if self.writer.mask() == mask {
             return Ok(());
         }
+        self.begin(stages, settled, mask)
+    }
+
+    /// Begins a set that is settled.
+    fn begin(&mut self, stages: u8, settled: &SettledSets, mask: Mask) -> Result<(), AllocError>
+        requires writable { CanBeWritten stages settled.now }
+        requires mask { IsAmong settled.now mask }
+        requires writer { IsWriterOf stages settled.now self.old }
+        ensures writer { OnOk result (IsWriterOf stages settled.now self.new) }
+        ensures mask { OnOk result (self.new.writer.mask ≡ mask) }
+    {
         self.writer.begin(mask)?;
         self.notes = set_reasons(&mut self.writer, stages, &settled.set(mask).reasons)?;
         Ok(())

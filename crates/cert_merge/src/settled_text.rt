@@ -1,5 +1,5 @@
 //! The text of the keys of a range of masks, settled over no base.
-ghost use Rattle.std.specs.Prelude.{◌≡◌, ◌×◌, ◌+◌, ◌^◌, ◌<◌, ◌≤◌, ◌++◌, codes, IfOk};
+ghost use Rattle.std.specs.Prelude.{◌≡◌, ◌+◌, ◌^◌, ◌<◌, ◌≤◌, ◌++◌, codes, IfOk};
 ghost use Rattle.brake_base.specs.declared.stroke.Key.{Key};
 ghost use Rattle.brake_base.specs.declared.stroke.Worth.{Worth};
 ghost use Rattle.job_setup.specs.Setup.{bend_count};
@@ -44,13 +44,14 @@ pub fn settle_text(
     job.recall_valid();
     let facts = LaneFacts::open(alloc, job)?;
     let settled = settle_sets(alloc, job, &facts, &[], low, high)?;
+    let at_start = proved_over(job, &facts, &[], &settled, &start_key());
     let mut text = beginning(alloc, job)?;
     let rows = put_rows(alloc, job, &settled, low, high, &mut text)?;
     put_word(&mut text, b"end\n")?;
     Ok(SettledText {
         text,
         rows,
-        at_start: proved_over(job, &facts, &[], &settled, &start_key()),
+        at_start,
     })
 }
 
@@ -83,12 +84,13 @@ fn put_rows(
     ensures { IfOk result (AreRowsPut job.now low high settled.now out.old.items out.new.items) }
 {
     job.recall_valid();
-    out.reserve(room(job, low, high))?;
-    let mut writer = SetWriter::open(alloc, job.stages(), settled, Mask(low))?;
+    let stages = job.stages();
+    out.reserve(room(stages, low, high))?;
+    let mut writer = SetWriter::open(alloc, stages, settled, Mask(low))?;
     let mut rows = 0;
     for place in usize::from(low) * 144..(usize::from(high) + 1) * 144 {
         if let Some(key) = key_at(job, place) {
-            writer.turn_to(job.stages(), settled, key.mask)?;
+            writer.turn_to(stages, settled, key.mask)?;
             writer.put_row(settled, &key, out)?;
             rows += 1;
         }
@@ -96,9 +98,9 @@ fn put_rows(
     Ok(rows)
 }
 
-/// Room for all rows of a range, in bytes.
-fn room(job: &Job, low: u16, high: u16) -> usize
+/// Room for all rows of a range on a machine of so many stages, in bytes.
+fn room(stages: u8, low: u16, high: u16) -> usize
     requires { low ≤ high }
 {
-    (usize::from(high - low) + 1) * 24 * usize::from(job.stages()) * ROW_ROOM
+    (usize::from(high - low) + 1) * 24 * usize::from(stages) * ROW_ROOM
 }

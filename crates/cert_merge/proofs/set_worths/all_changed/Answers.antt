@@ -4,7 +4,7 @@ use Rattle.cert_merge.proofs.LaneWorths.{never_rows, row_put, changed_put}
 use Rattle.cert_merge.proofs.set_worths.all_changed.Goals as goal
 
 pub loop-from-init : goal.loop-from-init
-loop-from-init c = record { rows = never_rows c.all.result c.all.ensures.lanes; done = λ from less. absurd (omega (arith, less)) }
+loop-from-init c = record { rows = never_rows c.all-changed.result c.all-changed.ensures.lanes; done = λ from less. absurd (omega (arith, less)) }
 
 pub loop-from-preserved : goal.loop-from-preserved
 loop-from-preserved c =

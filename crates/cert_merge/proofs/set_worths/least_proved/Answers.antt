@@ -8,8 +8,8 @@ use Rattle.cert_merge.proofs.set_worths.least_proved.Goals.{in-Some, in_default}
 
 pub loop-number-init : goal.loop-number-init
 loop-number-init c = record {
-  rows = never_rows c.all.result c.all.ensures.lanes;
-  below = proved_none c.args.nexts.now _ (all_never c.all.result c.all.ensures.lanes);
+  rows = never_rows c.all-proved.result c.all-proved.ensures.lanes;
+  below = proved_none c.args.nexts.now _ (all_never c.all-proved.result c.all-proved.ensures.lanes);
 }
 
 pub lower-requires-clause-stage : goal.lower-requires-clause-stage
