@@ -1,8 +1,9 @@
 -- The rows of the keys of a range as text, one by one in the order of their keys.
-use Rattle.std.proofs.Common.{◌≡◌, ℕ, ◌+◌, ◌*◌, ◌^◌, ◌<◌, ◌≤◌, List, [], ◌∷◌, ◌++◌, length, Option, Some, None, refl, sym, ◌∙◌, ap, subst, arith}
+use Rattle.std.proofs.Common.{◌≡◌, inl, inr, ℕ, ◌+◌, ◌-◌, ◌*◌, ◌^◌, ◌<◌, ◌≤◌, List, [], ◌∷◌, ◌++◌, length, Option, Some, None, refl, sym, ◌∙◌, ap, subst, arith}
 use Rattle.std.specs.Prelude.{codes}
 use Rattle.std.proofs.lemmas.List.{append-nil, length_push}
-use Rattle.std.proofs.lemmas.Option.{same_Some}
+use Rattle.std.proofs.lemmas.Option.{slice_get_cases}
+use Rattle.brake_base.specs.declared.mask.Mask.{Mask}
 use Rattle.brake_base.specs.declared.stroke.Key.{Key}
 use Rattle.brake_base.specs.declared.stroke.Worth.{Worth}
 use Rattle.job_setup.specs.Setup.{JobData, bend_count, stage_count}
@@ -23,10 +24,10 @@ use Rattle.cert_merge.specs.declared.settled_text.SettledText.{SettledText}
 use Rattle.cert_merge.specs.Table.{TableData, IsTable}
 use Rattle.cert_merge.specs.TableTexts.{empty_table}
 use Rattle.cert_merge.specs.MergeSteps.{row_said, with_row, written}
-use Rattle.cert_merge.specs.Settling.{proved_over, said_by, said_in, AreSettled, AreSettledBy, HasSets, IsKeyAt, SaysSettled}
+use Rattle.cert_merge.specs.Settling.{proved_over, said_by, said_in, AreSettled, AreSettledBy, HasSets, IsAmong, IsKeyAt, SaysSettled}
 use Rattle.cert_merge.specs.SetRows.{IsSetOf, row_of, rows_text, IsRowPut}
 use Rattle.cert_merge.specs.SettledText.{AreRowsPut, IsSettledText}
-use Rattle.cert_merge.proofs.SettledRows.{AreRowsBefore, none_before, row_on, none_on, notes_before, all_said}
+use Rattle.cert_merge.proofs.SettledRows.{AreRowsBefore, in_range, range_among, none_before, row_on, none_on, notes_before, all_said}
 use Rattle.cert_merge.proofs.SettledTable.{settled_merge, agree}
 use Rattle.cert_merge.proofs.SettledLaws.{settled_closed, settled_least}
 use Rattle.cert_merge.proofs.OneSettled.{settled_one}
@@ -50,6 +51,12 @@ put_none job low high settled place old new at same = record {
 }
 
 module _ (job : JobData) (is_job : IsJob job) (low high : ℕ) (settled : SettledSets) (has : HasSets low high settled) (below : high + 1 < 2 ^ bend_count job) (proved : Key → Worth) (are : AreSettledBy job proved settled) where
+  -- the mask of a key of the range is settled
+  pub key_among : (place : ℕ) (key : Key) → low * 144 ≤ place → place < (high + 1) * 144 → IsKeyAt job place (Some key) → IsAmong settled key.mask
+  key_among place key from less at =
+      let here = at.1 in
+      range_among job low high settled has key (in_range job is_job low high settled has below key at.0 (omega (arith, here, from)) (omega (arith, here, less)))
+
   -- the row of the next number
   pub put_more : (place : ℕ) (key : Key) (set : SettledSet) (old new after : List ℕ) (count : ℕ) → low * 144 ≤ place → place < (high + 1) * 144 → IsKeyAt job place (Some key) → key.mask.0 ≤ settled.high → IsSetOf settled key.mask set
       → IsRowPut (stage_count job) settled key new after → ArePutBefore job low high settled place old new count → ArePutBefore job low high settled (place + 1) old after (count + 1)
@@ -111,3 +118,10 @@ settled_text job is_job low high settled has are told old new put begun ended pr
       closed = settled_closed job empty_table table low high is_base both.1 both.0;
       least = settled_least job empty_table table low high is_base both.1 both.0;
     }
+
+-- there is a set of each mask that is settled
+pub set_there : (settled : SettledSets) (mask : Mask) → IsAmong settled mask → (set : SettledSet) × IsSetOf settled mask set
+set_there settled mask among = elim (slice_get_cases settled.sets.items (settled.high - mask.0)).1 [
+  | inl found ↦ (found.0, found.2)
+  | inr past ↦ let within = among.within in let from = past.0 in absurd (omega (arith, within, from))
+]

@@ -66,7 +66,8 @@ impl SetWriter {
         ensures mask { OnOk result (self.new.writer.mask ≡ mask) }
     {
         self.writer.begin(mask)?;
-        self.notes = set_reasons(&mut self.writer, stages, &settled.set(mask).reasons)?;
+        let notes = set_reasons(&mut self.writer, stages, &settled.set(mask).reasons)?;
+        self.notes = notes;
         Ok(())
     }
 
@@ -80,9 +81,9 @@ impl SetWriter {
         requires mask { key.now.mask ≡ self.old.writer.mask }
         requires settled { IsAmong settled.now key.now.mask }
         requires stage { key.now.stage < self.old.writer.stages }
-        requires few { self.old.writer.stages ≤ 6 }
         requires worth { (set : SettledSet) → IsSetOf settled.now key.now.mask set
             → IsWorth (said_by set key.now).worth }
+        requires writable { CanBeWritten self.old.writer.stages settled.now }
         requires writer { IsWriterOf self.old.writer.stages settled.now self.old }
         ensures writer { self.new.writer ≡ self.old.writer }
         ensures notes { self.new.notes ≡ self.old.notes }

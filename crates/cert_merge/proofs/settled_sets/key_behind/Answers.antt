@@ -1,4 +1,4 @@
-use Rattle.std.proofs.Common.{◌≡◌, ◌+◌, ◌-◌, ◌<◌, ◌≤◌, ◌∙◌, ℕ, length, refl, sym, subst, ap, arith}
+use Rattle.std.proofs.Common.{◌≡◌, ◌^◌, ◌<◌, ◌≤◌, ◌∙◌, refl, sym, subst, ap, arith}
 use Rattle.brake_base.specs.declared.mask.Mask.{Mask}
 use Rattle.brake_base.specs.declared.stroke.Key.{Key}
 use Rattle.brake_base.specs.Masks.{union}
@@ -8,7 +8,7 @@ use Rattle.handling_cost.proofs.Keys.{some_stage, next_in_range}
 use Rattle.cert_merge.proofs.settled_sets.key_behind.Goals as goal
 
 -- the key of the mask at its first place
-abbrev first_key : (mask : Mask) → Key
+abbrev first_key : Mask → Key
 first_key mask = record { mask = mask; attitude = 0; stage = 0 }
 
 pub group-requires-clause-some : goal.group-requires-clause-some
