@@ -295,16 +295,20 @@ module _ (rows : List StageCosts) (at attitude stage least : ℕ) (lanes : Stage
 
   pub lane_lowered : (number : ℕ) → stage < 8 → least ≡ min (slice_index (lanes_of rows at) stage) number → lane_at (set rows at lanes) attitude stage ≡ min (lane_at rows attitude stage) number
   lane_lowered number low is =
+      let test : (stage == stage) ≡ true = elim (eqb_tells stage stage) [ inl same ↦ same.0 | inr apart ↦ absurd (apart.1 refl) ] in
       own_lane stage low
-      ∙ (ap (λ (b : Bool). if b then least else lane_at rows attitude stage) (elim (eqb_tells stage stage) [ inl same ↦ same.0 | inr apart ↦ absurd (apart.1 refl) ])
+      ∙ (ap (λ (b : Bool). if b then least else lane_at rows attitude stage) test
       ∙ (is ∙ (λ i. min (lane_at rows (here i) stage) number)))
 
   pub lane_left : (a s : ℕ) → s < 8 → (a ≡ attitude → s ≡ stage → ⊥) → lane_at (set rows at lanes) a s ≡ lane_at rows a s
   lane_left a s low apart = elim (eqb_tells a attitude) [
     | inl same ↦
+        let test : (s == stage) ≡ false = elim (eqb_tells s stage) [ inl too ↦ absurd (apart same.1 too.1) | inr other ↦ other.0 ] in
         (λ i. lane_at (set rows at lanes) (same.1 i) s)
         ∙ (own_lane s low
-        ∙ (ap (λ (b : Bool). if b then least else lane_at rows attitude s) (elim (eqb_tells s stage) [ inl too ↦ absurd (apart same.1 too.1) | inr other ↦ other.0 ])
+        ∙ (ap (λ (b : Bool). if b then least else lane_at rows attitude s) test
         ∙ (λ i. lane_at rows (sym same.1 i) s)))
-    | inr other ↦ ap (λ (xs : List ℕ). slice_index xs s) (lanes_rest rows at a lanes (λ e. other.1 (e ∙ here)))
+    | inr other ↦
+        let same : lanes_of (set rows at lanes) a ≡ lanes_of rows a = lanes_rest rows at a lanes (λ e. other.1 (e ∙ here)) in
+        ap (λ (xs : List ℕ). slice_index xs s) same
   ]

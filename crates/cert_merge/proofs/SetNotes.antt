@@ -192,15 +192,15 @@ module _ (said : SetNotes) (reasons : List (Option Reason)) (notes : ActionSet) 
       by_has : (b : Bool) → has_place notes place ≡ b → (o : Option Reason) → reason_by (number_at said.stages place) ≡ o → map (note_at said row) (filter (has_place notes) (place ∷ [])) ≡ noted_as row (number_at said.stages place) o
       by_has true is o e =
           ap (map (note_at said row)) (keep (has_place notes) place is) ∙ ap (noted_as row (number_at said.stages place)) (sym (are.noted place within is).1 ∙ e)
-      by_has false no None e = ap (map (note_at said row)) (skip (has_place notes) place no)
-      by_has false no (Some reason) e = absurd (false≢true (sym no ∙ are.all place reason within stage e))
+      by_has false fails None e = ap (map (note_at said row)) (skip (has_place notes) place fails)
+      by_has false fails (Some reason) e = absurd (false≢true (sym fails ∙ are.all place reason within stage e))
 
   no_place : (place : ℕ) → place < 192 → said.stages ≤ place % 8 → map (note_at said row) (filter (has_place notes) (place ∷ [])) ≡ []
   no_place place within past = by_has (has_place notes place) refl
     where
       by_has : (b : Bool) → has_place notes place ≡ b → map (note_at said row) (filter (has_place notes) (place ∷ [])) ≡ []
       by_has true is = let stage = (are.noted place within is).0 in absurd (omega (arith, stage, past))
-      by_has false no = ap (map (note_at said row)) (skip (has_place notes) place no)
+      by_has false fails = ap (map (note_at said row)) (skip (has_place notes) place fails)
 
   upto : (place : ℕ) → place ≤ 192 → map (note_at said row) (filter (has_place notes) (numbers_below place)) ≡ notes_upto row reason_by (numbers_of said.stages place)
   upto zero low = ap (notes_upto row reason_by) none
@@ -239,9 +239,16 @@ module _ (said : SetNotes) (reasons : List (Option Reason)) (notes : ActionSet) 
       by_reason (Some reason) e = let low = (writable number reason e).0 in absurd (omega (arith, low, past))
 
   more_numbers : (count more : ℕ) → 24 * said.stages ≤ count → notes_upto row reason_by (more + count) ≡ notes_upto row reason_by count
-  more_numbers count zero past = refl
+  more_numbers count zero past = ap (notes_upto row reason_by) sum
+    where
+      sum : 0 + count ≡ count
+      sum = omega arith
   more_numbers count (suc more) past =
-      (λ i. more_numbers count more past i ++ noted_as row (more + count) (none_past (more + count) (omega (arith, past)) i)) ∙ append-nil (notes_upto row reason_by count)
+      ap (notes_upto row reason_by) sum
+      ∙ ((λ i. more_numbers count more past i ++ noted_as row (more + count) (none_past (more + count) (omega (arith, past)) i)) ∙ append-nil (notes_upto row reason_by count))
+    where
+      sum : suc more + count ≡ suc (more + count)
+      sum = omega arith
 
   -- the notes of the set at a row are those of a table's row
   pub same_notes : notes_of said row notes ≡ notes_upto row reason_by most_actions

@@ -6,7 +6,7 @@ ghost use Rattle.brake_base.specs.declared.stroke.Worth.TheVariants.{Blocked};
 ghost use Rattle.brake_base.specs.Worths.{IsAtMost};
 ghost use Rattle.fold_boxes.specs.Places.{ArePlaces};
 ghost use Rattle.job_setup.specs.Setup.{bend_count, stage_count, shape_of};
-ghost use Rattle.handling_cost.specs.StepCost.{IsKeyOf};
+ghost use Rattle.handling_cost.specs.StepCost.{IsKeyOf, IsActionAt, key_after};
 ghost use Rattle.handling_cost.specs.Bound.{bound_of};
 ghost use Rattle.plan_cert.specs.Lines.{action_at};
 ghost use Rattle.plan_cert.specs.WellFormed.{AreRowsOf, IsWorth};

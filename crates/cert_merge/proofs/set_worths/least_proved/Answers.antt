@@ -1,4 +1,4 @@
-use Rattle.std.proofs.Common.{◌≡◌, ◌+◌, ◌≤◌, ◌∙◌, ℕ, List, sym, subst, arith}
+use Rattle.std.proofs.Common.{◌≡◌, ◌+◌, ◌≤◌, ◌∙◌, ℕ, List, replicate, sym, subst, arith}
 use Rattle.stage_lanes.specs.declared.costs.StageCosts.{StageCosts}
 use Rattle.plan_cert.proofs.RowOrder.{few_stages}
 use Rattle.cert_merge.specs.SetWorths.{AreLaneRows}
@@ -9,7 +9,7 @@ use Rattle.cert_merge.proofs.set_worths.least_proved.Goals.{in-Some, in_default}
 pub loop-number-init : goal.loop-number-init
 loop-number-init c = record {
   rows = never_rows c.all-proved.result c.all-proved.ensures.lanes;
-  below = proved_none c.args.nexts.now _ (all_never c.all-proved.result c.all-proved.ensures.lanes);
+  below = proved_none c.args.nexts.now (replicate 24 c.all-proved.result) (all_never c.all-proved.result c.all-proved.ensures.lanes);
 }
 
 pub lower-requires-clause-stage : goal.lower-requires-clause-stage

@@ -22,7 +22,26 @@ pub with-notes-requires : goal.with-notes-requires
 with-notes-requires c = let few = c.requires.few in among_eight c.args.stages c.action_of-action.result (omega (arith, few)) c.action_of-action.ensures.action
 
 pub loop-number-preserved : goal.loop-number-preserved
-loop-number-preserved c = ?
+loop-number-preserved c =
+    let number = c.loop-number.number in
+    let reasons = c.args.reasons.now in
+    let stages = c.args.stages in
+    let before = c.loop-number.writer in
+    let notes = c.loop-number.notes in
+    let so_far = c.loop-number.invariant in
+    elim c.match-reason_of.branch [
+      | in-Some+in_ok-set_reason w ↦
+          rw (w.writer-is, w.notes-is) (record {
+            mask = w.set_reason.ensures.mask ∙ so_far.mask;
+            told = notes_more reasons stages number before w.set_reason.new.self notes w.with-notes.result w.action_of-action.result w.in-Some.reason c.requires.few w.action_of-action.ensures.action w.action_of-action.ensures.value
+                (sym w.in-Some.ensures) w.set_reason.ensures.stages w.in_ok-set_reason.ensures.known w.in_ok-set_reason.ensures.reasons w.with-notes.ensures.places so_far.told;
+          })
+      | in_default w ↦
+          rw (w.writer-is, w.notes-is) (record {
+            mask = so_far.mask;
+            told = notes_same reasons stages number before notes (sym c.reason_of.ensures ∙ w.in_default.is) so_far.told;
+          })
+    ]
 
 pub returns-clause-notes : goal.returns-clause-notes
 returns-clause-notes c = notes_all c.args.reasons.now c.args.stages c.loop-number.number c.loop-number.writer c.loop-number.notes c.requires.reasons (let end = c.loop-number-test.false in omega (arith, end)) c.loop-number.invariant.told
