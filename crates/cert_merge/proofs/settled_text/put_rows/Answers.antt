@@ -9,13 +9,13 @@ use Rattle.cert_merge.proofs.PutRows.{ArePutBefore, key_among, put_none, put_mor
 use Rattle.cert_merge.proofs.settled_text.put_rows.Goals as goal
 use Rattle.cert_merge.proofs.settled_text.put_rows.Goals.{in-Some+in_ok-turn_to+in_ok-put_row, in_default}
 
-pub open-writer-requires-clause-writable : goal.open-writer-requires-clause-writable
-open-writer-requires-clause-writable c =
+pub open-requires-clause-writable : goal.open-requires-clause-writable
+open-requires-clause-writable c =
     let are = c.requires.settled in
     subst (λ (n : ℕ). CanBeWritten n c.args.settled.now) (sym c.stages-stages.ensures.value) (can_be_written c.args.job.now c.recall_valid.ensures c.args.low c.args.high c.args.settled.now c.requires.range c.requires.open are.0 are.1)
 
-pub open-writer-requires-clause-mask : goal.open-writer-requires-clause-mask
-open-writer-requires-clause-mask c =
+pub open-requires-clause-mask : goal.open-requires-clause-mask
+open-requires-clause-mask c =
     let top = c.requires.range.top in
     let count = c.requires.range.count in
     let order = c.requires.order in
@@ -76,7 +76,16 @@ put_row-requires-clause-writable c =
     subst (λ (n : ℕ). CanBeWritten n c.args.settled.now) (sym (c.in_ok-turn_to.ensures.writer.its_stages ∙ c.stages-stages.ensures.value)) (can_be_written c.args.job.now c.recall_valid.ensures c.args.low c.args.high c.args.settled.now c.requires.range c.requires.open are.0 are.1)
 
 pub put_row-requires-clause-writer : goal.put_row-requires-clause-writer
-put_row-requires-clause-writer c = subst (λ (n : ℕ). IsWriterOf n c.args.settled.now c.turn_to.new.writer) (sym c.in_ok-turn_to.ensures.writer.its_stages) c.in_ok-turn_to.ensures.writer
+put_row-requires-clause-writer c = subst (λ (n : ℕ). IsWriterOf n c.args.settled.now c.turn_to.new.self) (sym c.in_ok-turn_to.ensures.writer.its_stages) c.in_ok-turn_to.ensures.writer
+
+-- there are no more rows than keys
+pub overflow_add-rows : goal.overflow_add-rows
+overflow_add-rows c =
+    let are = c.requires.settled in
+    let so_far = c.loop-place.invariant.rows in
+    let few = few_before c.args.job.now c.recall_valid.ensures c.args.low c.args.high c.args.settled.now c.requires.range c.requires.open are.0 are.1 c.loop-place.place so_far.table so_far.before in
+    let counted = so_far.counted in
+    omega (arith, few, counted)
 
 pub loop-place-preserved : goal.loop-place-preserved
 loop-place-preserved c =
@@ -97,7 +106,7 @@ loop-place-preserved c =
           let set = set_there settled key.mask among in
           let put = subst (λ (n : ℕ). IsRowPut n settled key c.loop-place.out.items w.put_row.new.out.items) stages w.in_ok-put_row.ensures.text in
           record {
-            writer = subst (λ (x : SetWriter). IsWriterOf c.stages-stages.result settled x) (sym w.writer-is) (writer_kept settled c.stages-stages.result w.turn_to.new.writer w.put_row.new.writer w.put_row.ensures.writer w.put_row.ensures.notes w.in_ok-turn_to.ensures.writer);
+            writer = subst (λ (x : SetWriter). IsWriterOf c.stages-stages.result settled x) (sym w.writer-is) (writer_kept settled c.stages-stages.result w.turn_to.new.self w.put_row.new.self w.put_row.ensures.writer w.put_row.ensures.notes w.in_ok-turn_to.ensures.writer);
             rows = rw (w.out-is, w.rows-is)
                 (put_more job c.recall_valid.ensures c.args.low c.args.high settled c.requires.range c.requires.open are.0 are.1 place key set.0 c.args.out.now.items c.loop-place.out.items w.put_row.new.out.items c.loop-place.rows
                 (omega (arith, low, from)) (omega (arith, high, less)) w.in-Some.ensures among.high set.1 put so_far.rows);
