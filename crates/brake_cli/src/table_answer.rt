@@ -91,12 +91,7 @@ pub fn table_answer(
         ≡ table_answer (map stored_data stored.items) job.now (table_data table.now)) }
     ensures status { IfOk result (λ answer. ¬ IsCutShort answer.status) }
 {
-    told_answer(
-        alloc,
-        stored,
-        table.rows.len(),
-        proved_at_start(job, table),
-    )
+    told_answer(alloc, stored, table.rows.len(), proved_at_start(job, table))
 }
 
 /// A text to be stored under this name.
