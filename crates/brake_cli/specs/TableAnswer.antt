@@ -29,7 +29,8 @@ abbrev pub proved_line : Worth → List ℕ
 proved_line (Cost cost) = at_least_line cost
 proved_line Blocked = no_plan_line
 
--- the answer that tells so many rows and a worth that they prove of the start, and stores these texts
+-- the answer that tells so many rows and a worth that they prove of the start, and stores these
+-- texts
 abbrev pub told_answer : List StoredData → ℕ → Worth → AnswerData
 told_answer stored rows worth =
     record {

@@ -74,8 +74,10 @@ abbrev pub AreChanged : JobData → List StageCosts → List StageCosts → Type
 AreChanged job proved changed = (from : ℕ) → from < 24
     → AreChangedFrom job proved from (lanes_of changed from)
 
--- the worth is that of the least, over the stages, of a stroke, the way there and what its lane has
-pub record IsSettledByLanes (job : JobData) (key : Key) (lanes : List ℕ) (worth : Worth) : Type 0 where
+-- the worth is that of the least, over the stages, of a stroke, the way there and what its lane
+-- has
+pub record IsSettledByLanes (job : JobData) (key : Key) (lanes : List ℕ) (worth : Worth)
+    : Type 0 where
   pub ways : List ℕ
   pub are_ways : HasWays job key.mask key.stage ways
   pub number : ℕ

@@ -1,7 +1,7 @@
-//! The worths of the keys of a set, for eight stages at once. The next keys of all keys of a set are
-//! the same, and a step costs what its change of attitude and its way to a stage cost. So the least
-//! is found in steps: by attitude and stage what is proved there, then over the attitudes, then over
-//! the stages.
+//! The worths of the keys of a set, for eight stages at once. The next keys of all keys of a set
+//! are the same, and a step costs what its change of attitude and its way to a stage cost. So the
+//! least is found in steps: by attitude and stage what is proved there, then over the attitudes,
+//! then over the stages.
 ghost use Rattle.std.specs.Prelude.{◌≡◌, ℕ, ◌+◌, ◌<◌, ◌≤◌, min, List, [], length, Option, Some, None, slice_index, slice_index_or};
 ghost use Rattle.brake_base.specs.declared.stroke.Key.{Key};
 ghost use Rattle.brake_base.specs.declared.stroke.Worth.TheVariants.{Blocked};

@@ -29,8 +29,8 @@ pub struct SettledText {
     pub at_start: Worth,
 }
 
-/// The text of every key whose mask is `low` to `high`, settled over no base: that of the table that
-/// [`settle`](crate::settle) gives over a table without rows, without the table.
+/// The text of every key whose mask is `low` to `high`, settled over no base: that of the table
+/// that [`settle`](crate::settle) gives over a table without rows, without the table.
 pub fn settle_text(alloc: Global, job: &Job, low: u16, high: u16) -> Result<SettledText, AllocError>
     requires range { low ≤ high }
     requires open { high + 1 < 2 ^ bend_count job.now }
