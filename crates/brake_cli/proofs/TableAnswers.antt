@@ -1,11 +1,7 @@
 -- From what the calls on tables say to what the commands answer.
-use Rattle.std.proofs.Common.{◌≡◌, ◌⊎◌, inl, inr, ℕ, List, [], Ok, Err, arith, sym, subst}
+use Rattle.std.proofs.Common.{◌≡◌, ◌⊎◌, inl, inr, ℕ, List, [], ◌∷◌, ◌∙◌, Ok, Err, arith, sym, subst}
 use Rattle.std.specs.Prelude.{codes}
-use Rattle.brake_base.specs.Keys.{KeyIsBefore}
 use Rattle.job_setup.specs.Setup.{JobData}
-use Rattle.job_setup.specs.ValidJob.{IsJob}
-use Rattle.sweep_check.proofs.Ascending.{pairs_nil}
-use Rattle.plan_cert.specs.WellFormed.{NoteIsBefore}
 use Rattle.plan_cert.specs.declared.item.CertFault.{CertFault}
 use Rattle.plan_cert.specs.declared.item.CertFault.TheVariants as cert
 use Rattle.cert_merge.specs.declared.checked.TableFault.{TableFault}
@@ -13,7 +9,10 @@ use Rattle.cert_merge.specs.Table.{TableData, TableFileData, IsTable, IsClosedTa
 use Rattle.cert_merge.specs.TableTexts.{table_file_of, empty_table, IsTextOfTable}
 use Rattle.cert_merge.specs.TableChecks.{IsTableFault}
 use Rattle.cert_merge.specs.Merged.{IsMerged, KeepsForm, KeepsClosed}
+use Rattle.cert_merge.specs.declared.settled_text.SettledText.{SettledText}
 use Rattle.cert_merge.specs.Settled.{IsSettled, StaysClosed, ProvesLeast}
+use Rattle.cert_merge.specs.SettledText.{IsSettledText}
+use Rattle.cert_merge.proofs.SettledLaws.{empty_closed}
 use Rattle.cert_merge.proofs.TableChecking.{closed_is_true}
 use Rattle.command_runner.specs.declared.status.Status.TheVariants as status
 use Rattle.command_runner.specs.Answers.{AnswerData, one_text, refusal}
@@ -21,28 +20,13 @@ use Rattle.brake_cli.specs.declared.table_check.TableStop.{TableStop}
 use Rattle.brake_cli.specs.declared.table_check.TableStop.TheVariants as stop
 use Rattle.brake_cli.specs.TableCheck.{TableChecksTo, table_refused_line, AnswersTable}
 use Rattle.brake_cli.specs.TableStops.{of_cert_fault, of_table_fault, ChecksTable, IsTableRefusalAnd}
-use Rattle.brake_cli.specs.TableAnswer.{IsTrueTable, stored_table_answer, AnswersOneJob}
+use Rattle.brake_cli.specs.TableAnswer.{IsTrueTable, told_answer, stored_table_answer, AnswersOneJob}
 use Rattle.brake_cli.specs.MergeAnswer.{IsMergedAnswer}
 use Rattle.brake_cli.specs.SettleAnswer.{IsRange, AnswersRange, IsSettledAnswer}
 
 -- a table's text is that of a table of its job
 pub table_of_text : (file : TableFileData) (text : List ℕ) → IsTextOfTable file text → IsTable file.job file.table
 table_of_text file text is = record { valid = is.valid; rows = is.rows }
-
--- a table without rows
-pub empty_is_table : (job : JobData) → IsJob job → IsTable job empty_table
-empty_is_table job valid = record {
-  valid = valid;
-  rows = record {
-    each_row = λ k d within. absurd (omega (arith, within));
-    row_order = pairs_nil KeyIsBefore;
-    each_note = λ k d within. absurd (omega (arith, within));
-    note_order = pairs_nil NoteIsBefore;
-  };
-}
-
-pub empty_is_closed : (job : JobData) → IsClosedTable job empty_table
-empty_is_closed job key worth (i, at) action here = absurd cc
 
 -- the stop at a text that is no table's, unless memory ran out
 abbrev NoTable : List ℕ → CertFault → Type 0
@@ -111,6 +95,13 @@ settled_answers name low high base job settled answer base_closed is_settled for
   least = least;
   is_answer = is;
 }
+
+-- the answer by what is settled over no base, of which the text is at hand
+pub settled_text_answers : (name : List ℕ) (low high : ℕ) (job : JobData) (told : SettledText) (answer : AnswerData) → IsSettledText job low high told → answer ≡ told_answer (record { name = name; text = told.text.items } ∷ []) told.rows told.at_start
+    → IsSettledAnswer name low high empty_table job answer
+settled_text_answers name low high job told answer of is =
+    settled_answers name low high empty_table job of.table answer (empty_closed job) of.settled of.form of.closed of.least
+    (is ∙ (λ i. told_answer (record { name = name; text = of.tells.text_is i } ∷ []) (of.tells.rows_are i) (of.tells.start_is i)))
 
 -- the answer to a range of the job's sets
 pub range_answers : (low high : ℕ) (P : JobData → AnswerData → Type 0) (job : JobData) (answer : AnswerData) → IsRange low high job → P job answer → AnswersRange low high P job answer

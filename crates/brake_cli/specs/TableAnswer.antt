@@ -29,15 +29,21 @@ abbrev pub proved_line : Worth → List ℕ
 proved_line (Cost cost) = at_least_line cost
 proved_line Blocked = no_plan_line
 
+-- the answer that tells so many rows and a worth that they prove of the start, and stores these
+-- texts
+abbrev pub told_answer : List StoredData → ℕ → Worth → AnswerData
+told_answer stored rows worth =
+    record {
+      stored = stored;
+      status = claim_status worth;
+      texts = rows_line rows ∷ proved_line worth ∷ [];
+    }
+
 -- the answer that tells a table's number of rows and what they prove of the start, and stores these
 -- texts
 abbrev pub table_answer : List StoredData → JobData → TableData → AnswerData
 table_answer stored job table =
-    record {
-      stored = stored;
-      status = claim_status (proved_at_start job table);
-      texts = rows_line (length table.rows) ∷ proved_line (proved_at_start job table) ∷ [];
-    }
+    told_answer stored (length table.rows) (proved_at_start job table)
 
 -- the answer that also stores the table's text under a name
 abbrev pub stored_table_answer : List ℕ → JobData → TableData → AnswerData

@@ -14,9 +14,9 @@ ghost use Rattle.brake_cli.specs.SettleAnswer.{IsRange, AnswersRange, IsSettledA
 
 use crate::job_files::{content_at, is_one_job, job_at};
 use crate::refusal::stopped;
-use crate::table_answer::{other_job, stored_table_answer};
+use crate::table_answer::{other_job, settled_text_answer, stored_table_answer};
 use crate::table_check::{checked_table, table_stopped};
-use cert_merge::{Table, TableFile, settle};
+use cert_merge::{Table, TableFile, settle, settle_text};
 use command_runner::{Answer, Status, refusal};
 use job_setup::Job;
 use std::alloc::{AllocError, Global};
@@ -44,16 +44,6 @@ fn range_refused(alloc: Global) -> Result<Answer, AllocError>
     ensures status { IfOk result (λ answer. ¬ IsCutShort answer.status) }
 {
     refusal(alloc, Status::Refused, b"refused range", &[])
-}
-
-/// A table without rows.
-fn no_rows(alloc: Global) -> Table
-    ensures { table_data result ≡ empty_table }
-{
-    Table {
-        rows: Vec::new(alloc),
-        notes: Vec::new(alloc),
-    }
 }
 
 /// The answer to a range of a job over a closed base.
@@ -116,6 +106,22 @@ fn answer_over(
     }
 }
 
+/// The answer to a range of a job, over no base.
+fn answer_over_none(
+    alloc: Global,
+    name: &str,
+    range: Range,
+    job: &Job,
+) -> Result<Answer, AllocError>
+    requires range { IsRange range.low range.high job.now }
+    ensures answer { IfOk result (λ answer. IsSettledAnswer name.now range.low range.high
+        empty_table job.now (answer_data answer)) }
+    ensures status { IfOk result (λ answer. ¬ IsCutShort answer.status) }
+{
+    let settled = settle_text(alloc, job, range.low, range.high)?;
+    settled_text_answer(alloc, name, settled)
+}
+
 /// The answer to a job, over no base.
 fn answer_to_job(alloc: Global, name: &str, range: Range, job: &Job) -> Result<Answer, AllocError>
     ensures answer { IfOk result (λ answer. AnswersRange range.low range.high
@@ -125,7 +131,7 @@ fn answer_to_job(alloc: Global, name: &str, range: Range, job: &Job) -> Result<A
 {
     job.recall_valid();
     if range.is_of(job) {
-        settled_answer(alloc, name, range, &no_rows(alloc), job)
+        answer_over_none(alloc, name, range, job)
     } else {
         range_refused(alloc)
     }

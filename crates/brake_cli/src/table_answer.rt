@@ -1,16 +1,16 @@
 //! What is told of a table.
-ghost use Rattle.std.specs.Prelude.{◌≡◌, ◌<◌, ◌≤◌, ◌^◌, [], codes, map, IfOk};
+ghost use Rattle.std.specs.Prelude.{◌≡◌, ◌<◌, ◌≤◌, ◌^◌, [], ◌∷◌, codes, map, IfOk};
 ghost use Rattle.plan_cert.specs.WellFormed.{IsWorth};
 ghost use Rattle.cert_merge.specs.Table.{table_data, IsTable};
 ghost use Rattle.command_runner.specs.declared.status.Status.TheVariants as status;
 ghost use Rattle.command_runner.specs.Answers.{answer_data, stored_data, refusal};
 ghost use Rattle.command_runner.specs.Delivery.{IsCutShort};
-ghost use Rattle.brake_cli.specs.TableAnswer.{rows_line, at_least_line, proved_line, table_answer, stored_table_answer};
+ghost use Rattle.brake_cli.specs.TableAnswer.{rows_line, at_least_line, proved_line, told_answer, table_answer, stored_table_answer};
 
 use crate::plan::claim_status;
 use brake_base::Worth;
 use brake_text::put_word;
-use cert_merge::{Table, proved_at_start, write_table};
+use cert_merge::{SettledText, Table, proved_at_start, write_table};
 use command_runner::{Answer, Status, StoredText, refusal};
 use job_setup::Job;
 use plan_cert::put_count;
@@ -54,6 +54,30 @@ fn proved_line(alloc: Global, worth: Worth) -> Result<Vec<u8>, AllocError>
     }
 }
 
+/// The answer that tells so many rows and a worth that they prove of the start, and stores these
+/// texts.
+fn told_answer(
+    alloc: Global,
+    stored: Vec<StoredText>,
+    rows: usize,
+    worth: Worth,
+) -> Result<Answer, AllocError>
+    requires rows { rows < 2 ^ 63 }
+    requires worth { IsWorth worth }
+    ensures answer { IfOk result (λ answer. answer_data answer
+        ≡ told_answer (map stored_data stored.items) rows worth) }
+    ensures status { IfOk result (λ answer. ¬ IsCutShort answer.status) }
+{
+    let mut texts = Vec::new(alloc);
+    texts.push(rows_line(alloc, rows)?)?;
+    texts.push(proved_line(alloc, worth)?)?;
+    Ok(Answer {
+        stored,
+        status: claim_status(worth),
+        texts,
+    })
+}
+
 /// The answer that tells a table's number of rows and what they prove of the start, and stores these
 /// texts.
 pub fn table_answer(
@@ -67,15 +91,20 @@ pub fn table_answer(
         ≡ table_answer (map stored_data stored.items) job.now (table_data table.now)) }
     ensures status { IfOk result (λ answer. ¬ IsCutShort answer.status) }
 {
-    let worth = proved_at_start(job, table);
-    let mut texts = Vec::new(alloc);
-    texts.push(rows_line(alloc, table.rows.len())?)?;
-    texts.push(proved_line(alloc, worth)?)?;
-    Ok(Answer {
-        stored,
-        status: claim_status(worth),
-        texts,
-    })
+    told_answer(alloc, stored, table.rows.len(), proved_at_start(job, table))
+}
+
+/// A text to be stored under this name.
+fn one_stored(alloc: Global, name: &str, text: Vec<u8>) -> Result<Vec<StoredText>, AllocError>
+    ensures { IfOk result (λ stored. map stored_data stored.items
+        ≡ record { name = name.now; text = text.items } ∷ []) }
+{
+    let mut stored = Vec::new(alloc);
+    stored.push(StoredText {
+        name: String::from_str(alloc, name)?,
+        text,
+    })?;
+    Ok(stored)
 }
 
 /// The answer that also stores the table's text under this name.
@@ -90,12 +119,25 @@ pub fn stored_table_answer(
         ≡ stored_table_answer name.now job.now (table_data table.now)) }
     ensures status { IfOk result (λ answer. ¬ IsCutShort answer.status) }
 {
-    let mut stored = Vec::new(alloc);
-    stored.push(StoredText {
-        name: String::from_str(alloc, name)?,
-        text: write_table(alloc, job, table)?,
-    })?;
+    let stored = one_stored(alloc, name, write_table(alloc, job, table)?)?;
     table_answer(alloc, stored, job, table)
+}
+
+/// The same of a table that is given as its text, with what is told of it.
+pub fn settled_text_answer(
+    alloc: Global,
+    name: &str,
+    settled: SettledText,
+) -> Result<Answer, AllocError>
+    requires rows { settled.rows < 2 ^ 32 }
+    requires worth { IsWorth settled.at_start }
+    ensures answer { IfOk result (λ answer. answer_data answer
+        ≡ told_answer (record { name = name.now; text = settled.text.items } ∷ []) settled.rows
+        settled.at_start) }
+    ensures status { IfOk result (λ answer. ¬ IsCutShort answer.status) }
+{
+    let stored = one_stored(alloc, name, settled.text)?;
+    told_answer(alloc, stored, settled.rows as usize, settled.at_start)
 }
 
 /// The answer that a table is of another job.

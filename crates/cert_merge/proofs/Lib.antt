@@ -23,3 +23,7 @@ pub mod SettledWorths
 pub mod SettledRows
 pub mod SettledTable
 pub mod OneSettled
+pub mod Floors
+pub mod LaneWorths
+pub mod SetNotes
+pub mod PutRows

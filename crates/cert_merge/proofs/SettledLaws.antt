@@ -70,7 +70,7 @@ module _ (job : JobData) (base t : TableData) (low high : ℕ) (is_base : IsTabl
   settled_closed closed = merged_closed_over job base is.new t is_base is.new_rows.form is_t is.merged closed new_met
 
 -- a table without rows is closed
-empty_closed : (job : JobData) → IsClosedTable job empty_table
+pub empty_closed : (job : JobData) → IsClosedTable job empty_table
 empty_closed job key worth (i, at) action here = absurd cc
 
 -- every key at which a bend is unfolded is settled over the table itself

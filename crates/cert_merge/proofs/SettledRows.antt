@@ -1,6 +1,6 @@
 -- The rows of the keys of a range, one by one in the order of their keys.
 use Rattle.std.proofs.Common.{◌≡◌, inl, inr, ℕ, zero, suc, ◌+◌, ◌-◌, ◌*◌, ◌^◌, ◌<◌, ◌≤◌, Bool, true, false, List, [], ◌∷◌, ◌++◌, length, get_or, Option, Some, None, refl, sym, ◌∙◌, ap, subst, arith}
-use Rattle.std.specs.Prelude.{◌⊎◌, if◌then◌else◌}
+use Rattle.std.specs.Prelude.{◌⊎◌, All, if◌then◌else◌}
 use Rattle.std.proofs.lemmas.Bool.{cases_lt, cases_eq}
 use Rattle.std.proofs.lemmas.List.Elements.{All-nil}
 use Rattle.std.proofs.lemmas.Nat.{mul-le}
@@ -112,7 +112,7 @@ unfitted : (o : Option Reason) → ((reason : Reason) → o ≡ Some reason → 
 unfitted None never = refl
 unfitted (Some reason) never = absurd (never reason refl)
 
-noted_holds : (job : JobData) (proved : Key → Worth) (key : Key) (said : Settled) → IsSettledBy job proved key said → (action : ℕ) (reason : Reason) → said.reasons action ≡ Some reason → IsReasonFor job key.mask (action_at (stage_count job) action) reason
+pub noted_holds : (job : JobData) (proved : Key → Worth) (key : Key) (said : Settled) → IsSettledBy job proved key said → (action : ℕ) (reason : Reason) → said.reasons action ≡ Some reason → IsReasonFor job key.mask (action_at (stage_count job) action) reason
 unfolding IsReasonFor
 noted_holds job proved key said of action reason e = (subst (IsFirstFor job key.mask (action_at (stage_count job) action)) e ((of.noted action).here ((of.noted action).only reason e))).holds
 
@@ -267,6 +267,12 @@ module _ (job : JobData) (is_job : IsJob job) (low high : ℕ) (settled : Settle
       let few = few_rows job is_job (heads so_far.rows) (record { each = form.each_row; order = form.row_order }) in
       let same : length t.rows ≡ length (heads so_far.rows) = ap (λ (x : TableData). length x.rows) so_far.written in
       omega (arith, few, same)
+
+  -- each note is of one of the rows
+  pub notes_before : (proved : Key → Worth) → AreSettledBy job proved settled → (place : ℕ) (t : TableData) → AreRowsBefore job low high settled place t → All (λ note. note.row < length t.rows) t.notes
+  notes_before proved are place t so_far =
+      let form = rows_form job so_far.rows so_far.up (each_kept (IsRowBefore job low high settled place) (IsSaidOf job) (may_stand proved are place) so_far.rows so_far.each) in
+      subst (λ (x : TableData). All (λ note. note.row < length x.rows) x.notes) (sym so_far.written) (λ k d within. (form.each_note k d within).row)
 
   pub all_said : (proved : Key → Worth) → AreSettledBy job proved settled → (place : ℕ) (t : TableData) → (high + 1) * 144 ≤ place → AreRowsBefore job low high settled place t → SaysSettled job low high settled t
   all_said proved are place t end so_far =

@@ -100,7 +100,7 @@ among_said settled key among = elim (slice_get_cases settled.sets.items (settled
 
 -- ---- the new rows of a settled table are settled's
 module _ (job : JobData) (base new t : TableData) (low high : ℕ) (settled : SettledSets) (is_base : IsTable job base) (is_t : IsTable job t) (has : HasSets low high settled) (says : SaysSettled job low high settled new) (are : AreSettled job base.rows settled) (is : IsMerged base new t) where
-  agree : (key : Key) → IsKeyOf job key → proved_over job base.rows settled key ≡ proved_by job t.rows key
+  pub agree : (key : Key) → IsKeyOf job key → proved_over job base.rows settled key ≡ proved_by job t.rows key
   agree key ranged =
       ap (with_said (proved_by job base.rows key)) (sym (says.same key ranged)) ∙ sym (merged_proves job base new t is_base is_t is key)
 

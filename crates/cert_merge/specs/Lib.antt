@@ -8,3 +8,6 @@ pub mod SetActions
 pub mod TableTexts
 pub mod Settled
 pub mod Settling
+pub mod SetWorths
+pub mod SetRows
+pub mod SettledText

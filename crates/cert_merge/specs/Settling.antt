@@ -96,8 +96,9 @@ abbrev pub AreNext : JobData → (Key → Worth) → Key → (ℕ → Option Rea
 AreNext job proved key reasons next =
     (number : ℕ) → IsNextOf job proved key reasons number (slice_index_or next number None)
 
--- a next key whose stage is one of the job's, and of which a worth of a row is proved
+-- a next key whose numbers are in range, and of which a worth of a row is proved
 pub record IsReady (job : JobData) (next : NextKey) : Type 0 where
+  pub attitude : next.key.attitude < 24
   pub stage : next.key.stage < stage_count job
   pub proved : IsWorth next.proved
 

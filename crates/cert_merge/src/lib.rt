@@ -5,13 +5,17 @@ mod checked;
 mod merged;
 mod noted_row;
 mod set_actions;
+mod set_worths;
+mod set_writer;
 mod settled;
 mod settled_sets;
+mod settled_text;
 mod table;
 mod texts;
 
 pub use checked::{TableFault, check_table, proved_at_start};
 pub use merged::merge;
 pub use settled::settle;
+pub use settled_text::{SettledText, settle_text};
 pub use table::{Table, TableFile};
 pub use texts::{read_table, write_table};

@@ -1,5 +1,5 @@
 //! The settling of all keys of a range of masks.
-ghost use Rattle.std.specs.Prelude.{◌+◌, ◌^◌, ◌<◌, ◌≤◌, IfOk};
+ghost use Rattle.std.specs.Prelude.{◌≡◌, ◌+◌, ◌^◌, ◌<◌, ◌≤◌, IfOk};
 ghost use Rattle.brake_base.specs.declared.stroke.Key.{Key};
 ghost use Rattle.brake_base.specs.declared.stroke.Worth.{Worth};
 ghost use Rattle.job_setup.specs.Setup.{bend_count};
@@ -16,7 +16,7 @@ use crate::table::Table;
 use brake_base::{Key, Mask, Turn};
 use job_setup::Job;
 use plan_cert::RowHead;
-use set_facts::FactTable;
+use set_facts::LaneFacts;
 use std::alloc::{AllocError, Global};
 use stroke_table::StrokeTable;
 
@@ -46,19 +46,22 @@ pub fn settle(
     ensures least { IfOk result (λ settled.
         ProvesLeast job.now (table_data base.now) low high (table_data settled)) }
 {
-    let settled = settle_sets(alloc, job, base.rows.as_slice(), low, high)?;
+    let facts = LaneFacts::open(alloc, job)?;
+    let settled = settle_sets(alloc, job, &facts, base.rows.as_slice(), low, high)?;
     let new = settled_rows(alloc, job, &settled, low, high)?;
     merge(alloc, base, &new)
 }
 
 /// Settles the sets of a range, from the highest mask downwards.
-fn settle_sets(
+pub(crate) fn settle_sets(
     alloc: Global,
     job: &Job,
+    facts: &LaneFacts,
     base: &[RowHead],
     low: u16,
     high: u16,
 ) -> Result<SettledSets, AllocError>
+    requires facts { job.now ≡ facts.now }
     requires base { AreRowsOf job.now base.now }
     requires range { low ≤ high }
     requires open { high + 1 < 2 ^ bend_count job.now }
@@ -67,14 +70,13 @@ fn settle_sets(
 {
     job.recall_valid();
     let mut strokes = StrokeTable::open(alloc, job)?;
-    let mut facts = FactTable::open(alloc, job)?;
     let mut settled = SettledSets {
         high,
         sets: Vec::new(alloc),
     };
     for below in 0..high - low + 1 {
         let mask = Mask(high - below);
-        let set = settle_set(job, &mut strokes, &mut facts, base, &settled, mask);
+        let set = settle_set(job, &mut strokes, facts, base, &settled, mask);
         settled.sets.push(set)?;
     }
     Ok(settled)
@@ -106,7 +108,7 @@ fn settled_rows(
 
 /// The key of a number: each mask has 144, by the attitude and then by the stage. None where the
 /// job hasn't so many stages.
-fn key_at(job: &Job, place: usize) -> Option<Key>
+pub(crate) fn key_at(job: &Job, place: usize) -> Option<Key>
     requires { place < key_count job.now }
     ensures { IsKeyAt job.now place result }
 {

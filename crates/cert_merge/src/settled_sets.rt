@@ -6,7 +6,7 @@ ghost use Rattle.brake_base.specs.declared.stroke.Worth.TheVariants.{Blocked};
 ghost use Rattle.brake_base.specs.Worths.{IsAtMost};
 ghost use Rattle.fold_boxes.specs.Places.{ArePlaces};
 ghost use Rattle.job_setup.specs.Setup.{bend_count, stage_count, shape_of};
-ghost use Rattle.handling_cost.specs.StepCost.{IsKeyOf};
+ghost use Rattle.handling_cost.specs.StepCost.{IsKeyOf, IsActionAt, key_after};
 ghost use Rattle.handling_cost.specs.Bound.{bound_of};
 ghost use Rattle.plan_cert.specs.Lines.{action_at};
 ghost use Rattle.plan_cert.specs.WellFormed.{AreRowsOf, IsWorth};
@@ -14,18 +14,16 @@ ghost use Rattle.cert_merge.specs.MergeSteps.{row_said};
 ghost use Rattle.cert_merge.specs.Settled.{AreFirstNoted, IsFirstNoted, IsFirstFor, capped};
 ghost use Rattle.cert_merge.specs.Settling.{AreNext, AreReady, AreSettled, IsAmong, IsLeastAfter, IsNextOf, IsReady, IsSettledSet, place_in_set, proved_over, said_by, said_in, with_worth, worth_after};
 
-use crate::checked::{action_at, action_count, after_cost, greater, worth_of};
+use crate::checked::{action_at, action_count, greater, worth_of};
 use crate::noted_row::NotedRow;
-use brake_base::{Key, Mask, Place, Reason, Turn, Worth};
+use crate::set_worths::set_worths;
+use brake_base::{Action, Key, Mask, Place, Reason, Turn, Worth};
 use fold_boxes::place;
-use handling_cost::{cost_to, is_lead, next_key};
-use job_setup::Job;
+use handling_cost::is_lead;
+use job_setup::{Job, group};
 use plan_cert::RowHead;
-use set_facts::FactTable;
+use set_facts::LaneFacts;
 use stroke_table::StrokeTable;
-
-/// The greatest number that a row may have, in tenths of a second.
-const GREATEST_WORTH: u64 = 1_000_000_000;
 
 /// The rows of all keys of a set.
 #[derive(Clone, Copy, Debug)]
@@ -61,6 +59,14 @@ fn place_in_set(key: &Key) -> usize
 }
 
 impl SettledSet {
+    /// The worth of a key of the set.
+    pub fn worth(&self, key: &Key) -> Worth
+        requires { key.now.stage < 6 }
+        ensures { result ≡ (said_by self.now key.now).worth }
+    {
+        self.worths[place_in_set(key)]
+    }
+
     /// The row of a key of the set.
     fn row(&self, key: &Key) -> NotedRow
         requires { key.now.stage < 6 }
@@ -69,7 +75,7 @@ impl SettledSet {
         NotedRow {
             head: RowHead {
                 key: *key,
-                worth: self.worths[place_in_set(key)],
+                worth: self.worth(key),
             },
             reasons: self.reasons,
         }
@@ -83,7 +89,7 @@ impl SettledSets {
         ensures { result ≡ option_map (λ said. said.worth) (said_in self.now key.now) }
     {
         if self.is_settled(key.mask) {
-            Some(self.row(key).head.worth)
+            Some(self.set(key.mask).worth(key))
         } else {
             None
         }
@@ -107,7 +113,7 @@ impl SettledSets {
     }
 
     /// The set of a mask that is settled.
-    fn set(&self, mask: Mask) -> &SettledSet
+    pub fn set(&self, mask: Mask) -> &SettledSet
         requires { IsAmong self.now mask }
         ensures { slice_get self.now.sets.items (self.now.high - mask.0) ≡ Some result.now }
     {
@@ -119,23 +125,22 @@ impl SettledSets {
 pub(crate) fn settle_set(
     job: &Job,
     strokes: &mut StrokeTable,
-    facts: &mut FactTable,
+    facts: &LaneFacts,
     base: &[RowHead],
     settled: &SettledSets,
     mask: Mask,
 ) -> SettledSet
     requires strokes { job.now ≡ strokes.old }
-    requires facts { job.now ≡ facts.old }
+    requires facts { job.now ≡ facts.now }
     requires base { AreRowsOf job.now base.now }
     requires settled { AreSettled job.now base.now settled.now }
     requires mask { mask.0 < 2 ^ bend_count job.now }
     ensures set { IsSettledSet job.now (proved_over job.now base.now settled.now) mask result }
     ensures strokes { strokes.new ≡ strokes.old }
-    ensures facts { facts.new ≡ facts.old }
 {
     let reasons = first_reasons(job, strokes, mask);
     let nexts = next_keys(job, facts, base, settled, mask, &reasons);
-    let worths = set_worths(job, mask, &nexts);
+    let worths = set_worths(job, facts, mask, &nexts);
     SettledSet { reasons, worths }
 }
 
@@ -181,8 +186,7 @@ fn first_reason_of(
     job.recall_valid();
     let action = action_at(job, number);
     if is_lead(job, mask, action.bend) {
-        let found = strokes.stroke_at(job, places, mask, action);
-        found.reason
+        strokes.reason_at(job, places, mask, action)
     } else {
         None
     }
@@ -191,13 +195,13 @@ fn first_reason_of(
 /// Where the legal actions lead, and what is proved there, by the numbers of the actions.
 fn next_keys(
     job: &Job,
-    facts: &mut FactTable,
+    facts: &LaneFacts,
     base: &[RowHead],
     settled: &SettledSets,
     mask: Mask,
     reasons: &[Option<Reason>; 144],
 ) -> [Option<NextKey>; 144]
-    requires facts { job.now ≡ facts.old }
+    requires facts { job.now ≡ facts.now }
     requires base { AreRowsOf job.now base.now }
     requires settled { AreSettled job.now base.now settled.now }
     requires mask { mask.0 < 2 ^ bend_count job.now }
@@ -205,7 +209,6 @@ fn next_keys(
         (proved_over job.now base.now settled.now) key
         (λ action. slice_index_or reasons.now action None) result }
     ensures ready { AreReady job.now result }
-    ensures facts { facts.new ≡ facts.old }
 {
     let mut nexts = [None; 144];
     for number in 0..action_count(job) {
@@ -227,13 +230,13 @@ fn is_unnoted(reasons: &[Option<Reason>; 144], number: u8) -> bool
 /// Where the action of a number leads, where it can be tried, and what is proved there.
 fn next_of(
     job: &Job,
-    facts: &mut FactTable,
+    facts: &LaneFacts,
     base: &[RowHead],
     settled: &SettledSets,
     mask: Mask,
     number: u8,
 ) -> Option<NextKey>
-    requires facts { job.now ≡ facts.old }
+    requires facts { job.now ≡ facts.now }
     requires base { AreRowsOf job.now base.now }
     requires settled { AreSettled job.now base.now settled.now }
     requires mask { mask.0 < 2 ^ bend_count job.now }
@@ -242,12 +245,11 @@ fn next_of(
         → reasons number ≡ None → IsNextOf job.now
         (proved_over job.now base.now settled.now) key reasons number result }
     ensures ready { IfSome result (IsReady job.now) }
-    ensures facts { facts.new ≡ facts.old }
 {
     job.recall_valid();
     let action = action_at(job, number);
     if is_lead(job, mask, action.bend) {
-        let key = next_key(job, first_key(mask), action);
+        let key = key_behind(job, facts, mask, action);
         let proved = proved_over(job, facts, base, settled, &key);
         Some(NextKey { key, proved })
     } else {
@@ -255,33 +257,37 @@ fn next_of(
     }
 }
 
-/// A key of the mask.
-fn first_key(mask: Mask) -> Key
-    ensures { result ≡ record { mask = mask; attitude = 0; stage = 0 } }
+/// The key to which an action leads where the bends of the mask are folded.
+fn key_behind(job: &Job, facts: &LaneFacts, mask: Mask, action: Action) -> Key
+    requires facts { job.now ≡ facts.now }
+    requires mask { mask.0 < 2 ^ bend_count job.now }
+    requires action { (key : Key) → key.mask ≡ mask → IsActionAt job.now key action }
+    ensures key { (key : Key) → key.mask ≡ mask → result ≡ key_after job.now key action }
+    ensures range { IsKeyOf job.now result }
 {
+    job.recall_valid();
     Key {
-        mask,
-        attitude: Turn::from_number(0),
-        stage: 0,
+        mask: mask.union(group(job, mask, action.bend)),
+        attitude: facts.attitude(mask, action.bend, action.back),
+        stage: action.stage,
     }
 }
 
 /// What is proved of a key: the greatest of its bound, of the worth of its row in the base, and of
 /// what is settled of it.
-fn proved_over(
+pub(crate) fn proved_over(
     job: &Job,
-    facts: &mut FactTable,
+    facts: &LaneFacts,
     base: &[RowHead],
     settled: &SettledSets,
     key: &Key,
 ) -> Worth
-    requires facts { job.now ≡ facts.old }
+    requires facts { job.now ≡ facts.now }
     requires base { AreRowsOf job.now base.now }
     requires settled { AreSettled job.now base.now settled.now }
     requires key { IsKeyOf job.now key.now }
     ensures value { result ≡ proved_over job.now base.now settled.now key.now }
     ensures small { IsWorth result }
-    ensures facts { facts.new ≡ facts.old }
 {
     job.recall_valid();
     let bound = bound_at(job, facts, key);
@@ -301,91 +307,12 @@ fn at_least(worth: Worth, other: Option<Worth>) -> Worth
 }
 
 /// What every rest from a key costs at least.
-fn bound_at(job: &Job, facts: &mut FactTable, key: &Key) -> u64
-    requires facts { job.now ≡ facts.old }
+fn bound_at(job: &Job, facts: &LaneFacts, key: &Key) -> u64
+    requires facts { job.now ≡ facts.now }
     requires key { IsKeyOf job.now key.now }
     ensures value { result ≡ bound_of job.now key.now }
-    ensures small { result ≤ 18000000 }
-    ensures facts { facts.new ≡ facts.old }
+    ensures small { result ≤ 1000000000 }
 {
     job.recall_valid();
-    let facts = facts.facts(key.mask);
-    u64::from(facts.bound(key.stage))
-}
-
-/// The worths of the keys of a mask.
-fn set_worths(job: &Job, mask: Mask, nexts: &[Option<NextKey>; 144]) -> [Worth; 144]
-    requires { AreReady job.now nexts.now }
-    ensures { (key : Key) → IsKeyOf job.now key → key.mask ≡ mask
-        → IsLeastAfter job.now key nexts.now (slice_index_or result (place_in_set key) Blocked) }
-{
-    job.recall_valid();
-    let mut worths = [Worth::Blocked; 144];
-    for place in 0..144u8 {
-        if place % 6 < job.stages() {
-            let key = Key {
-                mask,
-                attitude: Turn::from_number(place / 6),
-                stage: place % 6,
-            };
-            worths[usize::from(place)] = settled_worth(job, &key, nexts);
-        }
-    }
-    worths
-}
-
-/// The least of step cost and what is proved of the next key, over the legal actions.
-fn settled_worth(job: &Job, key: &Key, nexts: &[Option<NextKey>; 144]) -> Worth
-    requires stage { key.now.stage < stage_count job.now }
-    requires next { AreReady job.now nexts.now }
-    ensures { IsLeastAfter job.now key.now nexts.now result }
-{
-    let mut least = Worth::Blocked;
-    for number in 0..action_count(job) {
-        if let Some(next) = next_at(nexts, number) {
-            least = lesser(least, worth_after(job, key, &next));
-        }
-    }
-    capped(least)
-}
-
-/// Where the action of a number leads.
-fn next_at(nexts: &[Option<NextKey>; 144], number: u8) -> Option<NextKey>
-    requires { number < 144 }
-    ensures { result ≡ slice_index_or nexts.now number None }
-{
-    nexts[usize::from(number)]
-}
-
-/// The step cost to a next key and then what is proved of it.
-fn worth_after(job: &Job, key: &Key, next: &NextKey) -> Worth
-    requires stage { key.now.stage < stage_count job.now }
-    requires next { IsReady job.now next.now }
-    ensures { result ≡ worth_after job.now key.now next.now }
-{
-    let cost = cost_to(job, key, next.key.attitude, next.key.stage);
-    after_cost(cost, next.proved)
-}
-
-/// The lesser of two worths.
-fn lesser(first: Worth, second: Worth) -> Worth
-    ensures either { (result ≡ first) ⊎ (result ≡ second) }
-    ensures first { IsAtMost result first }
-    ensures second { IsAtMost result second }
-{
-    if first.is_at_most(second) {
-        first
-    } else {
-        second
-    }
-}
-
-/// A worth that a row may have.
-fn capped(worth: Worth) -> Worth
-    ensures { result ≡ capped worth }
-{
-    match worth {
-        Worth::Cost(cost) => Worth::Cost(cost.min(GREATEST_WORTH)),
-        Worth::Blocked => Worth::Blocked,
-    }
+    u64::from(facts.bounds(key.mask).cost(key.stage))
 }

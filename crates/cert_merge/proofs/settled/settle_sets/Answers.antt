@@ -14,7 +14,6 @@ loop-below-init c =
       count = ap (λ (sets : List SettledSet). length sets) c.new.ensures.items;
       settled = none_settled c.args.job.now (proved_over c.args.job.now c.args.base.now start) start c.new.ensures.items;
       strokes = c.in_ok-strokes.ensures;
-      facts = c.in_ok-facts.ensures;
     }
 
 pub loop-below-preserved : goal.loop-below-preserved
@@ -34,7 +33,6 @@ loop-below-preserved c =
       count = omega (arith, more, count);
       settled = settled_on old new set refl items c.args.job.now c.recall_valid.ensures c.args.base.now (record { 0 = c.args.high - c.loop-below.below }) so_far.settled c.settle_set-set.ensures.set (omega (arith, count, top, less, range));
       strokes = c.settle_set-set.ensures.strokes ∙ so_far.strokes;
-      facts = c.settle_set-set.ensures.facts ∙ so_far.facts;
     }
 
 pub returns-clause-range : goal.returns-clause-range

@@ -9,5 +9,4 @@ invariant-loop-below l = record {
   count : length l.settled.sets.items ≡ l.below;
   settled : AreSettled l.job l.base l.settled;
   strokes : l.strokes ≡ l.job;
-  facts : l.facts ≡ l.job;
 }

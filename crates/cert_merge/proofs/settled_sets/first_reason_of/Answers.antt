@@ -23,8 +23,8 @@ is_lead-requires-clause-bend c =
     let bend = ap (λ (a : Action). a.bend) c.action_at-action.ensures in
     omega (arith, first, last, bend)
 
-pub stroke_at-found-requires-clause-last : goal.stroke_at-found-requires-clause-last
-stroke_at-found-requires-clause-last c =
+pub reason_at-requires-clause-last : goal.reason_at-requires-clause-last
+reason_at-requires-clause-last c =
     let job = c.args.job.now in
     let both = bend_of_number (bend_count job) (stage_count job) c.args.number c.requires.number in
     let first = both.0 in
@@ -32,12 +32,12 @@ stroke_at-found-requires-clause-last c =
     let bend = ap (λ (a : Action). a.bend) c.action_at-action.ensures in
     omega (arith, first, last, bend)
 
-pub stroke_at-found-requires-clause-flat : goal.stroke_at-found-requires-clause-flat
-stroke_at-found-requires-clause-flat c = (lead_is c.args.job.now c.args.mask c.action_at-action.result.bend (sym c.is_lead.ensures ∙ c.if-is_lead.true)).flat
+pub reason_at-requires-clause-flat : goal.reason_at-requires-clause-flat
+reason_at-requires-clause-flat c = (lead_is c.args.job.now c.args.mask c.action_at-action.result.bend (sym c.is_lead.ensures ∙ c.if-is_lead.true)).flat
 
 pub returns-then-is_lead-clause-reason : goal.returns-then-is_lead-clause-reason
 returns-then-is_lead-clause-reason c =
-    first_found c.args.job.now c.args.mask c.args.number c.action_at-action.result c.stroke_at-found.result.reason c.requires.number c.action_at-action.ensures (sym c.is_lead.ensures ∙ c.if-is_lead.true) c.stroke_at-found.ensures.stroke.reason
+    first_found c.args.job.now c.args.mask c.args.number c.action_at-action.result c.reason_at.result c.requires.number c.action_at-action.ensures (sym c.is_lead.ensures ∙ c.if-is_lead.true) c.reason_at.ensures.reason
 
 pub returns-else-is_lead-clause-reason : goal.returns-else-is_lead-clause-reason
 returns-else-is_lead-clause-reason c = none_found c.args.job.now c.args.mask c.args.number c.action_at-action.result c.action_at-action.ensures (sym c.is_lead.ensures ∙ c.if-is_lead.false)

@@ -11,7 +11,6 @@ pub loop-number-init : goal.loop-number-init
 loop-number-init c = record {
   count = refl;
   filled = filled_none (IsNextAt c.args.job.now (proved_over c.args.job.now c.args.base.now c.args.settled.now) c.args.mask (λ action. slice_index_or c.args.reasons.now action None)) 144;
-  facts = refl;
 }
 
 pub loop-number-preserved : goal.loop-number-preserved
@@ -32,14 +31,12 @@ loop-number-preserved c =
           record {
             count = ap (λ (xs : List (Option NextKey)). length xs) w.nexts-is ∙ (length-set nexts w.from.result w.next_of.result ∙ count);
             filled = subst (IsFilled P (number + 1)) (sym (w.nexts-is ∙ ap (λ (n : ℕ). set nexts n w.next_of.result) at)) (filled_on P number nexts w.next_of.result (omega (arith, count, less, few)) here c.loop-number.invariant.filled);
-            facts = w.facts-is ∙ (w.next_of.ensures.facts ∙ c.loop-number.invariant.facts);
           }
       | else-is_unnoted w ↦
           record {
             count = ap (λ (xs : List (Option NextKey)). length xs) w.nexts-is ∙ count;
             filled = subst (IsFilled P (number + 1)) (sym w.nexts-is)
                 (filled_same P number nexts (noted_at job proved c.args.mask reasons number (λ none. let yes = c.is_unnoted.ensures.1 none in let no = w.if-is_unnoted.false in cc)) c.loop-number.invariant.filled);
-            facts = w.facts-is ∙ c.loop-number.invariant.facts;
           }
     ]
 

@@ -8,5 +8,4 @@ abbrev pub invariant-loop-number : goal.invariant-loop-number
 invariant-loop-number l = record {
   count : length l.nexts ≡ 144;
   filled : IsFilled (IsNextAt l.job (proved_over l.job l.base l.settled) l.mask (λ action. slice_index_or l.reasons action None)) l.number l.nexts;
-  facts : l.facts ≡ l.initial.facts;
 }

@@ -1,16 +1,9 @@
-use Rattle.std.proofs.Common.{◌≡◌, ◌<◌, ◌∙◌, ℕ, length, get_or, None, arith, ap}
-use Rattle.std.proofs.lemmas.List.{get_or_default}
-use Rattle.brake_base.specs.declared.stroke.Worth.TheVariants.{Cost, Blocked}
-use Rattle.cert_merge.specs.Settling.{place_in_set}
+use Rattle.std.proofs.Common.{◌≡◌, get_or, None}
 use Rattle.cert_merge.proofs.settled_sets.SettledSet.row.Goals as goal
 
 pub returns : goal.returns
 returns c =
     let set = c.args.self.now in
     let key = c.args.key.now in
-    let few = c.place_in_set.ensures.few in
-    let place = c.place_in_set.ensures.value in
-    let within : c.place_in_set.result < length set.worths = omega arith in
-    let worth : get_or set.worths c.place_in_set.result (Cost 0) ≡ get_or set.worths (place_in_set key) Blocked =
-    get_or_default set.worths c.place_in_set.result (Cost 0) Blocked within ∙ ap (λ (n : ℕ). get_or set.worths n Blocked) place in
+    let worth = c.worth.ensures in
     λ i. (key, record { worth = worth i; reasons = λ action. get_or set.reasons action None })

@@ -2,11 +2,13 @@ use Rattle.std.proofs.Common.{◌≡◌, ◌+◌, ◌/◌, ◌%◌, ◌<◌, ◌
 use Rattle.std.proofs.lemmas.List.{length-set}
 use Rattle.brake_base.specs.declared.stroke.Key.{Key}
 use Rattle.brake_base.specs.declared.stroke.Worth.{Worth}
-use Rattle.job_setup.specs.Setup.{stage_count}
+use Rattle.job_setup.specs.Setup.{JobData, stage_count}
 use Rattle.plan_cert.proofs.RowOrder.{few_stages}
+use Rattle.cert_merge.specs.SetWorths.{AreChanged}
 use Rattle.cert_merge.proofs.SettledWorths.{AreLeastBelow, worths_on, worths_same}
-use Rattle.cert_merge.proofs.settled_sets.set_worths.Goals as goal
-use Rattle.cert_merge.proofs.settled_sets.set_worths.Goals.{then-place-stages, else-place-stages}
+use Rattle.cert_merge.proofs.LaneWorths.{settled_by_lanes}
+use Rattle.cert_merge.proofs.set_worths.set_worths.Goals as goal
+use Rattle.cert_merge.proofs.set_worths.set_worths.Goals.{then-place-stages, else-place-stages}
 
 pub loop-place-init : goal.loop-place-init
 loop-place-init c = record { count = refl; found = λ key ranged same less. absurd (omega (arith, less)) }
@@ -24,10 +26,17 @@ loop-place-preserved c =
           let made : Key = record { mask = c.args.mask; attitude = w.from_number.result; stage = place % 6 } in
           let is : made ≡ record { mask = c.args.mask; attitude = place / 6; stage = place % 6 } = λ i. record { mask = c.args.mask; attitude = w.from_number.ensures i; stage = place % 6 } in
           let at : w.from.result ≡ place = w.from.ensures in
+          let stages = c.stages.ensures.value in
+          let stage : place % 6 < stage_count job = omega (arith, w.if-place-stages.true, stages) in
+          let number = w.from_number.ensures in
+          let turn : w.from_number.result < 24 = omega (arith, number, less) in
           record {
             count = ap (λ (xs : List Worth). length xs) w.worths-is ∙ (length-set worths w.from.result w.settled_worth.result ∙ count);
             found = subst (AreLeastBelow job c.args.mask c.args.nexts.now (place + 1)) (sym (w.worths-is ∙ ap (λ (n : ℕ). set worths n w.settled_worth.result) at))
-                (worths_on job c.args.mask c.args.nexts.now place worths made w.settled_worth.result few (omega (arith, count, less)) is w.settled_worth.ensures c.loop-place.invariant.found);
+                (worths_on job c.args.mask c.args.nexts.now place worths made w.settled_worth.result few (omega (arith, count, less)) is
+                (settled_by_lanes job c.recall_valid.ensures made c.args.nexts.now c.requires.nexts c.least_proved-proved.result c.all_changed-changed.result w.settled_worth.result few stage turn c.least_proved-proved.ensures.proved
+                (subst (λ (j : JobData). AreChanged j c.least_proved-proved.result c.all_changed-changed.result) (sym c.requires.facts) c.all_changed-changed.ensures.changed) w.settled_worth.ensures)
+                c.loop-place.invariant.found);
           }
       | else-place-stages w ↦
           let past = w.if-place-stages.false in

@@ -1,6 +1,6 @@
 use Rattle.std.proofs.Common.{◌≡◌, length}
 use Rattle.cert_merge.proofs.SettledWorths.{AreLeastBelow}
-use Rattle.cert_merge.proofs.settled_sets.set_worths.Given as goal
+use Rattle.cert_merge.proofs.set_worths.set_worths.Given as goal
 
 -- the worths of the first so many keys are found
 abbrev pub invariant-loop-place : goal.invariant-loop-place
