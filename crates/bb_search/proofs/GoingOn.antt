@@ -1,0 +1,79 @@
+-- A text that goes on with the rows of a pool, and the pieces of a certificate's text.
+use Rattle.std.proofs.Common.{◌≡◌, ℕ, ◌<◌, List, [], ◌++◌, length, Option, Some, None, Bool, true, false, refl, sym, ap, ◌∙◌, arith, append_assoc, append-nil}
+use Rattle.std.specs.Prelude.{IfSome, IfNone, codes}
+use Rattle.std.proofs.lemmas.List.{length-append}
+use Rattle.row_pool.specs.Rows.{Pool, IsPool}
+use Rattle.row_pool.specs.Order.{IsNextRow, HasNoNext}
+use Rattle.bb_search.specs.WrittenRows.{AreWritable, row_text, rest_text, end_text, text_left, GoesOnTo}
+use Rattle.bb_search.proofs.RestTexts.{rest_more}
+
+pub starts : (pool : Pool) (stages : ℕ) (from : Option ℕ) (text : List ℕ) → IfSome from (λ row. row < length pool.rows) → GoesOnTo pool stages from from text text
+starts pool stages from text within = record { piece = []; text = sym (append-nil text); rest = refl; in_range = within }
+
+next_within : (pool : Pool) (row found : Option ℕ) → IfSome found (IsNextRow pool row) → IfSome found (λ r. r < length pool.rows)
+next_within pool row None is = tt
+next_within pool row (Some next) is = is.within
+
+-- one row more
+pub goes_on : (pool : Pool) (is_pool : IsPool pool) (stages : ℕ) (writable : AreWritable stages pool) (few : length pool.rows < 4294967296) (from : Option ℕ) (row : ℕ) (found : Option ℕ) (old middle new : List ℕ) → row < length pool.rows
+    → GoesOnTo pool stages from (Some row) old middle → new ≡ middle ++ row_text pool stages row → IfSome found (IsNextRow pool (Some row)) → IfNone found (HasNoNext pool (Some row)) → GoesOnTo pool stages from found old new
+goes_on pool is_pool stages writable few from row found old middle new within before told is_next is_none = record {
+  piece = before.piece ++ row_text pool stages row;
+  text = told ∙ ap (λ (t : List ℕ). t ++ row_text pool stages row) before.text ∙ append_assoc old before.piece (row_text pool stages row);
+  rest = before.rest ∙ ap (λ (t : List ℕ). before.piece ++ t) (rest_more pool is_pool stages writable few row within found is_next is_none) ∙ sym (append_assoc before.piece (row_text pool stages row) (rest_text pool stages found));
+  in_range = next_within pool (Some row) found is_next;
+}
+
+-- ---- what is left of a text
+module _ (pool : Pool) (stages : ℕ) where
+  no_rest : rest_text pool stages None ≡ []
+  unfolding rest_text
+  no_rest = refl
+
+  -- its beginning is given
+  pub begun : (beginning : List ℕ) (next : Option ℕ) (is_ended : Bool) (text out new given : List ℕ) → text_left beginning pool stages next is_ended ≡ text → given ≡ beginning → new ≡ out ++ given
+      → (piece : List ℕ) × (new ≡ out ++ piece) × (text ≡ piece ++ text_left [] pool stages next is_ended)
+  begun beginning next is_ended text out new given seen same is = (beginning, is ∙ ap (λ (t : List ℕ). out ++ t) same, sym seen)
+
+  module _ (from next : Option ℕ) (beginning text out new : List ℕ) (none : beginning ≡ []) (gone : GoesOnTo pool stages from next out new) where
+    -- some rows are given
+    pub rows_given : (is_ended : Bool) → text_left beginning pool stages from is_ended ≡ text → (piece : List ℕ) × (new ≡ out ++ piece) × (text ≡ piece ++ text_left beginning pool stages next is_ended)
+    rows_given is_ended seen = (
+      gone.piece,
+      gone.text,
+      sym seen ∙ ap (λ (b : List ℕ). b ++ rest_text pool stages from ++ end_text is_ended) none ∙ ap (λ (t : List ℕ). t ++ end_text is_ended) gone.rest ∙ append_assoc gone.piece (rest_text pool stages next) (end_text is_ended)
+      ∙ ap (λ (b : List ℕ). gone.piece ++ (b ++ rest_text pool stages next ++ end_text is_ended)) (sym none),
+    )
+
+    -- less is left then, if there were some
+    pub less_left : (is_ended : Bool) → text_left beginning pool stages from is_ended ≡ text → length out < length new → length (text_left beginning pool stages next is_ended) < length text
+    less_left is_ended seen grown =
+        let (piece, is, split) = rows_given is_ended seen in
+        let whole = ap (λ (t : List ℕ). length t) split ∙ length-append piece (text_left beginning pool stages next is_ended) in
+        let all = ap (λ (t : List ℕ). length t) is ∙ length-append out piece in
+        omega (arith, whole, all, grown)
+
+    -- the rest and the last line are given
+    pub end_given : (ended : List ℕ) → next ≡ None → text_left beginning pool stages from false ≡ text → ended ≡ new ++ codes "end\n" → (piece : List ℕ) × (ended ≡ out ++ piece) × (text ≡ piece ++ text_left beginning pool stages next true)
+    unfolding end_text
+    end_given ended last seen is = (
+      gone.piece ++ codes "end\n",
+      is ∙ ap (λ (t : List ℕ). t ++ codes "end\n") gone.text ∙ append_assoc out gone.piece (codes "end\n"),
+      sym seen ∙ ap (λ (b : List ℕ). b ++ rest_text pool stages from ++ codes "end\n") none ∙ ap (λ (t : List ℕ). t ++ codes "end\n") (gone.rest ∙ ap (λ (n : Option ℕ). gone.piece ++ rest_text pool stages n) last ∙ ap (λ (t : List ℕ). gone.piece ++ t) no_rest ∙ append-nil gone.piece)
+      ∙ sym (append-nil (gone.piece ++ codes "end\n")) ∙ ap (λ (t : List ℕ). (gone.piece ++ codes "end\n") ++ t) (sym nothing),
+    )
+      where
+        nothing : text_left beginning pool stages next true ≡ []
+        unfolding end_text
+        nothing = (λ i. none i ++ rest_text pool stages (last i) ++ []) ∙ ap (λ (t : List ℕ). t ++ []) no_rest
+
+  -- behind the last line nothing is left
+  pub nothing_left : (beginning : List ℕ) (next : Option ℕ) (is_ended : Bool) → beginning ≡ [] → next ≡ None → is_ended ≡ true → text_left beginning pool stages next is_ended ≡ []
+  unfolding end_text
+  nothing_left beginning next is_ended none last ended = (λ i. none i ++ rest_text pool stages (last i) ++ end_text (ended i)) ∙ ap (λ (t : List ℕ). t ++ []) no_rest
+
+  -- less is left than before the beginning was given
+  pub less_than_begun : (beginning : List ℕ) (next : Option ℕ) (is_ended : Bool) (text : List ℕ) → text_left beginning pool stages next is_ended ≡ text → 0 < length beginning → length (text_left [] pool stages next is_ended) < length text
+  less_than_begun beginning next is_ended text seen some =
+      let whole = ap (λ (t : List ℕ). length t) (sym seen) ∙ length-append beginning (text_left [] pool stages next is_ended) in
+      omega (arith, whole, some)
