@@ -1,11 +1,16 @@
 -- A text that goes on with the rows of a pool, and the pieces of a certificate's text.
-use Rattle.std.proofs.Common.{◌≡◌, ℕ, ◌<◌, List, [], ◌++◌, length, Option, Some, None, Bool, true, false, refl, sym, ap, ◌∙◌, arith, append_assoc, append-nil}
+use Rattle.std.proofs.Common.{◌≡◌, ℕ, ◌<◌, List, [], ◌++◌, length, Option, Some, None, Bool, true, false, refl, sym, ap, ◌∙◌, subst, arith, append_assoc, append-nil, true≢false}
 use Rattle.std.specs.Prelude.{IfSome, IfNone, codes}
 use Rattle.std.proofs.lemmas.List.{length-append}
+use Rattle.brake_base.specs.declared.stroke.Step.{Step}
+use Rattle.brake_base.specs.declared.stroke.Worth.{Worth}
+use Rattle.stage_lanes.specs.ActionSets.{IsNone}
+use Rattle.job_setup.specs.Setup.{JobData, stage_count}
+use Rattle.row_text.specs.Notes.{SetNotes}
 use Rattle.row_pool.specs.Rows.{Pool, IsPool}
 use Rattle.row_pool.specs.Order.{IsNextRow, HasNoNext}
-use Rattle.bb_search.specs.WrittenRows.{AreWritable, row_text, rest_text, end_text, text_left, GoesOnTo}
-use Rattle.bb_search.proofs.RestTexts.{rest_more}
+use Rattle.bb_search.specs.WrittenRows.{beginning_text, AreWritable, row_text, rest_text, end_text, text_left, CanGoOn, GoesOnTo, AreAllRowsWritten, IsWholeText}
+use Rattle.bb_search.proofs.RestTexts.{rest_more, all_left}
 
 pub starts : (pool : Pool) (stages : ℕ) (from : Option ℕ) (text : List ℕ) → IfSome from (λ row. row < length pool.rows) → GoesOnTo pool stages from from text text
 starts pool stages from text within = record { piece = []; text = sym (append-nil text); rest = refl; in_range = within }
@@ -77,3 +82,25 @@ module _ (pool : Pool) (stages : ℕ) where
   less_than_begun beginning next is_ended text seen some =
       let whole = ap (λ (t : List ℕ). length t) (sym seen) ∙ length-append beginning (text_left [] pool stages next is_ended) in
       omega (arith, whole, some)
+
+-- ---- a text that is opened
+module _ (pool : Pool) (is_pool : IsPool pool) (stages : ℕ) (writable : AreWritable stages pool) (few : length pool.rows < 4294967296) (found : Option ℕ) (is_next : IfSome found (IsNextRow pool None)) (is_none : IfNone found (HasNoNext pool None)) where
+  -- what it needs to go on
+  pub can_go_on : (said : SetNotes) → said.stages ≡ stages → IsNone said.known → CanGoOn pool stages said found
+  can_go_on said same none = record {
+    is_pool = is_pool;
+    few_rows = few;
+    writable = writable;
+    writer = record { its_stages = same; its_reasons = λ place inside is. absurd (true≢false (sym is ∙ none place inside)) };
+    within = next_within pool None found is_next;
+  }
+
+  -- all of a certificate's text is left
+  pub opened_whole : (job : JobData) (claim : Worth) (steps : List Step) (beginning : List ℕ) → stages ≡ stage_count job → beginning ≡ beginning_text job claim steps → IsWholeText job claim steps pool (text_left beginning pool stages found false)
+  unfolding end_text
+  opened_whole job claim steps beginning same begins = (
+    beginning ++ rest_text pool stages found,
+    subst (λ (n : ℕ). AreAllRowsWritten pool n (beginning_text job claim steps) (beginning ++ rest_text pool stages found)) same
+    (subst (λ (b : List ℕ). AreAllRowsWritten pool stages b (beginning ++ rest_text pool stages found)) begins (all_left pool is_pool stages writable few found is_next is_none beginning)),
+    sym (append_assoc beginning (rest_text pool stages found) (codes "end\n")),
+  )
