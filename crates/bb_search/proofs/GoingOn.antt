@@ -35,6 +35,11 @@ module _ (pool : Pool) (stages : ℕ) where
   unfolding rest_text
   no_rest = refl
 
+  -- behind the last line nothing is left
+  pub nothing_left : (beginning : List ℕ) (next : Option ℕ) (is_ended : Bool) → beginning ≡ [] → next ≡ None → is_ended ≡ true → text_left beginning pool stages next is_ended ≡ []
+  unfolding end_text
+  nothing_left beginning next is_ended none last ended = (λ i. none i ++ rest_text pool stages (last i) ++ end_text (ended i)) ∙ ap (λ (t : List ℕ). t ++ []) no_rest
+
   -- its beginning is given
   pub begun : (beginning : List ℕ) (next : Option ℕ) (is_ended : Bool) (text out new given : List ℕ) → text_left beginning pool stages next is_ended ≡ text → given ≡ beginning → new ≡ out ++ given
       → (piece : List ℕ) × (new ≡ out ++ piece) × (text ≡ piece ++ text_left [] pool stages next is_ended)
@@ -65,17 +70,8 @@ module _ (pool : Pool) (stages : ℕ) where
       gone.piece ++ codes "end\n",
       is ∙ ap (λ (t : List ℕ). t ++ codes "end\n") gone.text ∙ append_assoc out gone.piece (codes "end\n"),
       sym seen ∙ ap (λ (b : List ℕ). b ++ rest_text pool stages from ++ codes "end\n") none ∙ ap (λ (t : List ℕ). t ++ codes "end\n") (gone.rest ∙ ap (λ (n : Option ℕ). gone.piece ++ rest_text pool stages n) last ∙ ap (λ (t : List ℕ). gone.piece ++ t) no_rest ∙ append-nil gone.piece)
-      ∙ sym (append-nil (gone.piece ++ codes "end\n")) ∙ ap (λ (t : List ℕ). (gone.piece ++ codes "end\n") ++ t) (sym nothing),
+      ∙ sym (append-nil (gone.piece ++ codes "end\n")) ∙ ap (λ (t : List ℕ). (gone.piece ++ codes "end\n") ++ t) (sym (nothing_left beginning next true none last refl)),
     )
-      where
-        nothing : text_left beginning pool stages next true ≡ []
-        unfolding end_text
-        nothing = (λ i. none i ++ rest_text pool stages (last i) ++ []) ∙ ap (λ (t : List ℕ). t ++ []) no_rest
-
-  -- behind the last line nothing is left
-  pub nothing_left : (beginning : List ℕ) (next : Option ℕ) (is_ended : Bool) → beginning ≡ [] → next ≡ None → is_ended ≡ true → text_left beginning pool stages next is_ended ≡ []
-  unfolding end_text
-  nothing_left beginning next is_ended none last ended = (λ i. none i ++ rest_text pool stages (last i) ++ end_text (ended i)) ∙ ap (λ (t : List ℕ). t ++ []) no_rest
 
   -- less is left than before the beginning was given
   pub less_than_begun : (beginning : List ℕ) (next : Option ℕ) (is_ended : Bool) (text : List ℕ) → text_left beginning pool stages next is_ended ≡ text → 0 < length beginning → length (text_left [] pool stages next is_ended) < length text

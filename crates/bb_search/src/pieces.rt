@@ -1,5 +1,5 @@
 //! The text of a certificate, made in pieces from the rows of a search.
-ghost use Rattle.std.specs.Prelude.{◌≡◌, ◌<◌, ◌++◌, ℕ, List, Option, Some, None, length, IfOk, OnOk, IfSome, IsSome};
+ghost use Rattle.std.specs.Prelude.{◌≡◌, ◌<◌, length, IfOk, OnOk, IsSome};
 ghost use Rattle.job_setup.specs.Setup.{stage_count};
 ghost use Rattle.row_pool.specs.Rows.{IsPool};
 ghost use Rattle.plan_cert.specs.WellFormed.{IsWellFormed};

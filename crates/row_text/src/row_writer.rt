@@ -116,6 +116,7 @@ impl RowWriter {
         let mut line = Vec::with_capacity(alloc, 32)?;
         let keys = all_key_words(alloc, &mut line)?;
         let start = row_start(&mut line, mask)?;
+        let text = Vec::with_capacity(alloc, BLOCK_ROOM)?;
         Ok(RowWriter {
             stages,
             mask,
@@ -126,7 +127,7 @@ impl RowWriter {
             lines: no_lines(alloc)?,
             block: NoteBlock {
                 notes: ActionSet::empty(),
-                text: Vec::with_capacity(alloc, BLOCK_ROOM)?,
+                text,
             },
             line,
         })
