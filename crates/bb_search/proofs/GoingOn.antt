@@ -1,7 +1,6 @@
 -- A text that goes on with the rows of a pool, and the pieces of a certificate's text.
-use Rattle.std.proofs.Common.{◌≡◌, ℕ, ◌<◌, List, [], ◌++◌, length, Option, Some, None, Bool, true, false, refl, sym, ap, ◌∙◌, subst, arith, append_assoc, append-nil, true≢false}
-use Rattle.std.specs.Prelude.{IfSome, IfNone, codes}
-use Rattle.std.proofs.lemmas.List.{length-append}
+use Rattle.std.proofs.Common.{◌≡◌, ℕ, ◌<◌, List, [], ◌∷◌, ◌++◌, ◌==◌, suc, length, Option, Some, None, Bool, true, false, refl, sym, ap, ◌∙◌, subst, arith, append_assoc, append-nil, true≢false}
+use Rattle.std.specs.Prelude.{IfSome, IfNone, codes, is_some}
 use Rattle.brake_base.specs.declared.stroke.Step.{Step}
 use Rattle.brake_base.specs.declared.stroke.Worth.{Worth}
 use Rattle.stage_lanes.specs.ActionSets.{IsNone}
@@ -30,6 +29,18 @@ goes_on pool is_pool stages writable few from row found old middle new within be
 }
 
 -- ---- what is left of a text
+-- a text that has no byte
+pub empty_is : (xs : List ℕ) (t : Bool) → t ≡ (length xs == 0) → t ≡ true → xs ≡ []
+empty_is [] t is yes = refl
+empty_is (x ∷ xs) t is yes = absurd (true≢false (sym yes ∙ is ∙ some (length xs)))
+  where
+    some : (n : ℕ) → (suc n == 0) ≡ false
+    some n = grind arith
+
+pub none_is : (x : Option ℕ) (t : Bool) → t ≡ is_some x → t ≡ false → x ≡ None
+none_is None t is no = refl
+none_is (Some n) t is no = absurd (true≢false (sym is ∙ no))
+
 module _ (pool : Pool) (stages : ℕ) where
   no_rest : rest_text pool stages None ≡ []
   unfolding rest_text
@@ -38,46 +49,20 @@ module _ (pool : Pool) (stages : ℕ) where
   -- behind the last line nothing is left
   pub nothing_left : (beginning : List ℕ) (next : Option ℕ) (is_ended : Bool) → beginning ≡ [] → next ≡ None → is_ended ≡ true → text_left beginning pool stages next is_ended ≡ []
   unfolding end_text
-  nothing_left beginning next is_ended none last ended = (λ i. none i ++ rest_text pool stages (last i) ++ end_text (ended i)) ∙ ap (λ (t : List ℕ). t ++ []) no_rest
+  nothing_left beginning next is_ended none last ended = (λ i. (none i ++ rest_text pool stages (last i)) ++ end_text (ended i)) ∙ ap (λ (t : List ℕ). t ++ []) no_rest
 
-  -- its beginning is given
-  pub begun : (beginning : List ℕ) (next : Option ℕ) (is_ended : Bool) (text out new given : List ℕ) → text_left beginning pool stages next is_ended ≡ text → given ≡ beginning → new ≡ out ++ given
-      → (piece : List ℕ) × (new ≡ out ++ piece) × (text ≡ piece ++ text_left [] pool stages next is_ended)
-  begun beginning next is_ended text out new given seen same is = (beginning, is ∙ ap (λ (t : List ℕ). out ++ t) same, sym seen)
-
-  module _ (from next : Option ℕ) (beginning text out new : List ℕ) (none : beginning ≡ []) (gone : GoesOnTo pool stages from next out new) where
-    -- some rows are given
-    pub rows_given : (is_ended : Bool) → text_left beginning pool stages from is_ended ≡ text → (piece : List ℕ) × (new ≡ out ++ piece) × (text ≡ piece ++ text_left beginning pool stages next is_ended)
-    rows_given is_ended seen = (
-      gone.piece,
-      gone.text,
-      sym seen ∙ ap (λ (b : List ℕ). b ++ rest_text pool stages from ++ end_text is_ended) none ∙ ap (λ (t : List ℕ). t ++ end_text is_ended) gone.rest ∙ append_assoc gone.piece (rest_text pool stages next) (end_text is_ended)
-      ∙ ap (λ (b : List ℕ). gone.piece ++ (b ++ rest_text pool stages next ++ end_text is_ended)) (sym none),
-    )
-
-    -- less is left then, if there were some
-    pub less_left : (is_ended : Bool) → text_left beginning pool stages from is_ended ≡ text → length out < length new → length (text_left beginning pool stages next is_ended) < length text
-    less_left is_ended seen grown =
-        let (piece, is, split) = rows_given is_ended seen in
-        let whole = ap (λ (t : List ℕ). length t) split ∙ length-append piece (text_left beginning pool stages next is_ended) in
-        let all = ap (λ (t : List ℕ). length t) is ∙ length-append out piece in
-        omega (arith, whole, all, grown)
-
-    -- the rest and the last line are given
-    pub end_given : (ended : List ℕ) → next ≡ None → text_left beginning pool stages from false ≡ text → ended ≡ new ++ codes "end\n" → (piece : List ℕ) × (ended ≡ out ++ piece) × (text ≡ piece ++ text_left beginning pool stages next true)
-    unfolding end_text
-    end_given ended last seen is = (
-      gone.piece ++ codes "end\n",
-      is ∙ ap (λ (t : List ℕ). t ++ codes "end\n") gone.text ∙ append_assoc out gone.piece (codes "end\n"),
-      sym seen ∙ ap (λ (b : List ℕ). b ++ rest_text pool stages from ++ codes "end\n") none ∙ ap (λ (t : List ℕ). t ++ codes "end\n") (gone.rest ∙ ap (λ (n : Option ℕ). gone.piece ++ rest_text pool stages n) last ∙ ap (λ (t : List ℕ). gone.piece ++ t) no_rest ∙ append-nil gone.piece)
-      ∙ sym (append-nil (gone.piece ++ codes "end\n")) ∙ ap (λ (t : List ℕ). (gone.piece ++ codes "end\n") ++ t) (sym (nothing_left beginning next true none last refl)),
-    )
-
-  -- less is left than before the beginning was given
-  pub less_than_begun : (beginning : List ℕ) (next : Option ℕ) (is_ended : Bool) (text : List ℕ) → text_left beginning pool stages next is_ended ≡ text → 0 < length beginning → length (text_left [] pool stages next is_ended) < length text
-  less_than_begun beginning next is_ended text seen some =
-      let whole = ap (λ (t : List ℕ). length t) (sym seen) ∙ length-append beginning (text_left [] pool stages next is_ended) in
-      omega (arith, whole, some)
+  -- the last rows and the last line are given
+  pub end_given : (from next : Option ℕ) (is_ended : Bool) (beginning text out new ended : List ℕ) → beginning ≡ [] → GoesOnTo pool stages from next out new → next ≡ None → is_ended ≡ false → text_left beginning pool stages from is_ended ≡ text → ended ≡ new ++ codes "end\n"
+      → (piece : List ℕ) × (ended ≡ out ++ piece) × (text ≡ piece ++ text_left beginning pool stages next true)
+  unfolding end_text
+  end_given from next is_ended beginning text out new ended none gone last opens seen is =
+      let line : List ℕ = codes "end\n" in (
+        gone.piece ++ line,
+        is ∙ ap (λ (t : List ℕ). t ++ line) gone.text ∙ append_assoc out gone.piece line,
+        sym seen ∙ (λ i. (none i ++ rest_text pool stages from) ++ end_text (opens i))
+        ∙ ap (λ (t : List ℕ). t ++ line) (gone.rest ∙ ap (λ (n : Option ℕ). gone.piece ++ rest_text pool stages n) last ∙ ap (λ (t : List ℕ). gone.piece ++ t) no_rest ∙ append-nil gone.piece)
+        ∙ sym (append-nil (gone.piece ++ line)) ∙ ap (λ (t : List ℕ). (gone.piece ++ line) ++ t) (sym (nothing_left beginning next true none last refl)),
+      )
 
 -- ---- a text that is opened
 module _ (pool : Pool) (is_pool : IsPool pool) (stages : ℕ) (writable : AreWritable stages pool) (few : length pool.rows < 4294967296) (found : Option ℕ) (is_next : IfSome found (IsNextRow pool None)) (is_none : IfNone found (HasNoNext pool None)) where
@@ -98,5 +83,5 @@ module _ (pool : Pool) (is_pool : IsPool pool) (stages : ℕ) (writable : AreWri
     beginning ++ rest_text pool stages found,
     subst (λ (n : ℕ). AreAllRowsWritten pool n (beginning_text job claim steps) (beginning ++ rest_text pool stages found)) same
     (subst (λ (b : List ℕ). AreAllRowsWritten pool stages b (beginning ++ rest_text pool stages found)) begins (all_left pool is_pool stages writable few found is_next is_none beginning)),
-    sym (append_assoc beginning (rest_text pool stages found) (codes "end\n")),
+    refl,
   )

@@ -31,3 +31,6 @@ returns-clause-text c =
     (commons pool c.args.row head writer.mask c.row_head-head.ensures (told.mask ∙ c.in_ok-turn_to.ensures.mask) c.notes-notes.ensures.common)
     c.args.out.now.items c.put_row.new.out.items)
     c.put_row.ensures.text
+
+pub returns-in_err-turn_to-clause-writer : goal.returns-in_err-turn_to-clause-writer
+returns-in_err-turn_to-clause-writer c = c.turn_to.ensures.writer c.args.pool.now c.args.stages c.requires.writer

@@ -3,7 +3,7 @@ use Rattle.brake_io.proofs.Parts.{gone_on, all_done, fewer_turns_of}
 use Rattle.bb_search.proofs.pieces.CertPieces.gather.Goals as goal
 
 pub loop-is_more-init : goal.loop-is_more-init
-loop-is_more-init c = (ap (λ (t : List ℕ). t ++ c.args.self) c.new.ensures.items, λ none. cc)
+loop-is_more-init c = (ap (λ (t : List ℕ). t ++ c.args.self) c.new-text.ensures.items, λ none. cc)
 
 pub loop-is_more-smaller : goal.loop-is_more-smaller
 loop-is_more-smaller c = fewer_turns_of _ _ _ _ (search rules) c.in_ok-is_more.ensures.more c.in_ok-is_more.ensures.last
