@@ -60,8 +60,8 @@ module _ (pool : Pool) (stages : ℕ) where
         gone.piece ++ line,
         is ∙ ap (λ (t : List ℕ). t ++ line) gone.text ∙ append_assoc out gone.piece line,
         sym seen ∙ (λ i. (none i ++ rest_text pool stages from) ++ end_text (opens i))
-        ∙ ap (λ (t : List ℕ). t ++ line) (gone.rest ∙ ap (λ (n : Option ℕ). gone.piece ++ rest_text pool stages n) last ∙ ap (λ (t : List ℕ). gone.piece ++ t) no_rest ∙ append-nil gone.piece)
-        ∙ sym (append-nil (gone.piece ++ line)) ∙ ap (λ (t : List ℕ). (gone.piece ++ line) ++ t) (sym (nothing_left beginning next true none last refl)),
+            ∙ ap (λ (t : List ℕ). t ++ line) (gone.rest ∙ ap (λ (n : Option ℕ). gone.piece ++ rest_text pool stages n) last ∙ ap (λ (t : List ℕ). gone.piece ++ t) no_rest ∙ append-nil gone.piece)
+            ∙ sym (append-nil (gone.piece ++ line)) ∙ ap (λ (t : List ℕ). (gone.piece ++ line) ++ t) (sym (nothing_left beginning next true none last refl)),
       )
 
 -- ---- a text that is opened
@@ -82,6 +82,6 @@ module _ (pool : Pool) (is_pool : IsPool pool) (stages : ℕ) (writable : AreWri
   opened_whole job claim steps beginning same begins = (
     beginning ++ rest_text pool stages found,
     subst (λ (n : ℕ). AreAllRowsWritten pool n (beginning_text job claim steps) (beginning ++ rest_text pool stages found)) same
-    (subst (λ (b : List ℕ). AreAllRowsWritten pool stages b (beginning ++ rest_text pool stages found)) begins (all_left pool is_pool stages writable few found is_next is_none beginning)),
+        (subst (λ (b : List ℕ). AreAllRowsWritten pool stages b (beginning ++ rest_text pool stages found)) begins (all_left pool is_pool stages writable few found is_next is_none beginning)),
     refl,
   )

@@ -80,5 +80,5 @@ module _ (pool : Pool) (is_pool : IsPool pool) (stages : ℕ) (writable : AreWri
         orders,
         are,
         subst (λ (t : List ℕ). AreRowsWritten pool stages orders (length orders) old (old ++ t)) (sym text)
-        (subst (λ (l : List ℕ). AreRowsWritten pool stages orders (length orders) old (old ++ orders_text pool stages l)) whole (written_to orders are old (length orders) (omega arith))),
+            (subst (λ (l : List ℕ). AreRowsWritten pool stages orders (length orders) old (old ++ orders_text pool stages l)) whole (written_to orders are old (length orders) (omega arith))),
       )
