@@ -31,15 +31,15 @@ goes_on pool is_pool stages writable few from row found old middle new within be
 -- ---- what is left of a text
 -- a text that has no byte
 pub empty_is : (xs : List ℕ) (t : Bool) → t ≡ (length xs == 0) → t ≡ true → xs ≡ []
-empty_is [] t is yes = refl
-empty_is (x ∷ xs) t is yes = absurd (true≢false (sym yes ∙ is ∙ some (length xs)))
+empty_is [] t is told = refl
+empty_is (x ∷ xs) t is told = absurd (true≢false (sym told ∙ is ∙ some (length xs)))
   where
     some : (n : ℕ) → (suc n == 0) ≡ false
     some n = grind arith
 
 pub none_is : (x : Option ℕ) (t : Bool) → t ≡ is_some x → t ≡ false → x ≡ None
-none_is None t is no = refl
-none_is (Some n) t is no = absurd (true≢false (sym is ∙ no))
+none_is None t is told = refl
+none_is (Some n) t is told = absurd (true≢false (sym is ∙ told))
 
 module _ (pool : Pool) (stages : ℕ) where
   no_rest : rest_text pool stages None ≡ []
