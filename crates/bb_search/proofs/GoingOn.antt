@@ -1,5 +1,5 @@
 -- A text that goes on with the rows of a pool, and the pieces of a certificate's text.
-use Rattle.std.proofs.Common.{◌≡◌, ℕ, ◌<◌, List, [], ◌∷◌, ◌++◌, ◌==◌, suc, length, Option, Some, None, Bool, true, false, refl, sym, ap, ◌∙◌, subst, arith, append_assoc, append-nil, true≢false}
+use Rattle.std.proofs.Common.{◌≡◌, ℕ, ◌<◌, List, [], ◌∷◌, ◌++◌, ◌==◌, not, suc, length, Option, Some, None, Bool, true, false, refl, sym, ap, ◌∙◌, subst, arith, append_assoc, append-nil, true≢false}
 use Rattle.std.specs.Prelude.{IfSome, IfNone, codes, is_some}
 use Rattle.brake_base.specs.declared.stroke.Step.{Step}
 use Rattle.brake_base.specs.declared.stroke.Worth.{Worth}
@@ -40,6 +40,14 @@ empty_is (x ∷ xs) t is told = absurd (true≢false (sym told ∙ is ∙ some (
 pub none_is : (x : Option ℕ) (t : Bool) → t ≡ is_some x → t ≡ false → x ≡ None
 none_is None t is told = refl
 none_is (Some n) t is told = absurd (true≢false (sym is ∙ told))
+
+pub not_true : (t : Bool) → not t ≡ true → t ≡ false
+not_true true is = sym is
+not_true false is = refl
+
+pub not_false : (t : Bool) → not t ≡ false → t ≡ true
+not_false true is = refl
+not_false false is = sym is
 
 module _ (pool : Pool) (stages : ℕ) where
   no_rest : rest_text pool stages None ≡ []
