@@ -21,15 +21,14 @@ use Rattle.handling_cost.proofs.Nodes.{reached_in_range}
 use Rattle.row_pool.specs.Index.{HasPlace}
 use Rattle.row_pool.specs.Rows.{Pool, PoolRow, IsPool}
 use Rattle.plan_cert.specs.Cert.{CertData}
-use Rattle.plan_cert.specs.CertText.{rows_lines, cert_text2}
-use Rattle.plan_cert.specs.Lines.{lines_text}
+use Rattle.plan_cert.specs.CertText.{cert_text2}
 use Rattle.plan_cert.specs.WellFormed.{IsReasonInRange, IsWellFormed}
 use Rattle.plan_cert.proofs.ReasonRanges.{reason_ranged}
 use Rattle.bb_search.specs.declared.written.WrittenCert.{WrittenCert}
 use Rattle.bb_search.specs.Outcomes.{outcome_of, IsAnswer}
 use Rattle.bb_search.specs.Searches.{SearchData}
 use Rattle.bb_search.specs.Certificates.{HasAnswer, IsWritten}
-use Rattle.bb_search.specs.WrittenRows.{beginning_text, without_rows, AreWritable, AreAllRowsWritten}
+use Rattle.bb_search.specs.WrittenRows.{without_rows, AreWritable, IsWholeText}
 use Rattle.bb_search.proofs.CertLemmas.{reason_of_row}
 use Rattle.bb_search.proofs.CertForms.{worth_ranged, claim_ranged, steps_fit, each_step, rows_of_answer, all_done, certificate_is}
 use Rattle.bb_search.proofs.WrittenLemmas.{text_parts}
@@ -102,16 +101,15 @@ claim_answered search answered claim is =
 
 -- what is written is the search's certificate
 pub written_is : (search : SearchData) (job : JobData) → job ≡ search.job → IsJob job → IsPool search.pool → search.pool.limit ≡ min search.budget (nodes search.job) → HasAnswer search → (written : WrittenCert) → search.outcome ≡ Some (outcome_of written.claim)
-    → written.steps.items ≡ search.steps → (before rows : List ℕ) → before ≡ beginning_text job written.claim written.steps.items → AreAllRowsWritten search.pool (stage_count job) before rows → written.text.items ≡ rows ++ codes "end\n"
-    → IsWritten search written
-written_is search job of_job is_job is_pool limit answered written claim steps before rows begun (orders, are, all) ended =
+    → written.steps.items ≡ search.steps → IsWholeText job written.claim written.steps.items search.pool written.text → IsWritten search written
+written_is search job of_job is_job is_pool limit answered written claim steps (rows, (orders, are, all), ended) =
     let cert : CertData = record { claim = written.claim; steps = written.steps.items; rows = all.rows; notes = all.notes } in (
       cert,
       certificate_is search job of_job is_job is_pool limit answered written.claim claim written.steps.items steps orders are all.rows all.heads all.notes all.listed,
       record {
         claim = refl;
         steps = refl;
-        text = ended ∙ ap (λ (t : List ℕ). t ++ codes "end\n") (all.text ∙ ap (λ (t : List ℕ). t ++ lines_text (rows_lines (stage_count job) all.rows all.notes)) begun) ∙ text_parts job cert ∙ ap (λ (j : JobData). cert_text2 j cert) of_job;
+        text = ended ∙ ap (λ (t : List ℕ). t ++ codes "end\n") all.text ∙ text_parts job cert ∙ ap (λ (j : JobData). cert_text2 j cert) of_job;
       },
     )
 

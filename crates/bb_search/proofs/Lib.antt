@@ -29,8 +29,11 @@ pub mod NoteLists
 pub mod Ranges
 pub mod CertLemmas
 pub mod CertForms
-pub mod WriterLemmas
 pub mod WrittenNotes
 pub mod WrittenLemmas
+pub mod WriterLemmas
+pub mod RowPlaces
 pub mod NextRows
+pub mod RestTexts
+pub mod GoingOn
 pub mod CertWritten

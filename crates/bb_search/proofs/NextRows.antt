@@ -1,11 +1,8 @@
 -- The rows of a pool one after the other, in the order of their keys.
-use Rattle.std.proofs.Common.{◌≡◌, ◌≢◌, inl, inr, ℕ, zero, suc, ◌+◌, ◌-◌, ◌*◌, ◌<◌, ◌≤◌, nat_lt, if◌then◌else◌, Bool, true, false, List, [], ◌∷◌, ◌++◌, length, get_or, Option, Some, None, arith, refl, sym, ◌∙◌, ap, subst}
-use Rattle.std.specs.Prelude.{slice_get, All, IfSome, IfNone, IsPermutation}
-use Rattle.std.specs.List.{insert}
-use Rattle.std.specs.List.Sorted.{IsNonDecreasing}
+use Rattle.std.proofs.Common.{◌≡◌, ◌≢◌, inl, inr, ℕ, suc, ◌+◌, ◌-◌, ◌*◌, ◌<◌, ◌≤◌, List, length, get_or, Option, Some, None, arith, refl, sym, ◌∙◌, ap, subst}
+use Rattle.std.specs.Prelude.{slice_get, All, IfSome, IfNone}
 use Rattle.std.proofs.lemmas.Bool.{cases_lt}
 use Rattle.std.proofs.lemmas.Bool.Decides.{eqb_tells}
-use Rattle.std.proofs.lemmas.List.Sorted.{IsNonDecreasingBy-insert, IsPermutation-refl, IsPermutation-cons, IsPermutation-insert, IsPermutation-trans}
 use Rattle.std.proofs.lemmas.Option.{slice_get-get_or, slice_get_within, get_or_from_slice_get, same_Some, none-some}
 use Rattle.brake_base.specs.declared.stroke.Key.{Key}
 use Rattle.brake_base.specs.Keys.{KeyIsBefore}
@@ -13,93 +10,13 @@ use Rattle.row_pool.specs.Rows.{Pool, PoolRow, IsPool, keys}
 use Rattle.row_pool.specs.Store.{key_number}
 use Rattle.row_pool.specs.Index.{HasPlace}
 use Rattle.row_pool.specs.Order.{IsAfter, IsNextRow, HasNoNext}
-use Rattle.bb_search.specs.CertRows.{row_order, row_of_order, IsRowOrder, AreRowOrders, AreSortedRows}
-use Rattle.bb_search.specs.WrittenRows.{AreWritable, IsRowWritten, AreRowsWritten, AreAllRowsWritten}
+use Rattle.bb_search.specs.CertRows.{row_order, row_of_order, IsRowOrder, AreSortedRows}
+use Rattle.bb_search.specs.WrittenRows.{AreWritable}
 use Rattle.bb_search.proofs.CertLemmas.{mapped}
 use Rattle.bb_search.proofs.OutcomeLemmas.{apart}
-use Rattle.bb_search.proofs.RowOrders.{key_before, row_of_row_order, orders_push, orders_sorted, row_within}
+use Rattle.bb_search.proofs.RowOrders.{key_before, row_of_row_order}
 use Rattle.bb_search.proofs.WriterLemmas.{placed_at}
-use Rattle.bb_search.proofs.WrittenLemmas.{no_rows, row_more}
-
--- ---- numbers can be put in order
--- the place of a number among others that don't fall
-abbrev place_in : ℕ → List ℕ → ℕ
-place_in x [] = 0
-place_in x (y ∷ ys) = if nat_lt y x then suc (place_in x ys) else 0
-
-module _ (x : ℕ) where
-  place_within : (ys : List ℕ) → place_in x ys ≤ length ys
-  place_within [] = omega arith
-  place_within (y ∷ ys) = by_test (nat_lt y x) (place_within ys)
-    where
-      by_test : (t : Bool) → place_in x ys ≤ length ys → (if t then suc (place_in x ys) else 0) ≤ suc (length ys)
-      by_test true below = omega (arith, below)
-      by_test false below = omega arith
-
-  lesser_before : (ys : List ℕ) (k d : ℕ) → k < place_in x ys → get_or ys k d ≤ x
-  lesser_before [] k d before = absurd (omega (arith, before))
-  lesser_before (y ∷ ys) k d before = by_test (nat_lt y x) refl (λ j low. lesser_before ys j d low) k before
-    where
-      below : (m n : ℕ) → nat_lt m n ≡ true → m ≤ n
-      below m n e = grind (arith, e)
-
-      by_test : (t : Bool) → nat_lt y x ≡ t → ((j : ℕ) → j < place_in x ys → get_or ys j d ≤ x) → (j : ℕ) → j < (if t then suc (place_in x ys) else 0) → get_or (y ∷ ys) j d ≤ x
-      by_test true e rest zero low = below y x e
-      by_test true e rest (suc j) low = rest j (omega (arith, low))
-      by_test false e rest j low = absurd (omega (arith, low))
-
-  greater_here : (ys : List ℕ) (d : ℕ) → place_in x ys < length ys → x ≤ get_or ys (place_in x ys) d
-  greater_here [] d within = absurd (omega (arith, within))
-  greater_here (y ∷ ys) d within = by_test (nat_lt y x) refl (λ low. greater_here ys d low) within
-    where
-      above : (m n : ℕ) → nat_lt m n ≡ false → n ≤ m
-      above m n e = grind (arith, e)
-
-      by_test : (t : Bool) → nat_lt y x ≡ t → (place_in x ys < length ys → x ≤ get_or ys (place_in x ys) d) → (if t then suc (place_in x ys) else 0) < suc (length ys) → x ≤ get_or (y ∷ ys) (if t then suc (place_in x ys) else 0) d
-      by_test true e rest low = rest (omega (arith, low))
-      by_test false e rest low = above y x e
-
-in_order : (xs : List ℕ) → (ys : List ℕ) × IsPermutation xs ys × IsNonDecreasing ys
-in_order [] = ([], IsPermutation-refl [], λ i j d before within. absurd (omega (arith, within)))
-in_order (x ∷ xs) =
-    let rest = in_order xs in
-    let ys = rest.0 in
-    let place = place_in x ys in (
-      insert ys place x,
-      IsPermutation-trans (x ∷ xs) (x ∷ ys) (insert ys place x) (IsPermutation-cons x xs ys rest.1) (IsPermutation-insert ys place x),
-      IsNonDecreasingBy-insert (λ (n : ℕ). n) ys place x rest.2 (place_within x ys) (lesser_before x ys)
-          (λ k d later within. let here = greater_here x ys d (omega (arith, later, within)) in let up = rest.2 place k d later within in omega (arith, here, up)),
-    )
-
--- ---- the places of all rows in the order of keys
-some_at : (rows : List PoolRow) (i : ℕ) → i < length rows → (row : PoolRow) × (slice_get rows i ≡ Some row)
-some_at [] i low = absurd (omega (arith, low))
-some_at (row ∷ rows) zero low = (row, refl)
-some_at (row ∷ rows) (suc i) low = some_at rows i (omega (arith, low))
-
-module _ (rows : List PoolRow) (few : length rows < 4294967296) where
-  orders_of : (count : ℕ) → count ≤ length rows → (orders : List ℕ) × AreRowOrders rows count orders
-  orders_of zero low = (
-    [],
-    record {
-      all = refl;
-      each = λ i row before at. absurd (omega (arith, before));
-      only = λ k d within. absurd (omega (arith, within));
-      below = λ k d within. absurd (omega (arith, within));
-      distinct = λ i j d before within. absurd (omega (arith, within));
-    },
-  )
-  orders_of (suc count) low =
-      let before = orders_of count (omega (arith, low)) in
-      let row = some_at rows count (omega (arith, low)) in
-      let more = orders_push rows count before.0 row.0 (omega (arith, low, few)) row.1 before.1 in
-      (before.0 ++ row_order row.0.key count ∷ [], subst (λ (n : ℕ). AreRowOrders rows n (before.0 ++ row_order row.0.key count ∷ [])) (omega arith) more)
-
-  pub sorted_orders : (orders : List ℕ) × AreSortedRows rows orders
-  sorted_orders =
-      let all = orders_of (length rows) (omega arith) in
-      let sorted = in_order all.0 in
-      (sorted.0, orders_sorted rows all.0 sorted.0 few all.1 sorted.1 sorted.2)
+use Rattle.bb_search.proofs.RowPlaces.{some_at}
 
 -- ---- the numbers of keys in range
 pub less_number : (places : ℕ) (a b : Key) → places ≤ 144 → HasPlace places a → HasPlace places b → KeyIsBefore a b → key_number a < key_number b
@@ -276,14 +193,6 @@ module _ (pool : Pool) (is_pool : IsPool pool) (places : ℕ) (few : places ≤ 
       | inr high ↦ let low = count_within row stands in omega (arith, low, high)
     ]
 
--- ---- the rows that are written before a next one
-pub record AreWrittenBefore (pool : Pool) (stages : ℕ) (next : Option ℕ) (old new : List ℕ) : Type 0 where
-  pub orders : List ℕ
-  pub are : AreSortedRows pool.rows orders
-  pub count : ℕ
-  pub stands : StandsAt orders count next
-  pub rows : AreRowsWritten pool stages orders count old new
-
 -- what stands at a place, or behind the last, follows from what is found
 stands_found : (pool : Pool) (orders : List ℕ) (count : ℕ) (row found : Option ℕ) → ((next : ℕ) → IsNextRow pool row next → StandsAt orders count (Some next)) → (HasNoNext pool row → StandsAt orders count None) → IfSome found (IsNextRow pool row) → IfNone found (HasNoNext pool row) → StandsAt orders count found
 stands_found pool orders count row None so none is_next is_none = none is_none
@@ -293,42 +202,10 @@ module _ (pool : Pool) (is_pool : IsPool pool) (stages : ℕ) (writable : AreWri
   few_places : pool.actions ≤ 144
   few_places = let few = writable.few in let actions = writable.actions in omega (arith, few, actions)
 
-  standing : (orders : List ℕ) → AreSortedRows pool.rows orders → (count : ℕ) (row : Option ℕ) → StandsAfter orders count row → (found : Option ℕ) → IfSome found (IsNextRow pool row) → IfNone found (HasNoNext pool row) → StandsAt orders count found
+  pub standing : (orders : List ℕ) → AreSortedRows pool.rows orders → (count : ℕ) (row : Option ℕ) → StandsAfter orders count row → (found : Option ℕ) → IfSome found (IsNextRow pool row) → IfNone found (HasNoNext pool row) → StandsAt orders count found
   standing orders are count row after found =
       stands_found pool orders count row found (next_place pool is_pool pool.actions few_places writable.placed orders are count row after)
       (no_place pool is_pool pool.actions few_places writable.placed orders are count row after)
-
-  pub none_before : length pool.rows < 4294967296 → (found : Option ℕ) → IfSome found (IsNextRow pool None) → IfNone found (HasNoNext pool None) → (old : List ℕ) → AreWrittenBefore pool stages found old old
-  none_before low found is_next is_none old =
-      let (orders, are) = sorted_orders pool.rows low in
-      record {
-        orders = orders;
-        are = are;
-        count = 0;
-        stands = standing orders are 0 None refl found is_next is_none;
-        rows = no_rows pool stages orders old;
-      }
-
-  pub one_more : (row : ℕ) (found : Option ℕ) (old middle new : List ℕ) → AreWrittenBefore pool stages (Some row) old middle → IsRowWritten pool stages row middle new
-      → IfSome found (IsNextRow pool (Some row)) → IfNone found (HasNoNext pool (Some row)) → AreWrittenBefore pool stages found old new
-  one_more row found old middle new before written is_next is_none =
-      let orders = before.orders in
-      let (order, at, is) = before.stands in
-      let after : StandsAfter orders (before.count + 1) (Some row) = (before.count, order, at, is, refl) in
-      record {
-        orders = orders;
-        are = before.are;
-        count = before.count + 1;
-        stands = standing orders before.are (before.count + 1) (Some row) after found is_next is_none;
-        rows = row_more pool stages is_pool writable.few writable.actions orders before.count order at old middle new before.rows (subst (λ (n : ℕ). IsRowWritten pool stages n middle new) (sym is) written);
-      }
-
-  -- the row at hand is one of the pool's
-  pub row_before : (row : ℕ) (old new : List ℕ) → AreWrittenBefore pool stages (Some row) old new → row < length pool.rows
-  row_before row old new before =
-      let (order, at, is) = before.stands in
-      let only = subst (IsRowOrder pool.rows) (get_or_from_slice_get before.orders before.count order 0 at) (before.are.only before.count 0 (slice_get_within before.orders before.count order at)) in
-      subst (λ (n : ℕ). n < length pool.rows) is (row_within pool.rows order only)
 
   -- less is left behind the next row
   pub less_left : (row : ℕ) → row < length pool.rows → (found : Option ℕ) → IfSome found (IsNextRow pool (Some row)) → left_from pool found < left_from pool (Some row)
@@ -350,11 +227,3 @@ module _ (pool : Pool) (is_pool : IsPool pool) (stages : ℕ) (writable : AreWri
           let numbers = less_number pool.actions key other.0.key few_places has (placed_at pool pool.actions writable.placed next other.0 other.1) up in
           subst (λ (k : Option Key). left_after k < left_after (Some key)) (sym at)
           (shrinks (key_number key) (key_number other.0.key) numbers (small_number pool.actions key few_places has))
-
--- with none left all are written
-pub all_before : (pool : Pool) (stages : ℕ) (old new : List ℕ) → AreWrittenBefore pool stages None old new → AreAllRowsWritten pool stages old new
-all_before pool stages old new before = (
-  before.orders,
-  before.are,
-  subst (λ (n : ℕ). AreRowsWritten pool stages before.orders n old new) before.stands before.rows,
-)

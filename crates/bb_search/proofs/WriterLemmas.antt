@@ -1,7 +1,8 @@
--- What a writer knows of a pool's reasons.
-use Rattle.std.proofs.Common.{◌≡◌, ◌≢◌, inl, inr, ◌⊎◌, ℕ, ◌+◌, ◌*◌, ◌/◌, ◌%◌, ◌<◌, ◌||◌, ◌&&◌, ◌==◌, not, nat_lt, Bool, true, false, if◌then◌else◌, List, Option, Some, None, IsTrue, arith, refl, sym, ◌∙◌, ap, subst, true≢false}
+-- What a writer knows of a pool's reasons, and the text that it writes of a row.
+use Rattle.std.proofs.Common.{◌≡◌, ◌≢◌, inl, inr, ◌⊎◌, ℕ, zero, suc, ◌+◌, ◌*◌, ◌/◌, ◌%◌, ◌<◌, ◌||◌, ◌&&◌, ◌==◌, not, nat_lt, Bool, true, false, if◌then◌else◌, List, [], ◌∷◌, ◌++◌, map, filter, Some, IsTrue, arith, refl, sym, ◌∙◌, ap, subst, true≢false}
 use Rattle.std.specs.Prelude.{slice_get, is_some, All}
-use Rattle.std.proofs.lemmas.Option.{slice_get_within, get_or_from_slice_get}
+use Rattle.std.proofs.lemmas.List.{map-append}
+use Rattle.std.proofs.lemmas.Option.{slice_get_within, get_or_from_slice_get, same_Some}
 use Rattle.std.proofs.lemmas.Bool.{cases_eq, or_left, or_right, and_from, and_parts}
 use Rattle.brake_base.specs.declared.mask.Mask.{Mask}
 use Rattle.brake_base.specs.declared.stroke.Key.{Key}
@@ -9,16 +10,22 @@ use Rattle.brake_base.specs.declared.stroke.Action.{Action}
 use Rattle.brake_base.specs.declared.reason.Reason.{Reason}
 use Rattle.brake_base.specs.Actions.{IsActionAmong, number_of_action}
 use Rattle.stage_lanes.specs.declared.actions.ActionSet.{ActionSet}
-use Rattle.stage_lanes.specs.ActionSets.{has_place, place_of, ArePlaces, IsNone}
+use Rattle.stage_lanes.specs.ActionSets.{has_place, place_of, ArePlaces, IsNone, numbers_below, places_of}
 use Rattle.plan_cert.specs.declared.cert.RowHead.{RowHead}
+use Rattle.plan_cert.specs.declared.cert.Note.{Note}
+use Rattle.plan_cert.specs.Lines.{CertLine, lines_text, row_line}
+use Rattle.plan_cert.specs.CertText.{line_of_note}
 use Rattle.row_pool.specs.Index.{HasPlace}
 use Rattle.row_pool.specs.Rows.{Pool, PoolRow, keys, reason_at, common_at}
-use Rattle.row_text.specs.Notes.{SetNotes, IsAmong, number_at, GoOnAs}
+use Rattle.row_text.specs.Notes.{SetNotes, IsAmong, number_at, note_at, notes_of}
 use Rattle.row_text.specs.Notes.{reason_at as reason_of}
 use Rattle.row_text.proofs.ActionPlaces.{number_of_place}
+use Rattle.row_text.proofs.SetLists.{one_more, skip, keep}
 use Rattle.bb_search.specs.CertRows.{IsHeadOf}
-use Rattle.bb_search.specs.WrittenRows.{AreWritable, AreNoted, IsWriterOf, IsRowWritten}
+use Rattle.bb_search.specs.WrittenRows.{AreWritable, IsWriterOf, is_noted, noted_places, known, row_note, row_notes, row_text}
 use Rattle.bb_search.proofs.CertLemmas.{mapped}
+use Rattle.bb_search.proofs.WrittenNotes.{noted_reason}
+use Rattle.bb_search.proofs.WrittenLemmas.{row_text_is}
 
 -- ---- one reason more
 equal : (m n : ℕ) → m ≡ n → (m == n) ≡ true
@@ -97,39 +104,6 @@ pub unknown_noted : (notes unknown known : ActionSet) → ArePlaces unknown (λ 
 unknown_noted notes unknown known left place within is = (and_parts (has_place notes place) (not (has_place known place)) (sym (left place within) ∙ is)).0
 
 -- ---- the reasons of a row
-some_is : (x : Option Reason) → is_some x ≡ true → x ≢ None
-some_is x some none = true≢false (sym some ∙ ap is_some none)
-
-none_is : (x : Option Reason) → is_some x ≡ false → x ≡ None
-none_is None none = refl
-none_is (Some reason) none = absurd cc
-
-pub reason_there : (x : Option Reason) → x ≢ None → (reason : Reason) × (x ≡ Some reason)
-reason_there None some = absurd (some refl)
-reason_there (Some reason) some = (reason, refl)
-
-below : (m n : ℕ) → nat_lt m n ≡ true → m < n
-below m n h = grind arith
-
-is_below : (m n : ℕ) → m < n → nat_lt m n ≡ true
-is_below m n h = grind arith
-
-right_of : (s t : Bool) → (s && t) ≡ false → s ≡ true → t ≡ false
-right_of true t e f = e
-right_of false t e f = absurd cc
-
-pub noted_at : (pool : Pool) (row stages others : ℕ) (notes : ActionSet) → others ≡ stages → ArePlaces notes (λ place. nat_lt (place % 8) others && is_some (reason_at pool row (place / 8 * others + place % 8))) → AreNoted pool stages row notes
-noted_at pool row stages others notes same are = subst (λ (s : ℕ). AreNoted pool s row notes) same (record {
-  at_stages = λ place within is. below (place % 8) others (parts place within is).0;
-  some = λ place within is. some_is (reason_at pool row (number_at others place)) (parts place within is).1;
-  none = λ place within stage out.
-      none_is (reason_at pool row (number_at others place))
-      (right_of (nat_lt (place % 8) others) (is_some (reason_at pool row (number_at others place))) (sym (are place within) ∙ out) (is_below (place % 8) others stage));
-})
-  where
-    parts : (place : ℕ) → place < 192 → has_place notes place ≡ true → (nat_lt (place % 8) others ≡ true) × (is_some (reason_at pool row (number_at others place)) ≡ true)
-    parts place within is = and_parts (nat_lt (place % 8) others) (is_some (reason_at pool row (number_at others place))) (sym (are place within) ∙ is)
-
 -- the reasons of a row are the common ones
 pub commons : (pool : Pool) (row : ℕ) (head : RowHead) (mask : Mask) → IsHeadOf pool.rows row head → mask ≡ head.key.mask
     → ((key : Key) (number : ℕ) (reason : Reason) → slice_get (keys pool) row ≡ Some key → reason_at pool row number ≡ Some reason → common_at pool key.mask number ≡ Some reason)
@@ -137,25 +111,49 @@ pub commons : (pool : Pool) (row : ℕ) (head : RowHead) (mask : Mask) → IsHea
 commons pool row head mask is same all number reason has =
     ap (λ (m : Mask). common_at pool m number) same ∙ all head.key number reason (mapped (λ (r : PoolRow). r.key) pool.rows row is.0 is.1 ∙ ap Some is.2) has
 
--- the row is written with them
-pub row_written : (pool : Pool) (stages row : ℕ) (head : RowHead) (notes : ActionSet) (said : SetNotes) (old new : List ℕ) → IsHeadOf pool.rows row head → AreNoted pool stages row notes → IsWriterOf pool stages said → IsAmong notes said.known
-    → ((number : ℕ) (reason : Reason) → reason_at pool row number ≡ Some reason → common_at pool said.mask number ≡ Some reason) → GoOnAs said head notes old new → IsRowWritten pool stages row old new
-row_written pool stages row head notes said old new is are writer among common goes_on = record {
-  head = head;
-  is_head = is;
-  notes = notes;
-  said = said;
-  its_stages = writer.its_stages;
-  are_noted = noted;
-  its_reasons = λ place within member.
-      let number = number_at said.stages place in
-      let found = reason_there (reason_at pool row number) (noted.some place within member) in
-      found.1 ∙ (sym (common number found.0 found.1) ∙ writer.its_reasons place within (among place within member));
-  goes_on = goes_on;
-}
+-- two lists of notes are one, where the tests of places and the notes of those that pass are
+same_notes : (f g : ℕ → Bool) (s t : ℕ → Note) (n : ℕ) → ((k : ℕ) → k < n → f k ≡ g k) → ((k : ℕ) → k < n → f k ≡ true → s k ≡ t k) → map s (filter f (numbers_below n)) ≡ map t (filter g (numbers_below n))
+same_notes f g s t zero tests same = refl
+same_notes f g s t (suc n) tests same =
+    ap (map s) (one_more f n) ∙ map-append s (filter f (numbers_below n)) (filter f (n ∷ []))
+    ∙ ap (λ (ns : List Note). ns ++ map s (filter f (n ∷ []))) (same_notes f g s t n (λ k lt. tests k (omega (arith, lt))) (λ k lt. same k (omega (arith, lt))))
+    ∙ ap (λ (ns : List Note). map t (filter g (numbers_below n)) ++ ns) (last (f n) refl)
+    ∙ sym (ap (map t) (one_more g n) ∙ map-append t (filter g (numbers_below n)) (filter g (n ∷ [])))
   where
-    noted : AreNoted pool said.stages row notes
-    noted = subst (λ (s : ℕ). AreNoted pool s row notes) (sym writer.its_stages) are
+    here : f n ≡ g n
+    here = tests n (omega arith)
+
+    last : (b : Bool) → f n ≡ b → map s (filter f (n ∷ [])) ≡ map t (filter g (n ∷ []))
+    last true pass = ap (map s) (keep f n pass) ∙ ap (λ (note : Note). note ∷ []) (same n (omega arith) pass) ∙ sym (ap (map t) (keep g n (sym here ∙ pass)))
+    last false fail = ap (map s) (skip f n fail) ∙ sym (ap (map t) (skip g n (sym here ∙ fail)))
+
+-- the row is written with them
+module _ (pool : Pool) (stages row others : ℕ) (head : RowHead) (notes : ActionSet) (said : SetNotes) (is_head : IsHeadOf pool.rows row head) (other : others ≡ stages)
+    (are : ArePlaces notes (λ place. nat_lt (place % 8) others && is_some (reason_at pool row (place / 8 * others + place % 8)))) (writer : IsWriterOf pool stages said) (among : IsAmong notes said.known)
+    (common : (number : ℕ) (reason : Reason) → reason_at pool row number ≡ Some reason → common_at pool said.mask number ≡ Some reason) where
+  tested : (k : ℕ) → k < 192 → has_place notes k ≡ is_noted pool stages row k
+  tested k lt = are k lt ∙ ap (λ (s : ℕ). nat_lt (k % 8) s && is_some (reason_at pool row (k / 8 * s + k % 8))) other
+
+  noted : (k : ℕ) → k < 192 → has_place notes k ≡ true → note_at said 0 k ≡ row_note pool stages row 0 k
+  noted k lt is =
+      let number = number_at said.stages k in
+      let there : reason_at pool row number ≡ Some (known (reason_at pool row number)) =
+      subst (λ (s : ℕ). reason_at pool row (number_at s k) ≡ Some (known (reason_at pool row (number_at s k)))) (sym writer.its_stages) (noted_reason pool stages row k (sym (tested k lt) ∙ is)) in
+      let value : reason_of said number ≡ known (reason_at pool row number) =
+      same_Some (reason_of said number) (known (reason_at pool row number)) (sym (writer.its_reasons k lt (among k lt is)) ∙ common number (known (reason_at pool row number)) there) in
+      let own : note_at said 0 k ≡ row_note pool said.stages row 0 k = λ i. record { row = 0; action = number; reason = value i } in
+      own ∙ ap (λ (s : ℕ). row_note pool s row 0 k) writer.its_stages
+
+  all_noted : notes_of said 0 notes ≡ row_notes pool stages row 0
+  unfolding places_of noted_places
+  all_noted = same_notes (has_place notes) (is_noted pool stages row) (note_at said 0) (row_note pool stages row 0) 192 tested noted
+
+  pub row_written : (old new : List ℕ) → new ≡ old ++ lines_text (row_line head ∷ map (line_of_note said.stages) (notes_of said 0 notes)) → new ≡ old ++ row_text pool stages row
+  row_written old new told =
+      told
+      ∙ ap (λ (ls : List CertLine). old ++ lines_text (row_line head ∷ ls))
+      ((λ i. map (line_of_note (writer.its_stages i)) (notes_of said 0 notes)) ∙ ap (map (line_of_note stages)) all_noted)
+      ∙ ap (λ (t : List ℕ). old ++ t) (sym (row_text_is pool stages row head is_head))
 
 -- ---- the keys of rows
 pub placed_at : (pool : Pool) (places : ℕ) → All (HasPlace places) (keys pool) → (row : ℕ) (it : PoolRow) → slice_get pool.rows row ≡ Some it → HasPlace places it.key

@@ -1,5 +1,5 @@
--- The text of one row more, and what a writer knows.
-use Rattle.std.proofs.Common.{◌≡◌, ℕ, ◌+◌, ◌*◌, ◌<◌, ◌≤◌, List, [], ◌∷◌, ◌++◌, codes, map, length, take, Some, arith, refl, sym, ◌∙◌, ap, append_assoc}
+-- The text of one row more.
+use Rattle.std.proofs.Common.{◌≡◌, ℕ, ◌+◌, ◌*◌, ◌<◌, ◌≤◌, List, [], ◌∷◌, ◌++◌, codes, map, length, take, Some, arith, refl, sym, ◌∙◌, ap, subst, append_assoc}
 use Rattle.std.specs.Prelude.{slice_get, All}
 use Rattle.std.proofs.lemmas.List.{append-nil, length-append}
 use Rattle.std.proofs.Math.Seq.{take-append_seam}
@@ -11,14 +11,14 @@ use Rattle.plan_cert.specs.declared.cert.RowHead.{RowHead}
 use Rattle.plan_cert.specs.declared.cert.Note.{Note}
 use Rattle.plan_cert.specs.declared.format.Format.TheVariants.{Version2}
 use Rattle.plan_cert.specs.Cert.{CertData}
-use Rattle.plan_cert.specs.Lines.{CertLine, lines_text, line_text, format_line, claim_line, step_line, end_line}
+use Rattle.plan_cert.specs.Lines.{CertLine, lines_text, line_text, format_line, claim_line, step_line, row_line, end_line}
 use Rattle.plan_cert.specs.JobText.{job_lines}
-use Rattle.plan_cert.specs.CertText.{rows_lines, cert_text2}
+use Rattle.plan_cert.specs.CertText.{line_of_note, rows_lines, cert_text2}
 use Rattle.plan_cert.proofs.JobTexts.{four}
 use Rattle.row_pool.specs.Rows.{Pool, IsPool, reason_at}
-use Rattle.row_text.specs.Notes.{notes_of}
-use Rattle.bb_search.specs.CertRows.{row_of_order, note_order, AreNotes}
-use Rattle.bb_search.specs.WrittenRows.{beginning_text, without_rows, IsRowWritten, AreRowsWritten}
+use Rattle.row_text.proofs.MoreRows.{AreAt, more_text}
+use Rattle.bb_search.specs.CertRows.{row_of_order, IsHeadOf, note_order, AreNotes}
+use Rattle.bb_search.specs.WrittenRows.{beginning_text, without_rows, noted_places, row_note, row_notes, worth_lines, head_lines, row_text, AreRowsWritten}
 use Rattle.bb_search.proofs.NoteLists.{no_notes}
 use Rattle.bb_search.proofs.RowOrders.{heads_push}
 use Rattle.bb_search.proofs.WrittenNotes.{row_noted}
@@ -41,21 +41,44 @@ early_notes pool orders count rows notes all listed k d within =
     let early = is.early in
     omega (arith, early, all)
 
-pub row_more : (pool : Pool) (stages : ℕ) → IsPool pool → stages ≤ 6 → pool.actions ≡ 24 * stages → (orders : List ℕ) (count order : ℕ) → slice_get orders count ≡ Some order → (old middle new : List ℕ) → AreRowsWritten pool stages orders count old middle
-    → IsRowWritten pool stages (row_of_order order) middle new → AreRowsWritten pool stages orders (count + 1) old new
-row_more pool stages is_pool few actions orders count order at old middle new before row = record {
-  rows = before.rows ++ row.head ∷ [];
+-- the notes of a row are of it
+own_notes : (pool : Pool) (stages row among : ℕ) (places : List ℕ) → AreAt among (map (row_note pool stages row among) places)
+own_notes pool stages row among [] = tt
+own_notes pool stages row among (place ∷ places) = (refl, own_notes pool stages row among places)
+
+-- their lines don't tell where the row stands
+same_lines : (pool : Pool) (stages row among other : ℕ) (places : List ℕ) → map (line_of_note stages) (map (row_note pool stages row among) places) ≡ map (line_of_note stages) (map (row_note pool stages row other) places)
+same_lines pool stages row among other [] = refl
+same_lines pool stages row among other (place ∷ places) = ap (λ (ls : List CertLine). line_of_note stages (row_note pool stages row among place) ∷ ls) (same_lines pool stages row among other places)
+
+-- the text of a row by its key and its worth
+pub row_text_is : (pool : Pool) (stages row : ℕ) (head : RowHead) → IsHeadOf pool.rows row head → row_text pool stages row ≡ lines_text (row_line head ∷ map (line_of_note stages) (row_notes pool stages row 0))
+unfolding row_text
+row_text_is pool stages row head (it, at, key, worth) =
+    ap (λ (ls : List CertLine). lines_text (ls ++ map (line_of_note stages) (row_notes pool stages row 0))) (ap head_lines at ∙ (λ i. worth_lines (key i) (worth i)))
+
+pub row_more : (pool : Pool) (stages : ℕ) → IsPool pool → stages ≤ 6 → pool.actions ≡ 24 * stages → (orders : List ℕ) (count order : ℕ) → slice_get orders count ≡ Some order → (head : RowHead) → IsHeadOf pool.rows (row_of_order order) head → (old middle new : List ℕ)
+    → AreRowsWritten pool stages orders count old middle → new ≡ middle ++ row_text pool stages (row_of_order order) → AreRowsWritten pool stages orders (count + 1) old new
+row_more pool stages is_pool few actions orders count order at head is_head old middle new before told = record {
+  rows = before.rows ++ head ∷ [];
   notes = before.notes ++ own;
-  heads = heads_push pool.rows orders count order before.rows row.head at row.is_head before.heads;
-  listed = row_noted pool orders count (row_of_order order) (λ number. ap (λ (o : ℕ). reason_at pool (row_of_order o) number) (get_or_from_slice_get orders count order 0 at)) row.said row.notes (omega (arith, few, row.its_stages)) row.are_noted row.its_reasons
-      before.notes before.listed is_pool (actions ∙ ap (λ (n : ℕ). 24 * n) (sym row.its_stages));
-  text = row.goes_on old before.rows before.notes (early_notes pool orders count before.rows before.notes before.heads.all before.listed)
-      (before.text ∙ ap (λ (n : ℕ). old ++ lines_text (rows_lines n before.rows before.notes)) (sym row.its_stages))
-      ∙ (λ i. old ++ lines_text (rows_lines (row.its_stages i) (before.rows ++ row.head ∷ []) (before.notes ++ notes_of row.said (before.heads.all i) row.notes)));
+  heads = heads_push pool.rows orders count order before.rows head at is_head before.heads;
+  listed = row_noted pool orders count row (λ number. ap (λ (o : ℕ). reason_at pool (row_of_order o) number) (get_or_from_slice_get orders count order 0 at)) stages few before.notes before.listed is_pool actions;
+  text = told ∙ ap (λ (t : List ℕ). t ++ row_text pool stages row) before.text ∙ append_assoc old texts (row_text pool stages row)
+      ∙ ap (λ (t : List ℕ). old ++ t)
+      (ap (λ (t : List ℕ). texts ++ t) (row_text_is pool stages row head is_head ∙ ap (λ (ls : List CertLine). lines_text (row_line head ∷ ls)) (same_lines pool stages row 0 count (noted_places pool stages row)))
+      ∙ sym (more_text stages before.rows head before.notes own (early_notes pool orders count before.rows before.notes before.heads.all before.listed)
+      (subst (λ (n : ℕ). AreAt n own) (sym before.heads.all) (own_notes pool stages row count (noted_places pool stages row)))));
 }
   where
+    row : ℕ
+    row = row_of_order order
+
     own : List Note
-    own = notes_of row.said count row.notes
+    own = row_notes pool stages row count
+
+    texts : List ℕ
+    texts = lines_text (rows_lines stages before.rows before.notes)
 
 -- ---- the whole text
 last_line : line_text end_line ++ [] ≡ codes "end\n"

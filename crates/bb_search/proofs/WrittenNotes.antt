@@ -1,17 +1,18 @@
--- The notes of one row more, by the set of its actions.
-use Rattle.std.proofs.Common.{◌≡◌, inl, inr, ℕ, zero, suc, ◌+◌, ◌*◌, ◌/◌, ◌%◌, ◌<◌, ◌≤◌, true, false, List, [], ◌∷◌, ◌++◌, map, filter, Some, None, arith, refl, sym, ◌∙◌, ap, subst, append_assoc}
+-- The notes of one row more, by the places of its actions.
+use Rattle.std.proofs.Common.{◌≡◌, inl, inr, ℕ, zero, suc, ◌+◌, ◌*◌, ◌/◌, ◌%◌, ◌<◌, ◌≤◌, ◌&&◌, nat_lt, Bool, true, false, Option, List, [], ◌∷◌, ◌++◌, map, filter, Some, None, arith, refl, sym, ◌∙◌, ap, subst, append_assoc}
 use Rattle.std.proofs.lemmas.Bool.{cases_lt, cases_Bool}
 use Rattle.std.proofs.lemmas.List.{append-nil, map-append}
-use Rattle.stage_lanes.specs.declared.actions.ActionSet.{ActionSet}
-use Rattle.stage_lanes.specs.ActionSets.{has_place, numbers_below, places_of}
+use Rattle.std.specs.Prelude.{is_some}
+use Rattle.brake_base.specs.declared.reason.Reason.{Reason}
+use Rattle.stage_lanes.specs.ActionSets.{numbers_below}
 use Rattle.row_pool.specs.Rows.{Pool, IsPool, reason_at}
 use Rattle.plan_cert.specs.declared.cert.Note.{Note}
-use Rattle.row_text.specs.Notes.{SetNotes, number_at, note_at, notes_of}
-use Rattle.row_text.specs.Notes.{reason_at as reason_of}
+use Rattle.row_text.specs.Notes.{number_at}
 use Rattle.row_text.proofs.ActionPlaces.{number_at_below}
 use Rattle.row_text.proofs.SetLists.{one_more, skip, keep}
+use Rattle.std.proofs.lemmas.Bool.{and_parts}
 use Rattle.bb_search.specs.CertRows.{reason_in, note_order, AreNotes}
-use Rattle.bb_search.specs.WrittenRows.{AreNoted}
+use Rattle.bb_search.specs.WrittenRows.{is_noted, noted_places, known, row_note, row_notes}
 use Rattle.bb_search.proofs.NoteLists.{notes_up_to, notes_more, notes_of_row}
 
 -- the end of the numbers below a place, before the next place: at a stage of the machine the number
@@ -43,62 +44,91 @@ module _ (stages n m : ℕ) (outside : stages ≤ n % 8) (low : suc n % 8 ≤ st
   next_below : n % 8 ≤ stages → m ≡ n / 8 * stages + n % 8
   next_below below = next_outside ∙ ap (λ (s : ℕ). n / 8 * stages + s) (omega (arith, below, outside))
 
-module _ (pool : Pool) (orders : List ℕ) (place row : ℕ) (here : (number : ℕ) → reason_in pool orders place number ≡ reason_at pool row number) (said : SetNotes) (set : ActionSet) (few : said.stages ≤ 6) (are : AreNoted pool said.stages row set)
-    (reasons : (k : ℕ) → k < 192 → has_place set k ≡ true → reason_at pool row (number_at said.stages k) ≡ Some (reason_of said (number_at said.stages k))) (notes : List Note) (before : AreNotes pool orders (note_order place 0) notes) where
+-- ---- what a test of a place tells
+below : (m n : ℕ) → nat_lt m n ≡ true → m < n
+below m n h = grind arith
+
+is_below : (m n : ℕ) → m < n → nat_lt m n ≡ true
+is_below m n h = grind arith
+
+-- a reason that is there is the known one
+there : (x : Option Reason) → is_some x ≡ true → x ≡ Some (known x)
+there None some = absurd cc
+there (Some reason) some = refl
+
+none_there : (s t : Bool) (x : Option Reason) → (s && is_some x) ≡ t → t ≡ false → s ≡ true → x ≡ None
+none_there s t None is fail pass = refl
+none_there true t (Some reason) is fail pass = absurd cc
+none_there false t (Some reason) is fail pass = absurd cc
+
+module _ (pool : Pool) (stages row n : ℕ) where
+  noted_stage : is_noted pool stages row n ≡ true → n % 8 < stages
+  noted_stage is = below (n % 8) stages (and_parts (nat_lt (n % 8) stages) (is_some (reason_at pool row (number_at stages n))) is).0
+
+  pub noted_reason : is_noted pool stages row n ≡ true → reason_at pool row (number_at stages n) ≡ Some (known (reason_at pool row (number_at stages n)))
+  noted_reason is = there (reason_at pool row (number_at stages n)) (and_parts (nat_lt (n % 8) stages) (is_some (reason_at pool row (number_at stages n))) is).1
+
+  noted_none : n % 8 < stages → is_noted pool stages row n ≡ false → reason_at pool row (number_at stages n) ≡ None
+  noted_none inside out = none_there (nat_lt (n % 8) stages) false (reason_at pool row (number_at stages n)) out refl (is_below (n % 8) stages inside)
+
+module _ (pool : Pool) (orders : List ℕ) (place row : ℕ) (here : (number : ℕ) → reason_in pool orders place number ≡ reason_at pool row number) (stages : ℕ) (few : stages ≤ 6) (notes : List Note) (before : AreNotes pool orders (note_order place 0) notes) where
+  abbrev test : ℕ → Bool
+  test n = is_noted pool stages row n
+
   abbrev so_far : ℕ → List Note
-  so_far n = notes ++ map (note_at said place) (filter (has_place set) (numbers_below n))
+  so_far n = notes ++ map (row_note pool stages row place) (filter test (numbers_below n))
 
-  one_note : (n : ℕ) → has_place set n ≡ true → so_far (suc n) ≡ so_far n ++ note_at said place n ∷ []
+  one_note : (n : ℕ) → test n ≡ true → so_far (suc n) ≡ so_far n ++ row_note pool stages row place n ∷ []
   one_note n member =
-      ap (λ (ks : List ℕ). notes ++ map (note_at said place) ks) (one_more (has_place set) n ∙ ap (λ (ks : List ℕ). filter (has_place set) (numbers_below n) ++ ks) (keep (has_place set) n member))
-      ∙ ap (λ (ns : List Note). notes ++ ns) (map-append (note_at said place) (filter (has_place set) (numbers_below n)) (n ∷ []))
-      ∙ sym (append_assoc notes (map (note_at said place) (filter (has_place set) (numbers_below n))) (note_at said place n ∷ []))
+      ap (λ (ks : List ℕ). notes ++ map (row_note pool stages row place) ks) (one_more test n ∙ ap (λ (ks : List ℕ). filter test (numbers_below n) ++ ks) (keep test n member))
+      ∙ ap (λ (ns : List Note). notes ++ ns) (map-append (row_note pool stages row place) (filter test (numbers_below n)) (n ∷ []))
+      ∙ sym (append_assoc notes (map (row_note pool stages row place) (filter test (numbers_below n))) (row_note pool stages row place n ∷ []))
 
-  no_note : (n : ℕ) → has_place set n ≡ false → so_far (suc n) ≡ so_far n
+  no_note : (n : ℕ) → test n ≡ false → so_far (suc n) ≡ so_far n
   no_note n out =
-      ap (λ (ks : List ℕ). notes ++ map (note_at said place) ks)
-      (one_more (has_place set) n ∙ ap (λ (ks : List ℕ). filter (has_place set) (numbers_below n) ++ ks) (skip (has_place set) n out) ∙ append-nil (filter (has_place set) (numbers_below n)))
+      ap (λ (ks : List ℕ). notes ++ map (row_note pool stages row place) ks)
+      (one_more test n ∙ ap (λ (ks : List ℕ). filter test (numbers_below n) ++ ks) (skip test n out) ∙ append-nil (filter test (numbers_below n)))
 
   nothing : (s : ℕ) → 0 * s + 0 ≡ 0
   nothing s = omega arith
 
-  notes_to : (n : ℕ) → n ≤ 192 → (m : ℕ) → (n % 8 ≤ said.stages → m ≡ n / 8 * said.stages + n % 8) → (said.stages ≤ n % 8 → m ≡ n / 8 * said.stages + said.stages) → AreNotes pool orders (note_order place m) (so_far n)
+  notes_to : (n : ℕ) → n ≤ 192 → (m : ℕ) → (n % 8 ≤ stages → m ≡ n / 8 * stages + n % 8) → (stages ≤ n % 8 → m ≡ n / 8 * stages + stages) → AreNotes pool orders (note_order place m) (so_far n)
   notes_to zero within m low high =
-      subst (λ (k : ℕ). AreNotes pool orders (note_order place k) (notes ++ [])) (sym (low (omega arith) ∙ nothing said.stages)) (subst (AreNotes pool orders (note_order place 0)) (sym (append-nil notes)) before)
-  notes_to (suc n) within m low high = elim (cases_lt (n % 8) said.stages) [
+      subst (λ (k : ℕ). AreNotes pool orders (note_order place k) (notes ++ [])) (sym (low (omega arith) ∙ nothing stages)) (subst (AreNotes pool orders (note_order place 0)) (sym (append-nil notes)) before)
+  notes_to (suc n) within m low high = elim (cases_lt (n % 8) stages) [
     | inl inside ↦
-        let number = number_at said.stages n in
-        let next : m ≡ number + 1 = next_inside said.stages n m inside few low in
-        let bounded = number_at_below said.stages n (omega (arith, within)) inside in
+        let number = number_at stages n in
+        let next : m ≡ number + 1 = next_inside stages n m inside few low in
+        let bounded = number_at_below stages n (omega (arith, within)) inside in
         let small : number < 256 = omega (arith, bounded, few) in
         let earlier = notes_to n (omega (arith, within)) number (λ _. refl) (λ over. absurd (omega (arith, over, inside))) in
         subst (λ (k : ℕ). AreNotes pool orders (note_order place k) (so_far (suc n))) (sym next)
-        (elim (cases_Bool (has_place set n)) [
+        (elim (cases_Bool (test n)) [
           | inl member ↦
               subst (AreNotes pool orders (note_order place (number + 1))) (sym (one_note n member))
-              (notes_more pool orders place number small (so_far n) earlier (reason_of said number) (here number ∙ reasons n (omega (arith, within)) member))
+              (notes_more pool orders place number small (so_far n) earlier (known (reason_at pool row number)) (here number ∙ noted_reason pool stages row n member))
           | inr out ↦
               subst (AreNotes pool orders (note_order place (number + 1))) (sym (no_note n out))
               (notes_up_to pool orders place number (number + 1) (so_far n) (omega arith) (omega (arith, small))
               (λ other late early.
               let same : number ≡ other = omega (arith, late, early) in
-              subst (λ (k : ℕ). reason_in pool orders place k ≡ None) same (here number ∙ are.none n (omega (arith, within)) inside out))
+              subst (λ (k : ℕ). reason_in pool orders place k ≡ None) same (here number ∙ noted_none pool stages row n inside out))
               earlier)
         ])
     | inr outside ↦
-        let out : has_place set n ≡ false = elim (cases_Bool (has_place set n)) [
-          | inl member ↦ let inside = are.at_stages n (omega (arith, within)) member in absurd (omega (arith, inside, outside))
+        let out : test n ≡ false = elim (cases_Bool (test n)) [
+          | inl member ↦ let inside = noted_stage pool stages row n member in absurd (omega (arith, inside, outside))
           | inr out ↦ out
         ] in
         subst (AreNotes pool orders (note_order place m)) (sym (no_note n out))
-        (notes_to n (omega (arith, within)) m (next_below said.stages n m outside low high) (λ _. next_outside said.stages n m outside low high))
+        (notes_to n (omega (arith, within)) m (next_below stages n m outside low high) (λ _. next_outside stages n m outside low high))
   ]
 
-  pub row_noted : IsPool pool → pool.actions ≡ 24 * said.stages → AreNotes pool orders (note_order (place + 1) 0) (notes ++ notes_of said place set)
-  unfolding places_of
+  pub row_noted : IsPool pool → pool.actions ≡ 24 * stages → AreNotes pool orders (note_order (place + 1) 0) (notes ++ row_notes pool stages row place)
+  unfolding noted_places
   row_noted is_pool all =
       notes_of_row pool orders is_pool place (so_far 192) (omega (arith, all, few))
-      (notes_to 192 (omega arith) pool.actions (λ _. all ∙ plain said.stages) (λ none. all ∙ no_stages said.stages none))
+      (notes_to 192 (omega arith) pool.actions (λ _. all ∙ plain stages) (λ none. all ∙ no_stages stages none))
     where
       plain : (s : ℕ) → 24 * s ≡ 24 * s + 0
       plain s = omega arith

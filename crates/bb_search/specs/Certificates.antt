@@ -45,7 +45,7 @@ pub record IsCertificateOf (search : SearchData) (cert : CertData) : Type 0 wher
 pub record IsWrittenAs (job : JobData) (cert : CertData) (written : WrittenCert) : Type 0 where
   pub claim : written.claim ≡ cert.claim
   pub steps : written.steps.items ≡ cert.steps
-  pub text : written.text.items ≡ cert_text2 job cert
+  pub text : written.text ≡ cert_text2 job cert
 
 -- it is written of a certificate of what the run answered
 abbrev pub IsWritten : SearchData → WrittenCert → Type 0

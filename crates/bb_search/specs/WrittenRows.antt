@@ -1,26 +1,31 @@
 -- The text of a pool's rows and of their reasons.
-use Rattle.std.specs.Prelude.{◌≡◌, ◌≢◌, ℕ, ◌*◌, ◌%◌, ◌<◌, ◌≤◌, true, false, IsTrue}
-use Rattle.std.specs.Prelude.{Some, None, List, [], ◌∷◌, ◌++◌, length, map, slice_get, All}
+use Rattle.std.specs.Prelude.{◌≡◌, ◌≢◌, ℕ, suc, ◌+◌, ◌*◌, ◌%◌, ◌<◌, ◌≤◌, ◌&&◌, ◌==◌, nat_lt, is_some}
+use Rattle.std.specs.Prelude.{Bool, true, false, if◌then◌else◌, IsTrue, IfSome, Option}
+use Rattle.std.specs.Prelude.{Some, None, List, [], ◌∷◌, ◌++◌, codes, length, map, filter, slice_get}
+use Rattle.std.specs.Prelude.{All}
+use Rattle.std.specs.List.{flat_map, insert}
+use Rattle.brake_base.specs.declared.stroke.Key.{Key}
 use Rattle.brake_base.specs.declared.stroke.Step.{Step}
 use Rattle.brake_base.specs.declared.stroke.Worth.{Worth}
 use Rattle.brake_base.specs.declared.reason.Reason.{Reason}
-use Rattle.stage_lanes.specs.declared.actions.ActionSet.{ActionSet}
-use Rattle.stage_lanes.specs.ActionSets.{has_place}
+use Rattle.brake_base.specs.declared.reason.Reason.TheVariants.{Cover}
+use Rattle.stage_lanes.specs.ActionSets.{has_place, numbers_below}
 use Rattle.stage_lanes.specs.Codes.{IsCoded}
 use Rattle.row_pool.specs.Index.{HasPlace}
-use Rattle.row_pool.specs.Rows.{Pool, PoolRow, keys, worth_at, reason_at, common_at}
+use Rattle.row_pool.specs.Rows.{Pool, PoolRow, IsPool, keys, worth_at, reason_at, common_at}
 use Rattle.plan_cert.specs.declared.cert.RowHead.{RowHead}
 use Rattle.plan_cert.specs.declared.cert.Note.{Note}
-use Rattle.job_setup.specs.Setup.{JobData}
+use Rattle.job_setup.specs.Setup.{JobData, stage_count}
 use Rattle.plan_cert.specs.declared.format.Format.TheVariants.{Version2}
 use Rattle.plan_cert.specs.Cert.{CertData}
 use Rattle.plan_cert.specs.JobText.{job_lines}
-use Rattle.plan_cert.specs.Lines.{lines_text, format_line, claim_line, step_line}
-use Rattle.plan_cert.specs.CertText.{rows_lines}
+use Rattle.plan_cert.specs.Lines.{CertLine, lines_text, format_line, claim_line, step_line, row_line}
+use Rattle.plan_cert.specs.CertText.{line_of_note, rows_lines}
 use Rattle.plan_cert.specs.WellFormed.{IsWorth}
-use Rattle.row_text.specs.Notes.{SetNotes, number_at, GoOnAs}
+use Rattle.row_text.specs.Notes.{SetNotes, number_at}
 use Rattle.row_text.specs.Notes.{reason_at as reason_of}
-use Rattle.bb_search.specs.CertRows.{AreSortedRows, IsHeadOf, AreHeads, note_order, AreNotes}
+use Rattle.bb_search.specs.CertRows.{row_order, row_of_order, AreSortedRows, AreHeads, note_order}
+use Rattle.bb_search.specs.CertRows.{AreNotes}
 
 -- the text of a certificate up to its rows: the job, the claim and the steps
 abbrev pub beginning_text : JobData → Worth → List Step → List ℕ
@@ -46,17 +51,6 @@ pub record AreWritable (stages : ℕ) (pool : Pool) : Type 0 where
       (row action : ℕ) (reason : Reason) → reason_at pool row action ≡ Some reason
       → IsCoded reason
 
--- a set's actions are those for which the row of this number has a reason
-pub record AreNoted (pool : Pool) (stages row : ℕ) (notes : ActionSet) : Type 0 where
-  pub at_stages :
-      (place : ℕ) → place < 192 → has_place notes place ≡ true → place % 8 < stages
-  pub some :
-      (place : ℕ) → place < 192 → has_place notes place ≡ true
-      → reason_at pool row (number_at stages place) ≢ None
-  pub none :
-      (place : ℕ) → place < 192 → place % 8 < stages → has_place notes place ≡ false
-      → reason_at pool row (number_at stages place) ≡ None
-
 -- the reasons that a writer knows are those that the pool's rows with its set have in common
 abbrev pub AreCommonReasons : Pool → SetNotes → Type 0
 AreCommonReasons pool said =
@@ -69,19 +63,109 @@ pub record IsWriterOf (pool : Pool) (stages : ℕ) (said : SetNotes) : Type 0 wh
   pub its_stages : said.stages ≡ stages
   pub its_reasons : AreCommonReasons pool said
 
--- a text goes on with the row of this number and its reasons
-pub record IsRowWritten (pool : Pool) (stages row : ℕ) (old new : List ℕ) : Type 0 where
-  pub head : RowHead
-  pub is_head : IsHeadOf pool.rows row head
-  pub notes : ActionSet
-  pub said : SetNotes
-  pub its_stages : said.stages ≡ stages
-  pub are_noted : AreNoted pool said.stages row notes
-  pub its_reasons :
-      (place : ℕ) → place < 192 → has_place notes place ≡ true
-      → reason_at pool row (number_at said.stages place)
-      ≡ Some (reason_of said (number_at said.stages place))
-  pub goes_on : GoOnAs said head notes old new
+-- the row of a number has a reason against the action that has this place in sets
+abbrev pub is_noted : Pool → ℕ → ℕ → ℕ → Bool
+is_noted pool stages row place =
+    nat_lt (place % 8) stages && is_some (reason_at pool row (number_at stages place))
+
+-- the places of the actions that a row has a reason against
+unfoldable pub noted_places : Pool → ℕ → ℕ → List ℕ
+noted_places pool stages row = filter (is_noted pool stages row) (numbers_below 192)
+
+-- a reason that is there
+abbrev pub known : Option Reason → Reason
+known None = Cover
+known (Some reason) = reason
+
+-- the note of the action of a place, at a row that stands at this place among those of a certificate
+abbrev pub row_note : Pool → ℕ → ℕ → ℕ → ℕ → Note
+row_note pool stages row among place = record {
+  row = among;
+  action = number_at stages place;
+  reason = known (reason_at pool row (number_at stages place));
+}
+
+-- the notes of a row, in the order of the actions' numbers
+abbrev pub row_notes : Pool → ℕ → ℕ → ℕ → List Note
+row_notes pool stages row among =
+    map (row_note pool stages row among) (noted_places pool stages row)
+
+-- the line of a row that has a worth
+abbrev pub worth_lines : Key → Option Worth → List CertLine
+worth_lines key None = []
+worth_lines key (Some worth) = row_line (record { key = key; worth = worth }) ∷ []
+
+abbrev pub head_lines : Option PoolRow → List CertLine
+head_lines None = []
+head_lines (Some row) = worth_lines row.key row.worth
+
+-- the text of the row of a number: its line, and the lines of its notes
+unfoldable pub row_text : Pool → ℕ → ℕ → List ℕ
+row_text pool stages row =
+    lines_text (head_lines (slice_get pool.rows row)
+    ++ map (line_of_note stages) (row_notes pool stages row 0))
+
+-- where a number stands among others that don't fall
+abbrev pub place_in : ℕ → List ℕ → ℕ
+place_in x [] = 0
+place_in x (y ∷ ys) = if nat_lt y x then suc (place_in x ys) else 0
+
+-- numbers in ascending order
+abbrev pub in_order : List ℕ → List ℕ
+in_order [] = []
+in_order (x ∷ xs) = insert (in_order xs) (place_in x (in_order xs)) x
+
+-- the places in the order of keys of rows that are numbered from this one on
+abbrev pub row_orders : ℕ → List PoolRow → List ℕ
+row_orders number [] = []
+row_orders number (row ∷ rows) = row_order row.key number ∷ row_orders (number + 1) rows
+
+-- the places of all rows in ascending order
+unfoldable pub orders_of : Pool → List ℕ
+orders_of pool = in_order (row_orders 0 pool.rows)
+
+-- of these places that of the row of a number and those behind it
+abbrev pub orders_from : ℕ → List ℕ → List ℕ
+orders_from row [] = []
+orders_from row (order ∷ orders) =
+    if row_of_order order == row then order ∷ orders else orders_from row orders
+
+-- the text of rows by their places
+abbrev pub orders_text : Pool → ℕ → List ℕ → List ℕ
+orders_text pool stages orders =
+    flat_map (λ order. row_text pool stages (row_of_order order)) orders
+
+-- the text of the rows from one on, in the order of their keys; none where no row is given
+unfoldable pub rest_text : Pool → ℕ → Option ℕ → List ℕ
+rest_text pool stages None = []
+rest_text pool stages (Some row) = orders_text pool stages (orders_from row (orders_of pool))
+
+-- the text of the last line, unless it was given
+unfoldable pub end_text : Bool → List ℕ
+end_text true = []
+end_text false = codes "end\n"
+
+-- what is left of a certificate's text: what is left of its beginning, the rows from the next one
+-- on, and the last line
+abbrev pub text_left : List ℕ → Pool → ℕ → Option ℕ → Bool → List ℕ
+text_left beginning pool stages next is_ended =
+    beginning ++ rest_text pool stages next ++ end_text is_ended
+
+-- all that is needed to write the rows from the next one on
+pub record CanGoOn (pool : Pool) (stages : ℕ) (said : SetNotes) (next : Option ℕ) : Type 0 where
+  pub is_pool : IsPool pool
+  pub few_rows : length pool.rows < 4294967296
+  pub writable : AreWritable stages pool
+  pub writer : IsWriterOf pool stages said
+  pub within : IfSome next (λ row. row < length pool.rows)
+
+-- a text has gone on with the rows from one up to the next
+pub record GoesOnTo (pool : Pool) (stages : ℕ) (row next : Option ℕ) (old new : List ℕ)
+    : Type 0 where
+  pub piece : List ℕ
+  pub text : new ≡ old ++ piece
+  pub rest : rest_text pool stages row ≡ piece ++ rest_text pool stages next
+  pub in_range : IfSome next (λ r. r < length pool.rows)
 
 -- a text goes on with the rows that have the first so many places, and with their reasons
 pub record AreRowsWritten (pool : Pool) (stages : ℕ) (orders : List ℕ) (count : ℕ)
@@ -97,3 +181,11 @@ abbrev pub AreAllRowsWritten : Pool → ℕ → List ℕ → List ℕ → Type 0
 AreAllRowsWritten pool stages old new =
     (orders : List ℕ) × AreSortedRows pool.rows orders
     × AreRowsWritten pool stages orders (length orders) old new
+
+-- the text that is left is all of a certificate's: the beginning, all rows of the pool and the last
+-- line
+abbrev pub IsWholeText : JobData → Worth → List Step → Pool → List ℕ → Type 0
+IsWholeText job claim steps pool text =
+    (rows : List ℕ)
+    × AreAllRowsWritten pool (stage_count job) (beginning_text job claim steps) rows
+    × (text ≡ rows ++ codes "end\n")

@@ -7,6 +7,7 @@ mod known;
 mod known_sets;
 mod orders;
 mod outcome;
+mod pieces;
 mod plan;
 mod reach;
 mod search;
@@ -15,6 +16,7 @@ mod settle;
 mod written;
 
 pub use outcome::Outcome;
+pub use pieces::CertPieces;
 pub use reach::nodes;
 pub use search::Search;
 pub use written::WrittenCert;

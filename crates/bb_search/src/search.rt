@@ -14,15 +14,15 @@ ghost use Rattle.plan_cert.specs.Cert.{cert_data};
 
 use crate::certificate::{notes_of, row_heads, sorted_rows};
 use crate::outcome::Outcome;
+use crate::pieces::CertPieces;
 use crate::plan::kept_plan;
 use crate::reach::nodes;
 use crate::search_table::SearchTable;
 use crate::settle::settle;
-use crate::written::{WrittenCert, copy_of, put_rows, text_before_rows};
+use crate::written::{WrittenCert, copy_of};
 use arrayvec::ArrayVec;
 use bend_state::BendState;
 use brake_base::{Place, Step, Worth};
-use brake_text::put_word;
 use handling_cost::start_key;
 use job_setup::Job;
 use plan_cert::Cert;
@@ -208,17 +208,16 @@ impl Search {
         })
     }
 
-    /// The same certificate as text, without a list of its notes.
-    pub fn write(&self, alloc: Global, job: &Job) -> Result<WrittenCert, AllocError>
-        requires job { job.now ≡ self.now.job }
-        requires answered { HasAnswer self.now }
-        ensures { IfOk result (IsWritten self.now) }
+    /// The same certificate as text that is made in pieces, so that neither its notes nor the text are
+    /// held whole.
+    pub fn write(self, alloc: Global, job: &Job) -> Result<WrittenCert, AllocError>
+        requires job { job.now ≡ self.job }
+        requires answered { HasAnswer self }
+        ensures { IfOk result (IsWritten self) }
     {
         job.recall_valid();
         let (claim, steps) = (claim_of(self.outcome), copy_of(&self.steps));
-        let mut text = text_before_rows(alloc, job, claim, &steps)?;
-        put_rows(alloc, &self.pool, job.stages(), &mut text)?;
-        put_word(&mut text, b"end\n")?;
+        let text = CertPieces::open(alloc, job, claim, &steps, self.pool)?;
         Ok(WrittenCert { claim, steps, text })
     }
 }

@@ -1,12 +1,13 @@
-//! The certificate of what a run answered, written row by row.
-ghost use Rattle.std.specs.Prelude.{◌≡◌, ◌≢◌, ◌<◌, None, Some, length, IfOk, OnOk, IsTrue, ℕ};
+//! What is written of a certificate: its text up to the rows, and the text of a row.
+ghost use Rattle.std.specs.Prelude.{◌≡◌, ◌≢◌, ◌<◌, ◌++◌, None, Some, length, IfOk, OnOk, IsTrue, ℕ};
 ghost use Rattle.stage_lanes.specs.ActionSets.{has_place};
-ghost use Rattle.row_pool.specs.Rows.{Pool, IsPool, reason_at, common_at};
+ghost use Rattle.row_pool.specs.Rows.{Pool, reason_at, common_at};
 ghost use Rattle.plan_cert.specs.WellFormed.{IsWellFormed};
 ghost use Rattle.row_text.specs.Notes.{IsAmong, AreOfStages, number_at};
-ghost use Rattle.bb_search.specs.WrittenRows.{beginning_text, without_rows, AreWritable, IsWriterOf, IsRowWritten, AreAllRowsWritten};
+ghost use Rattle.bb_search.specs.WrittenRows.{beginning_text, without_rows, AreWritable, IsWriterOf, row_text};
 
 use crate::certificate::row_head;
+use crate::pieces::CertPieces;
 use arrayvec::ArrayVec;
 use brake_base::{Mask, Reason, Step, Worth, action_number};
 use job_setup::Job;
@@ -16,15 +17,12 @@ use row_text::RowWriter;
 use stage_lanes::ActionSet;
 use std::alloc::{AllocError, Global};
 
-/// Room for a row and its notes, in bytes. Most take less, and what isn't written costs nothing.
-const ROW_ROOM: usize = 320;
-
-/// A certificate as text, with its claim and its steps.
-#[derive(Debug, Drop)]
+/// A certificate as text that is made in pieces, with its claim and its steps.
+#[derive(Drop)]
 pub struct WrittenCert {
     pub claim: Worth,
     pub steps: ArrayVec<Step, 12>,
-    pub text: Vec<u8>,
+    pub text: CertPieces,
 }
 
 /// The text of a certificate up to its rows.
@@ -62,7 +60,8 @@ fn known_reason(pool: &RowPool, row: u32, action: u8) -> Reason
     }
 }
 
-/// Tells the writer the reasons for some actions at a row of its set.
+/// Tells the writer the reasons for some actions at a row of its set. After a refusal it still knows
+/// no others than the pool's.
 fn set_reasons(
     pool: &RowPool,
     row: u32,
@@ -78,7 +77,7 @@ fn set_reasons(
         → reason_at pool.now row (number_at stages place) ≢ None }
     requires common { (number : ℕ) (reason : Reason) → reason_at pool.now row number ≡ Some reason
         → common_at pool.now writer.old.mask number ≡ Some reason }
-    ensures writer { OnOk result (IsWriterOf pool.now stages writer.new) }
+    ensures writer { IsWriterOf pool.now stages writer.new }
     ensures mask { OnOk result (writer.new.mask ≡ writer.old.mask) }
     ensures known { OnOk result (IsAmong actions writer.new.known) }
     ensures kept { OnOk result (IsAmong writer.old.known writer.new.known) }
@@ -95,8 +94,8 @@ fn set_reasons(
 /// Begins a set of folded bends, unless it is the one that is begun.
 fn turn_to(writer: &mut RowWriter, mask: Mask) -> Result<(), AllocError>
     ensures mask { OnOk result (writer.new.mask ≡ mask) }
-    ensures writer { OnOk result ((pool : Pool) (stages : ℕ)
-        → IsWriterOf pool stages writer.old → IsWriterOf pool stages writer.new) }
+    ensures writer { (pool : Pool) (stages : ℕ)
+        → IsWriterOf pool stages writer.old → IsWriterOf pool stages writer.new }
 {
     if writer.mask() == mask {
         return Ok(());
@@ -105,7 +104,7 @@ fn turn_to(writer: &mut RowWriter, mask: Mask) -> Result<(), AllocError>
 }
 
 /// Appends the line of a row, and those of its notes.
-fn put_row(
+pub(crate) fn put_row(
     pool: &RowPool,
     row: u32,
     stages: u8,
@@ -115,36 +114,14 @@ fn put_row(
     requires writable { AreWritable stages pool.now }
     requires row { row < length pool.now.rows }
     requires writer { IsWriterOf pool.now stages writer.old }
-    ensures writer { OnOk result (IsWriterOf pool.now stages writer.new) }
-    ensures text { OnOk result
-        (IsRowWritten pool.now stages row out.old.items out.new.items) }
+    ensures writer { IsWriterOf pool.now stages writer.new }
+    ensures text { OnOk result (out.new.items ≡ out.old.items ++ row_text pool.now stages row) }
 {
     let head = row_head(pool, row);
     let notes = pool.notes(row);
     turn_to(writer, head.key.mask)?;
     set_reasons(pool, row, stages, writer.unknown(notes), writer)?;
     writer.put_row(out, &head, notes)
-}
-
-/// Appends the lines of all rows in the order of their keys, each with those of its notes.
-pub(crate) fn put_rows(
-    alloc: Global,
-    pool: &RowPool,
-    stages: u8,
-    out: &mut Vec<u8>,
-) -> Result<(), AllocError>
-    requires writable { AreWritable stages pool.now }
-    ensures rows { OnOk result (AreAllRowsWritten pool.now stages out.old.items out.new.items) }
-    ensures pool { OnOk result (IsPool pool.now) }
-{
-    out.reserve(pool.len() as usize * ROW_ROOM)?;
-    let mut writer = RowWriter::open(alloc, stages, Mask::empty())?;
-    let mut next = pool.next_in_order(None);
-    while let Some(row) = next {
-        put_row(pool, row, stages, &mut writer, out)?;
-        next = pool.next_in_order(Some(row));
-    }
-    Ok(())
 }
 
 /// A copy of kept steps.

@@ -11,7 +11,7 @@ use Rattle.brake_cli.specs.declared.command.Command.TheVariants.{Blank, Plan, Ch
 use Rattle.brake_cli.specs.declared.command.Command.TheVariants.{Trial, Why, Setups, Settle, Merge}
 use Rattle.brake_cli.specs.declared.command.Command.TheVariants.{Prove}
 use Rattle.brake_cli.specs.BlankAnswer.{blank_answer}
-use Rattle.brake_cli.specs.PlanAnswer.{IsPlanAnswer}
+use Rattle.brake_cli.specs.PlanAnswer.{IsStoredOf, IsPlanAnswer}
 use Rattle.brake_cli.specs.CheckAnswer.{IsCheckAnswer, IsCheckFilesAnswer}
 use Rattle.brake_cli.specs.TrialAnswer.{IsTrialAnswer}
 use Rattle.brake_cli.specs.WhyAnswer.{IsWhyAnswer}
@@ -65,13 +65,17 @@ meaning_of (Settle part tools machine out low high (Some base)) words contents a
 meaning_of (Merge a b out) words contents answer = IsMergeAnswer (word_at words out) contents answer
 meaning_of (Prove table) words contents answer = IsProveAnswer contents answer
 
--- the command stores texts before it has its answer
+-- the command stores texts before its answer is given back
 abbrev pub stores_in_turn : Command → Bool
+stores_in_turn (Plan part tools machine cert budget) = true
 stores_in_turn (Setups part tools machine setups cert) = true
 stores_in_turn _ = false
 
--- what each command may have stored while it has no answer: nothing, but of `setups`
+-- what each command may have stored while it has given no answer: nothing, but `plan` the certificate
+-- of one of its answers, and `setups` those of the first setups
 abbrev pub begins_of : Command → Beginning
+begins_of (Plan part tools machine cert budget) words contents stored =
+    IsStoredOf (IsPlanAnswer (word_at words cert) budget contents) stored
 begins_of (Setups part tools machine setups cert) words contents stored =
     IsSetupsBeginning (word_at words cert) contents stored
 begins_of _ words contents stored = ⊥

@@ -21,7 +21,7 @@ use Rattle.bb_search.specs.Outcomes.{HaveFirstGauges}
 use Rattle.bb_search.specs.Certificates.{IsWrittenAs}
 use Rattle.command_runner.specs.declared.status.Status.{Status}
 use Rattle.command_runner.specs.declared.status.Status.TheVariants as status
-use Rattle.command_runner.specs.Answers.{AnswerData, one_text}
+use Rattle.command_runner.specs.Answers.{StoredData, AnswerData, one_text, one_stored}
 use Rattle.brake_cli.specs.JobAnswer.{AnswersJob, job_of_files}
 
 -- `no plan`
@@ -96,10 +96,18 @@ IsWrittenPlan budget job written =
 -- the answer by what is written of a certificate, with the first sheet that is given
 abbrev pub written_answer : List ℕ → JobData → List ℕ → WrittenCert → AnswerData
 written_answer name job sheet written = record {
-  stored = record { name = name; text = written.text.items } ∷ [];
+  stored = one_stored name written.text;
   status = claim_status written.claim;
   texts = sheet ∷ setup_text job ∷ last_text job written.claim written.steps.items ∷ [];
 }
+
+-- what is left of it to put once its text is stored
+abbrev pub written_rest : JobData → List ℕ → WrittenCert → AnswerData
+written_rest job sheet written = record (written_answer [] job sheet written) { stored = [] }
+
+-- these are the texts that an answer stores
+abbrev pub IsStoredOf : (AnswerData → Type 0) → List StoredData → Type 0
+IsStoredOf IsOne stored = (answer : AnswerData) × IsOne answer × (stored ≡ answer.stored)
 
 -- what a search within a budget finds: such a certificate, or that the budget isn't enough
 abbrev pub Finds : JobData → ℕ → Option WrittenCert → Type 0

@@ -4,6 +4,7 @@ ghost use Rattle.brake_io.specs.Rose.{Rose};
 ghost use Rattle.brake_io.specs.Meanings.{NoCountFalls};
 ghost use Rattle.setup_choice.specs.declared.outcome.Fit.TheVariants.{Ready};
 ghost use Rattle.setup_choice.specs.Best.{IsBest};
+ghost use Rattle.command_runner.specs.Answers.{one_stored};
 ghost use Rattle.command_runner.specs.Fetching.{HasDueCall};
 ghost use Rattle.command_runner.specs.Delivery.{AreStored, AreStoredUpTo};
 ghost use Rattle.command_runner.specs.Ends.{StoresBeginning};
@@ -15,9 +16,10 @@ ghost use Rattle.brake_cli.specs.Begun.{StoresPlanned, StoresPart, StoresTried, 
 use crate::plan::least_cert;
 use crate::setup_list::FittedSetup;
 use arrayvec::ArrayVec;
+use bb_search::CertPieces;
 use brake_base::{Name, Step, Worth};
 use brake_io::{Shelf, StoreFault};
-use command_runner::{StoredText, store_all};
+use command_runner::store_pieces;
 use job_setup::Job;
 use setup_choice::{Fit, Tried, best};
 use std::alloc::{AllocError, Global};
@@ -53,14 +55,13 @@ fn store_cert<H: Shelf>(
     alloc: Global,
     name: &str,
     place: u8,
-    text: Vec<u8>,
+    mut text: CertPieces,
     shelf: &mut H,
 ) -> Result<(), StoreFault>
-    ensures ok { OnOk result (AreStored
-        (record { name = numbered_name name.now place; text = text.items } ∷ [])
+    ensures ok { OnOk result (AreStored (one_stored (numbered_name name.now place) text)
         (H.state shelf.old) (H.state shelf.new)) }
-    ensures err { OnErr result ((H.state shelf.new ≡ H.state shelf.old) ⊎ AreStoredUpTo
-        (record { name = numbered_name name.now place; text = text.items } ∷ [])
+    ensures err { OnErr result ((H.state shelf.new ≡ H.state shelf.old)
+        ⊎ AreStoredUpTo (one_stored (numbered_name name.now place) text)
         (H.state shelf.old) (H.state shelf.new)) }
     ensures never_falls { NoCountFalls (H.state shelf.old) (H.state shelf.new) }
     ensures faults { OnOk result ((H.state shelf.new).faults ≡ (H.state shelf.old).faults) }
@@ -70,7 +71,7 @@ fn store_cert<H: Shelf>(
         HasDueCall (H.state shelf.old) (H.state shelf.new) }
 {
     let name = numbered_name(alloc, name, place)?;
-    store_all(&[StoredText { name, text }], shelf)
+    store_pieces(alloc, name.as_str(), &mut text, shelf)
 }
 
 /// Plans a job, and stores the certificate.

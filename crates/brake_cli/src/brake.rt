@@ -44,8 +44,9 @@ pub fn brake<H: Shelf, K: Sink>(
     shelf: &mut H,
     out: &mut K,
 ) -> Status
-    // The run stores and puts an answer that the words and the files have, or is cut short: without
-    // an answer only `setups` has stored anything, which is a beginning of its certificates.
+    // The run stores and puts an answer that the words and the files have, or is cut short: before an
+    // answer is given only `plan` and `setups` have stored anything, the certificate of one of its
+    // answers or a beginning of it, and a beginning of the certificates.
     ensures ends { RunEnds (map string_bytes words.now)
         (record { shelf = H.state shelf.old; sink = K.state out.old })
         (record { shelf = H.state shelf.new; sink = K.state out.new }) result }

@@ -99,7 +99,7 @@ impl Command {
         }
     }
 
-    /// The answer of a command that stores nothing before it has it.
+    /// The answer of a command that stores nothing before it is given.
     fn answer_at_once(
         self,
         alloc: Global,
@@ -114,9 +114,7 @@ impl Command {
     {
         match self {
             Command::Blank { .. } => blank::answer(alloc, contents),
-            Command::Plan { cert, budget, .. } => {
-                plan::answer(alloc, word_at(words, cert), budget, contents)
-            }
+            Command::Plan { .. } => unreachable!(),
             Command::Check { .. } => check::answer(alloc, contents),
             Command::CheckFiles { .. } => check::answer_with_files(alloc, contents),
             Command::Trial { n } => trial::answer(alloc, n),
@@ -169,6 +167,9 @@ impl command_runner::Command for Command {
         shelf: &mut H,
     ) -> Result<Answer, StoreFault> {
         match *self {
+            Command::Plan { cert, budget, .. } => {
+                plan::answer(alloc, word_at(words, cert), budget, contents, shelf)
+            }
             Command::Setups { cert, .. } => {
                 setups::answer(alloc, word_at(words, cert), contents, shelf)
             }

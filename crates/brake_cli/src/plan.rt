@@ -1,17 +1,22 @@
 //! What `plan` answers.
-ghost use Rattle.std.specs.Prelude.{◌≡◌, ℕ, Option, Some, None, length, map, IfOk};
+ghost use Rattle.std.specs.Prelude.{◌≡◌, ◌⊎◌, ℕ, Option, Some, None, length, map, IfOk, OnOk, OnErr, IsErrOf};
 ghost use Rattle.std.specs.Vec.{vec_items};
 ghost use Rattle.job_setup.specs.ValidJob.{IsJob};
-ghost use Rattle.command_runner.specs.Answers.{answer_data};
-ghost use Rattle.command_runner.specs.Delivery.{IsCutShort};
-ghost use Rattle.brake_cli.specs.PlanAnswer.{spent_line, claim_status, last_text, written_answer, IsPlanned, IsWrittenPlan, Finds, IsBlankSheet, IsPlanAnswer};
+ghost use Rattle.brake_io.specs.Rose.{Rose};
+ghost use Rattle.brake_io.specs.Meanings.{NoCountFalls};
+ghost use Rattle.command_runner.specs.Answers.{answer_data, one_text, one_stored};
+ghost use Rattle.command_runner.specs.Fetching.{HasDueCall};
+ghost use Rattle.command_runner.specs.Delivery.{IsCutShort, AreStored, AreStoredUpTo};
+ghost use Rattle.command_runner.specs.Ends.{StoresFirst, StoresBeginning};
+ghost use Rattle.brake_cli.specs.PlanAnswer.{spent_line, claim_status, last_text, written_rest, IsStoredOf, IsPlanned, IsWrittenPlan, Finds, IsBlankSheet, IsPlanAnswer};
 
 use crate::job_files::job_at;
 use crate::refusal::stopped;
 use bb_search::{Outcome, Search, WrittenCert, nodes};
 use brake_base::Worth;
+use brake_io::{Shelf, StoreFault};
 use brake_text::put_word;
-use command_runner::{Answer, Status, StoredText};
+use command_runner::{Answer, Status, store_pieces};
 use job_setup::Job;
 use plan_cert::put_count;
 use setup_sheet::{blank_sheet, order_sheet, setup_sheet};
@@ -77,31 +82,56 @@ pub fn claim_status(claim: Worth) -> Status
     }
 }
 
-/// The answer by a certificate, with this as the first sheet.
-fn cert_answer(
+/// The sheets of a certificate, the first of which is given.
+fn sheets(
+    alloc: Global,
+    job: &Job,
+    sheet: Vec<u8>,
+    cert: &WrittenCert,
+) -> Result<Vec<Vec<u8>>, AllocError>
+    requires { (budget : Option ℕ) × IsWrittenPlan budget job.now cert.now }
+    ensures { IfOk result (λ texts.
+        map vec_items texts.items ≡ (written_rest job.now sheet.items cert.now).texts) }
+{
+    let mut texts = Vec::new(alloc);
+    texts.push(sheet)?;
+    texts.push(setup_sheet(alloc, job)?)?;
+    texts.push(last_text(alloc, job, cert)?)?;
+    Ok(texts)
+}
+
+/// What is left of the answer by a certificate once its text is stored. The sheets, the first of which
+/// is given, are made before that.
+fn stored_answer<H: Shelf>(
     alloc: Global,
     name: &str,
     job: &Job,
     sheet: Vec<u8>,
     cert: WrittenCert,
-) -> Result<Answer, AllocError>
+    shelf: &mut H,
+) -> Result<Answer, StoreFault>
     requires { (budget : Option ℕ) × IsWrittenPlan budget job.now cert }
     ensures answer { IfOk result (λ answer.
-        answer_data answer ≡ written_answer name.now job.now sheet.items cert) }
+        answer_data answer ≡ written_rest job.now sheet.items cert) }
     ensures status { IfOk result (λ answer. ¬ IsCutShort answer.status) }
+    ensures ok { OnOk result (AreStored (one_stored name.now cert.text)
+        (H.state shelf.old) (H.state shelf.new)) }
+    ensures err { OnErr result ((H.state shelf.new ≡ H.state shelf.old)
+        ⊎ AreStoredUpTo (one_stored name.now cert.text)
+        (H.state shelf.old) (H.state shelf.new)) }
+    ensures never_falls { NoCountFalls (H.state shelf.old) (H.state shelf.new) }
+    ensures faults { OnOk result ((H.state shelf.new).faults ≡ (H.state shelf.old).faults) }
+    ensures failed { IsErrOf result StoreFault.Failed →
+        Rose (H.state shelf.old).faults (H.state shelf.new).faults }
+    ensures cause { IsErrOf result StoreFault.Failed →
+        HasDueCall (H.state shelf.old) (H.state shelf.new) }
 {
-    let mut texts = Vec::new(alloc);
-    texts.push(sheet)?;
-    texts.push(setup_sheet(alloc, job)?)?;
-    texts.push(last_text(alloc, job, &cert)?)?;
+    let texts = sheets(alloc, job, sheet, &cert)?;
     let status = claim_status(cert.claim);
-    let mut stored = Vec::new(alloc);
-    stored.push(StoredText {
-        name: String::from_str(alloc, name)?,
-        text: cert.text,
-    })?;
+    let mut text = cert.text;
+    store_pieces(alloc, name, &mut text, shelf)?;
     Ok(Answer {
-        stored,
+        stored: Vec::new(alloc),
         status,
         texts,
     })
@@ -119,58 +149,104 @@ fn spent_line(alloc: Global, budget: u32) -> Result<Vec<u8>, AllocError>
     Ok(out)
 }
 
-/// The answer to a job that has this blank sheet, by a search that settles at most so many keys.
-fn plan_within(
+/// The answer that a budget isn't enough.
+fn spent_answer(alloc: Global, budget: u32) -> Result<Answer, AllocError>
+    ensures answer { IfOk result (λ answer. answer_data answer
+        ≡ one_text Status.Spent (spent_line budget)) }
+    ensures status { IfOk result (λ answer. ¬ IsCutShort answer.status) }
+{
+    Answer::one_text(alloc, Status::Spent, spent_line(alloc, budget)?)
+}
+
+/// The answer to a job that has this blank sheet, by a search that settles at most so many keys. Its
+/// certificate is stored here.
+fn plan_within<H: Shelf>(
     alloc: Global,
     name: &str,
     budget: u32,
     job: &Job,
     sheet: Vec<u8>,
-) -> Result<Answer, AllocError>
+    shelf: &mut H,
+) -> Result<Answer, StoreFault>
     requires job { IsJob job.now }
     requires sheet { IsBlankSheet job.now sheet.items }
     ensures answer { IfOk result (λ answer.
-        IsPlanned name.now (Some budget) job.now (answer_data answer)) }
+        StoresFirst (IsPlanned name.now (Some budget) job.now) (answer_data answer)
+        (H.state shelf.old) (H.state shelf.new)) }
     ensures status { IfOk result (λ answer. ¬ IsCutShort answer.status) }
+    ensures begins { OnErr result ((H.state shelf.new ≡ H.state shelf.old)
+        ⊎ StoresBeginning (IsStoredOf (IsPlanned name.now (Some budget) job.now))
+        (H.state shelf.old) (H.state shelf.new)) }
+    ensures never_falls { NoCountFalls (H.state shelf.old) (H.state shelf.new) }
+    ensures failed { IsErrOf result StoreFault.Failed →
+        Rose (H.state shelf.old).faults (H.state shelf.new).faults }
+    ensures cause { IsErrOf result StoreFault.Failed →
+        HasDueCall (H.state shelf.old) (H.state shelf.new) }
 {
     let found = find_cert(alloc, job, budget)?;
     match found {
-        Some(cert) => cert_answer(alloc, name, job, sheet, cert),
-        None => Answer::one_text(alloc, Status::Spent, spent_line(alloc, budget)?),
+        Some(cert) => stored_answer(alloc, name, job, sheet, cert, shelf),
+        None => Ok(spent_answer(alloc, budget)?),
     }
 }
 
-/// The answer to a job, within the budget if one is given.
-fn plan_job(alloc: Global, name: &str, budget: Option<u32>, job: &Job) -> Result<Answer, AllocError>
+/// The answer to a job, within the budget if one is given. Its certificate is stored here.
+fn plan_job<H: Shelf>(
+    alloc: Global,
+    name: &str,
+    budget: Option<u32>,
+    job: &Job,
+    shelf: &mut H,
+) -> Result<Answer, StoreFault>
     ensures answer { IfOk result (λ answer.
-        IsPlanned name.now budget job.now (answer_data answer)) }
+        StoresFirst (IsPlanned name.now budget job.now) (answer_data answer)
+        (H.state shelf.old) (H.state shelf.new)) }
     ensures status { IfOk result (λ answer. ¬ IsCutShort answer.status) }
+    ensures begins { OnErr result ((H.state shelf.new ≡ H.state shelf.old)
+        ⊎ StoresBeginning (IsStoredOf (IsPlanned name.now budget job.now))
+        (H.state shelf.old) (H.state shelf.new)) }
+    ensures never_falls { NoCountFalls (H.state shelf.old) (H.state shelf.new) }
+    ensures failed { IsErrOf result StoreFault.Failed →
+        Rose (H.state shelf.old).faults (H.state shelf.new).faults }
+    ensures cause { IsErrOf result StoreFault.Failed →
+        HasDueCall (H.state shelf.old) (H.state shelf.new) }
 {
     let sheet = blank_sheet_of(alloc, job)?;
     match budget {
-        Some(budget) => plan_within(alloc, name, budget, job, sheet),
+        Some(budget) => plan_within(alloc, name, budget, job, sheet, shelf),
         None => {
             let cert = least_cert(alloc, job)?;
-            cert_answer(alloc, name, job, sheet, cert)
+            stored_answer(alloc, name, job, sheet, cert, shelf)
         }
     }
 }
 
 /// The answer to the contents of the part's file, the tools file and the machine file, within the
-/// budget of settled keys if one is given.
-pub fn answer(
+/// budget of settled keys if one is given. Its certificate is stored here, in pieces; what is given
+/// back is left to put.
+pub fn answer<H: Shelf>(
     alloc: Global,
     name: &str,
     budget: Option<u32>,
     contents: &[Vec<u8>],
-) -> Result<Answer, AllocError>
+    shelf: &mut H,
+) -> Result<Answer, StoreFault>
     requires { length contents.now ≡ 3 }
     ensures answer { IfOk result (λ answer.
-        IsPlanAnswer name.now budget (map vec_items contents.now) (answer_data answer)) }
+        StoresFirst (IsPlanAnswer name.now budget (map vec_items contents.now)) (answer_data answer)
+        (H.state shelf.old) (H.state shelf.new)) }
     ensures status { IfOk result (λ answer. ¬ IsCutShort answer.status) }
+    ensures begins { OnErr result ((H.state shelf.new ≡ H.state shelf.old)
+        ⊎ StoresBeginning (IsStoredOf (IsPlanAnswer name.now budget (map vec_items contents.now)))
+        (H.state shelf.old) (H.state shelf.new)) }
+    ensures never_falls { NoCountFalls (H.state shelf.old) (H.state shelf.new) }
+    ensures failed { IsErrOf result StoreFault.Failed →
+        Rose (H.state shelf.old).faults (H.state shelf.new).faults }
+    ensures cause { IsErrOf result StoreFault.Failed →
+        HasDueCall (H.state shelf.old) (H.state shelf.new) }
 {
     match job_at(alloc, contents, 0) {
-        Ok(job) => plan_job(alloc, name, budget, &job),
-        Err(stop) => stopped(alloc, stop),
+        Ok(job) => plan_job(alloc, name, budget, &job, shelf),
+        Err(stop) => Ok(stopped(alloc, stop)?),
     }
 }

@@ -55,7 +55,8 @@ pub fn answer(alloc: Global, number: u32) -> Result<Answer, AllocError>
     let job = made_job(number);
     let bends = job.bends();
     let cert = least_cert(alloc, &job)?;
-    confirm(alloc, cert.text.as_slice())?;
+    let text = cert.text.gather(alloc)?;
+    confirm(alloc, text.as_slice())?;
     let line = trial_line(alloc, number, bends, cert.claim)?;
     Answer::one_text(alloc, claim_status(cert.claim), line)
 }

@@ -130,8 +130,9 @@ fn certificate_of(rt: &impl Abort, alloc: Global, job: &Job) -> Result<Option<Ce
         _ => {
             let cert = search.certificate(alloc, job)?;
             let written = search.write(alloc, job)?;
+            let written = written.text.gather(alloc)?;
             let text = write_cert(alloc, job, &cert)?;
-            assert!(rt; written.text.as_slice() == text.as_slice());
+            assert!(rt; written.as_slice() == text.as_slice());
             Ok(Some(cert))
         }
     }

@@ -2,7 +2,7 @@ pub mod ActionPlaces
 pub mod SetLists
 mod WordLengths
 pub mod BlockTexts
-mod MoreRows
+pub mod MoreRows
 mod RowLines
 mod WriterKept
 mod KeyTexts

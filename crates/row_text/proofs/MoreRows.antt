@@ -20,7 +20,7 @@ AreBefore row [] = Unit {0}
 AreBefore row (note ∷ notes) = (note.row < row) × AreBefore row notes
 
 -- the notes are of this row
-abbrev AreAt : ℕ → List Note → Type 0
+abbrev pub AreAt : ℕ → List Note → Type 0
 AreAt row [] = Unit {0}
 AreAt row (note ∷ notes) = (note.row ≡ row) × AreAt row notes
 
@@ -79,15 +79,22 @@ same_notes : (said : SetNotes) (row other : ℕ) (places : List ℕ) → map (li
 same_notes said row other [] = refl
 same_notes said row other (place ∷ places) = ap (λ (ls : List CertLine). line_of_note said.stages (note_at said row place) ∷ ls) (same_notes said row other places)
 
-pub goes_on : (said : SetNotes) (row : RowHead) (set : ActionSet) (old new : List ℕ) → new ≡ old ++ lines_text (row_line row ∷ map (line_of_note said.stages) (notes_of said 0 set)) → GoOnAs said row set old new
+-- the text of rows and their notes, and of one row more
+pub more_text : (stages : ℕ) (rows : List RowHead) (row : RowHead) (notes own : List Note) → All (λ note. note.row < length rows) notes → AreAt (length rows) own
+    → lines_text (rows_lines stages (rows ++ row ∷ []) (notes ++ own)) ≡ lines_text (rows_lines stages rows notes) ++ lines_text (row_line row ∷ map (line_of_note stages) own)
 unfolding rows_lines
+more_text stages rows row notes own all at =
+    let end : length rows ≡ 0 + length rows = omega arith in
+    ap (λ (ls : List CertLine). lines_text ls) (more_lines stages 0 rows row notes own (length rows) end (before_all (length rows) notes all) at)
+    ∙ flat_map-append line_text (lines_from stages 0 rows notes) (row_line row ∷ map (line_of_note stages) own)
+
+pub goes_on : (said : SetNotes) (row : RowHead) (set : ActionSet) (old new : List ℕ) → new ≡ old ++ lines_text (row_line row ∷ map (line_of_note said.stages) (notes_of said 0 set)) → GoOnAs said row set old new
 goes_on said row set old new told before rows notes all is =
     let own = notes_of said (length rows) set in
     let lines = row_line row ∷ map (line_of_note said.stages) own in
-    let end : length rows ≡ 0 + length rows = omega arith in
-    let whole = more_lines said.stages 0 rows row notes own (length rows) end (before_all (length rows) notes all) (notes_at said (length rows) (places_of set)) in
+    let whole = more_text said.stages rows row notes own all (notes_at said (length rows) (places_of set)) in
     told
     ∙ ap (λ (ls : List CertLine). old ++ lines_text (row_line row ∷ ls)) (same_notes said 0 (length rows) (places_of set))
     ∙ ap (λ (t : List ℕ). t ++ lines_text lines) is
-    ∙ append_assoc before (lines_text (lines_from said.stages 0 rows notes)) (lines_text lines)
-    ∙ ap (λ (t : List ℕ). before ++ t) (sym (ap (λ (ls : List CertLine). lines_text ls) whole ∙ flat_map-append line_text (lines_from said.stages 0 rows notes) lines))
+    ∙ append_assoc before (lines_text (rows_lines said.stages rows notes)) (lines_text lines)
+    ∙ ap (λ (t : List ℕ). before ++ t) (sym whole)

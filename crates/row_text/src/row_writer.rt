@@ -20,6 +20,10 @@ use stage_lanes::ActionSet;
 use std::alloc::{AllocError, Global};
 use std::marker::Model;
 
+/// Room for the lines of a row's notes, of which there are at most 144 of 19 bytes, and for one of 32
+/// bytes that is cut.
+const BLOCK_ROOM: usize = 2_816;
+
 /// Writes the rows of a job, one set of folded bends after the other, each row with its notes. What
 /// is written more than once is kept: the beginning of the set's rows, the words of each attitude
 /// and stage, the line of each note, and the lines of the last row's notes as one block.
@@ -101,7 +105,8 @@ fn put_row_line(
 }
 
 impl RowWriter {
-    /// A writer for a machine of so many stages, begun with a set of folded bends.
+    /// A writer for a machine of so many stages, begun with a set of folded bends. It takes all memory
+    /// that it will use, but that of the text.
     pub fn open(alloc: Global, stages: u8, mask: Mask) -> Result<RowWriter, AllocError>
         requires { stages ≤ 6 }
         ensures stages { IfOk result (λ writer. writer.stages ≡ stages) }
@@ -111,6 +116,7 @@ impl RowWriter {
         let mut line = Vec::with_capacity(alloc, 32)?;
         let keys = all_key_words(alloc, &mut line)?;
         let start = row_start(&mut line, mask)?;
+        let text = Vec::with_capacity(alloc, BLOCK_ROOM)?;
         Ok(RowWriter {
             stages,
             mask,
@@ -121,7 +127,7 @@ impl RowWriter {
             lines: no_lines(alloc)?,
             block: NoteBlock {
                 notes: ActionSet::empty(),
-                text: Vec::new(alloc),
+                text,
             },
             line,
         })

@@ -5,6 +5,7 @@ use Rattle.stage_lanes.specs.ActionSets.{place_of}
 use Rattle.row_pool.specs.Rows.{reason_at, common_at}
 use Rattle.row_text.proofs.ActionPlaces.{number_of_place, place_below}
 use Rattle.row_text.proofs.BlockTexts.{stages_of_some, first_among, fewer}
+use Rattle.bb_search.specs.WrittenRows.{IsWriterOf}
 use Rattle.bb_search.proofs.WriterLemmas.{reason_more, waiting_less, none_waits, known_stays, left_among}
 use Rattle.bb_search.proofs.written.set_reasons.Goals as goal
 
@@ -59,3 +60,6 @@ loop-action-smaller c = fewer c.loop-action.rest c.except-rest.result c.in-Some.
 
 pub returns-clause-known : goal.returns-clause-known
 returns-clause-known c = none_waits c.args.actions c.loop-action.rest c.loop-action.writer.known c.in_default.ensures.none c.loop-action.invariant.waiting
+
+pub returns-in_err-set_reason-clause-writer : goal.returns-in_err-set_reason-clause-writer
+returns-in_err-set_reason-clause-writer c = subst (IsWriterOf c.args.pool.now c.args.stages) (sym c.in_err-set_reason.ensures.err) c.loop-action.invariant.writer

@@ -24,8 +24,8 @@ write-requires-clause-answered c =
     has_answer c.args.job.now c.run.new.self c.run.result c.in_default.not-Spent c.run.ensures.outcome
     (opened_job c.in_ok-search.search c.args.job.now c.args.budget c.in_ok-search.ensures ∙ sym c.run.ensures.job) c.run.ensures.answer
 
-pub returns : goal.returns
-returns c =
+pub returns-in_ok-write-in_default : goal.returns-in_ok-write-in_default
+returns-in_ok-write-in_default c =
     let job = c.args.job.now in
     let search = c.run.new.self in
     let written = c.in_ok-write-in_default.field-0 in

@@ -17,7 +17,7 @@ confirm-requires c =
     let job = c.made_job-job.result in
     let found = c.in_ok-cert.ensures in
     let good = found.1.proves.proves in
-    let written : c.as_slice.result.now ≡ cert_text2 job found.0 = c.as_slice.ensures.value ∙ found.3.text in (
+    let written : c.as_slice.result.now ≡ cert_text2 job found.0 = c.as_slice.ensures.value ∙ c.in_ok-text.ensures ∙ found.3.text in (
       job,
       found.0,
       record {

@@ -2,33 +2,28 @@ use Rattle.std.proofs.Common.{ℕ, sym, ◌∙◌, ap, subst}
 use Rattle.bb_search.specs.declared.written.WrittenCert.{WrittenCert}
 use Rattle.bb_search.specs.Searches.{SearchData, search_data}
 use Rattle.bb_search.specs.Certificates.{HasAnswer, IsWritten}
-use Rattle.bb_search.specs.WrittenRows.{AreWritable, AreAllRowsWritten}
 use Rattle.bb_search.proofs.CertWritten.{rows_written, begun_well, written_is}
 use Rattle.bb_search.proofs.search.Search.write.Goals as goal
 
-pub text_before_rows-requires : goal.text_before_rows-requires
-text_before_rows-requires c =
+pub open-requires-clause-begins : goal.open-requires-clause-begins
+open-requires-clause-begins c =
     let inside = c.self.inside in
     let search = search_data inside.table.job inside.pool inside.budget inside.outcome inside.steps.items in
     begun_well search c.args.job.now (c.requires.job ∙ sym (ap (λ (s : SearchData). s.job) c.self.view_is)) c.recall_valid.ensures
     (subst HasAnswer (sym c.self.view_is) c.requires.answered) c.claim_of-claim.result c.claim_of-claim.ensures c.copy_of-steps.result.items c.copy_of-steps.ensures
 
-pub put_rows-requires : goal.put_rows-requires
-put_rows-requires c =
+pub open-requires-clause-writable : goal.open-requires-clause-writable
+open-requires-clause-writable c =
     let inside = c.self.inside in
     let search = search_data inside.table.job inside.pool inside.budget inside.outcome inside.steps.items in
-    record {
-      writable = subst (λ (n : ℕ). AreWritable n inside.pool) (sym c.stages.ensures.value)
-          (rows_written search c.args.job.now (c.requires.job ∙ sym (ap (λ (s : SearchData). s.job) c.self.view_is)) c.recall_valid.ensures
-          (subst HasAnswer (sym c.self.view_is) c.requires.answered) c.claim_of-claim.result c.claim_of-claim.ensures c.self.invariant.actions);
-    }
+    rows_written search c.args.job.now (c.requires.job ∙ sym (ap (λ (s : SearchData). s.job) c.self.view_is)) c.recall_valid.ensures
+    (subst HasAnswer (sym c.self.view_is) c.requires.answered) c.claim_of-claim.result c.claim_of-claim.ensures c.self.invariant.actions
 
 pub returns : goal.returns
 returns c =
     let inside = c.self.inside in
     let search = search_data inside.table.job inside.pool inside.budget inside.outcome inside.steps.items in
-    let written : WrittenCert = record { claim = c.claim_of-claim.result; steps = c.copy_of-steps.result; text = c.put_word.new.out } in
+    let written : WrittenCert = record { claim = c.claim_of-claim.result; steps = c.copy_of-steps.result; text = c.in_ok-text.text } in
     subst (λ (s : SearchData). IsWritten s written) c.self.view_is
-    (written_is search c.args.job.now (c.requires.job ∙ sym (ap (λ (s : SearchData). s.job) c.self.view_is)) c.recall_valid.ensures c.in_ok-put_rows.ensures.pool c.self.invariant.limit
-    (subst HasAnswer (sym c.self.view_is) c.requires.answered) written c.claim_of-claim.ensures c.copy_of-steps.ensures c.in_ok-text.text.items c.put_rows.new.out.items
-    c.in_ok-text.ensures (subst (λ (n : ℕ). AreAllRowsWritten inside.pool n c.in_ok-text.text.items c.put_rows.new.out.items) c.stages.ensures.value c.in_ok-put_rows.ensures.rows) c.in_ok-put_word.ensures.ok)
+    (written_is search c.args.job.now (c.requires.job ∙ sym (ap (λ (s : SearchData). s.job) c.self.view_is)) c.recall_valid.ensures c.in_ok-text.ensures.pool c.self.invariant.limit
+    (subst HasAnswer (sym c.self.view_is) c.requires.answered) written c.claim_of-claim.ensures c.copy_of-steps.ensures c.in_ok-text.ensures.text)

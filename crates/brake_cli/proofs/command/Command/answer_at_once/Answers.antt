@@ -1,19 +1,11 @@
-use Rattle.std.proofs.Common.{◌≡◌, ◌∙◌, ap, sym, subst, ℕ, List, length, map, string_bytes, IfOk, Option, Some}
+use Rattle.std.proofs.Common.{◌≡◌, ◌∙◌, ap, sym, subst, ℕ, List, map, string_bytes, IfOk, Option, Some}
 use Rattle.std.specs.Vec.{vec_items}
 use Rattle.command_runner.specs.Answers.{answer_data}
-use Rattle.command_runner.specs.Fetching.{file_words}
 use Rattle.brake_cli.specs.declared.command.Command.{Command}
 use Rattle.brake_cli.specs.declared.command.Command.TheVariants.{Settle}
-use Rattle.brake_cli.specs.Forms.{kinds_of, form_of}
 use Rattle.brake_cli.specs.Commands.{meaning_of}
 use Rattle.brake_cli.specs.SettleAnswer.{IsSettleOverAnswer}
-use Rattle.brake_cli.proofs.CommandAnswers.{plan_files}
 use Rattle.brake_cli.proofs.command.Command.answer_at_once.Goals as goal
-
-pub answer-requires-in-Plan : goal.answer-requires-in-Plan
-answer-requires-in-Plan c =
-    c.requires.count ∙ ap (λ (k : Command). length (file_words (kinds_of (form_of k)))) c.in-Plan.is
-    ∙ plan_files c.in-Plan.part c.in-Plan.tools c.in-Plan.machine c.in-Plan.cert c.in-Plan.budget
 
 pub returns-in-Settle-default-default-default-default-default-default-Some-clause-answer :
     goal.returns-in-Settle-default-default-default-default-default-default-Some-clause-answer
