@@ -12,9 +12,9 @@ pub front_put : (h b o s : List ℕ) {o0 o1 o2 : List ℕ} → o0 ≡ [] → o1 
 front_put h b o s {o1 = o1} e0 e1 e2 =
     let begins : o1 ≡ h = e1 ∙ ap (λ (t : List ℕ). t ++ h) e0 in cc
 
--- the parts of a page without a plan
-pub no_plan_put : (h s v r e : List ℕ) {o0 o1 o2 o3 o4 now : List ℕ} → o0 ≡ [] → o1 ≡ o0 ++ h → o2 ≡ o1 ++ s → o3 ≡ o2 ++ v → o4 ≡ o3 ++ r → now ≡ o4 ++ e → now ≡ h ++ s ++ v ++ r ++ e
-no_plan_put h s v r e {o1 = o1} e0 e1 e2 e3 e4 e5 =
+-- what stands before the refusals
+pub verdict_put : (h s v : List ℕ) {o0 o1 o2 o3 : List ℕ} → o0 ≡ [] → o1 ≡ o0 ++ h → o2 ≡ o1 ++ s → o3 ≡ o2 ++ v → o3 ≡ h ++ s ++ v
+verdict_put h s v {o1 = o1} e0 e1 e2 e3 =
     let begins : o1 ≡ h = e1 ∙ ap (λ (t : List ℕ). t ++ h) e0 in cc
 
 -- a text between others, of which the last is two

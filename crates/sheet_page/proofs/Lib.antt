@@ -8,3 +8,13 @@ mod FewSteps
 mod Blocks
 mod Tried
 mod Costs
+mod Firsts
+mod Numbered
+mod Marked
+mod Furthest
+mod RowStates
+mod Pictures
+mod KeptStates
+mod Counted
+mod Refusals
+mod Told

@@ -8,6 +8,10 @@ pub mod Headings
 pub mod Facts
 pub mod Orders
 pub mod Blocks
-pub mod NoPlan
+pub mod Ways
+pub mod Left
 pub mod Kept
 pub mod Refused
+pub mod Pictured
+pub mod NoPlan
+pub mod Counts

@@ -11,7 +11,8 @@ use Rattle.sheet_page.specs.declared.no_plan.TheConstants.{NO_PLAN, NO_ORDER}
 use Rattle.sheet_page.specs.declared.plan.TheConstants.{LEAST_OF_ALL}
 use Rattle.sheet_page.specs.Blocks.{AreBlocks}
 use Rattle.sheet_page.specs.Head.{head_text}
-use Rattle.sheet_page.specs.NoPlan.{verdict_text}
+use Rattle.sheet_page.specs.Kept.{states_of}
+use Rattle.sheet_page.specs.NoPlan.{verdict_text, HasRefusals}
 use Rattle.sheet_page.specs.Orders.{order_text}
 
 -- how long the strokes take
@@ -59,12 +60,13 @@ pub record IsPlanPage (job : JobData) (steps : List Step) (cost size : ℕ) (pag
   pub text : page ≡ blocks ++ page_end
 
 -- The page of a job without a plan: its head, which says so, the blank, the faces and the stations,
--- the verdict, the refusals, and the end. Of the blank, the faces, the stations and the refusals
--- nothing is said.
+-- the verdict, the refusals of the states in its certificate, and the end. Of the blank, the faces
+-- and the stations nothing is said.
 pub record IsNoPlanPage (job : JobData) (cert : CertData) (size : ℕ) (page : List ℕ)
     : Type 0 where
   pub stations : List ℕ
   pub refusals : List ℕ
-  pub text : page
-      ≡ head_text job NO_PLAN.now NO_ORDER.now (pos size) ++ stations ++ verdict_text
-      ++ refusals ++ page_end
+  pub refused :
+      HasRefusals job (states_of cert) (first_figure job)
+      (head_text job NO_PLAN.now NO_ORDER.now (pos size) ++ stations ++ verdict_text) refusals
+  pub text : page ≡ refusals ++ page_end

@@ -1,49 +1,37 @@
-//! The table of how often each bend is refused for each kind of reason.
-ghost use Rattle.std.specs.Prelude.{◌≤◌, ◌<◌, OnOk};
-ghost use Rattle.sheet_figures.specs.Extending.{Extends};
+//! The table of how often each bend is refused for each kind of reasons.
+ghost use Rattle.std.specs.Prelude.{◌≡◌, ◌<◌, ◌^◌, ◌++◌, flat_map, OnOk};
+ghost use Rattle.brake_base.specs.Masks.{numbers_to};
+ghost use Rattle.job_setup.specs.Setup.{bend_count};
+ghost use Rattle.sheet_page.specs.Counts.{occurs, kind_head, count_cell, count_row, count_caption, count_table, counts_text};
+ghost use Rattle.sheet_page.specs.Kept.{count_in, AreFew};
 
 use crate::forms::{
     CAPTION, COUNT, COUNT_HEAD, COUNT_HEAD_END, COUNT_KIND, COUNT_ROW, COUNT_ROW_END, H2, SECTION,
     SECTION_END, TABLE, TABLE_END,
 };
-use crate::kept::Kept;
+use crate::holes::text;
+use crate::kept::Counts;
 use brake_text::put_word;
 use job_setup::Job;
 use sheet_words::{kind_words, name_of, put_plural};
 use std::alloc::AllocError;
 use svg_text::{Hole, put_line};
 
-/// The kind of reasons that stands at a place of the table: in their order, but that the last two
-/// are exchanged.
-fn kind_at(place: u8) -> u8
-    requires { place < 9 }
-    ensures some { 1 ≤ result }
-    ensures few { result ≤ 9 }
-{
-    match place {
-        7 => 9,
-        8 => 8,
-        _ => place + 1,
-    }
-}
+/// The kinds of reasons in the order of reasons.
+const KINDS: [u8; 9] = [1, 2, 3, 4, 5, 6, 7, 9, 8];
 
-/// How often a bend is refused for a kind of reasons.
-fn count_of(kept: &Kept, bend: u8, kind: u8) -> i64
-    requires bend { 1 ≤ bend }
-    requires last_bend { bend ≤ 12 }
-    requires kind { 1 ≤ kind }
-    requires last_kind { kind ≤ 9 }
-{
-    kept.counts[usize::from(bend - 1)][usize::from(kind - 1)]
-}
+const IN_THE_WAY: &[u8] = b"What stands in the way, over all states";
+
+const COUNTED_OVER: &[u8] = b"Refused strokes by bend and kind, over ";
+
+const IN_CERTIFICATE: &[u8] = b" of the part in the certificate.";
 
 /// Whether a kind of reasons occurs.
-fn occurs(kept: &Kept, kind: u8) -> bool
-    requires some { 1 ≤ kind }
-    requires few { kind ≤ 9 }
+fn occurs(counts: &Counts, kind: u8) -> bool
+    ensures { result ≡ occurs (count_in counts.now) kind }
 {
     for bend in 1..13 {
-        if count_of(kept, bend, kind) > 0 {
+        if counts.of(bend, kind) > 0 {
             return true;
         }
     }
@@ -51,108 +39,127 @@ fn occurs(kept: &Kept, kind: u8) -> bool
 }
 
 /// The column of a kind, where it occurs.
-fn put_kind(out: &mut Vec<u8>, kept: &Kept, kind: u8) -> Result<(), AllocError>
-    requires some { 1 ≤ kind }
-    requires few { kind ≤ 9 }
-    ensures { OnOk result (Extends out.old.items out.new.items) }
+#[tactic(auto, using(sheet_paper::proofs::Texts::pieces), unfolding(crate::specs::Counts::kind_head))]
+fn put_kind(out: &mut Vec<u8>, counts: &Counts, kind: u8) -> Result<(), AllocError>
+    ensures { OnOk result (out.new.items ≡ out.old.items ++ kind_head (count_in counts.now) kind) }
 {
-    if !occurs(kept, kind) {
+    if !occurs(counts, kind) {
         return Ok(());
     }
-    put_line(out, COUNT_KIND, &[Hole::Text(kind_words(kind))])
+    put_line(out, COUNT_KIND, &[text(kind_words(kind))])
 }
 
-/// A column for each kind that occurs.
-fn put_head(out: &mut Vec<u8>, kept: &Kept) -> Result<(), AllocError>
-    ensures { OnOk result (Extends out.old.items out.new.items) }
+/// A column for each of some kinds that occurs.
+fn put_kinds(out: &mut Vec<u8>, counts: &Counts, kinds: &[u8]) -> Result<(), AllocError>
+    ensures { OnOk result (out.new.items
+        ≡ out.old.items ++ flat_map (kind_head (count_in counts.now)) kinds.now) }
 {
-    put_line(out, COUNT_HEAD, &[])?;
-    for place in 0..9 {
-        put_kind(out, kept, kind_at(place))?;
+    for kind in kinds {
+        put_kind(out, counts, *kind)?;
     }
-    put_line(out, COUNT_HEAD_END, &[])
+    Ok(())
 }
 
 /// The count of a bend and a kind, where the kind occurs.
-fn put_count(out: &mut Vec<u8>, kept: &Kept, bend: u8, kind: u8) -> Result<(), AllocError>
-    requires bend { 1 ≤ bend }
-    requires last_bend { bend ≤ 12 }
-    requires kind { 1 ≤ kind }
-    requires last_kind { kind ≤ 9 }
-    ensures { OnOk result (Extends out.old.items out.new.items) }
+#[tactic(auto, using(sheet_paper::proofs::Texts::pieces), unfolding(crate::specs::Counts::count_cell))]
+fn put_count(out: &mut Vec<u8>, counts: &Counts, bend: u8, kind: u8) -> Result<(), AllocError>
+    requires { AreFew counts.now }
+    ensures { OnOk result (out.new.items
+        ≡ out.old.items ++ count_cell (count_in counts.now) bend kind) }
 {
-    if !occurs(kept, kind) {
+    if !occurs(counts, kind) {
         return Ok(());
     }
-    put_line(out, COUNT, &[Hole::Number(count_of(kept, bend, kind))])
+    put_line(out, COUNT, &[Hole::Number(counts.of(bend, kind) as i64)])
 }
 
-/// The beginning of the row of a bend: its number and the name of its flange.
-fn put_bend(out: &mut Vec<u8>, job: &Job, bend: u8) -> Result<(), AllocError>
-    ensures { OnOk result (Extends out.old.items out.new.items) }
+/// The counts of a bend and of some kinds, those that occur.
+fn put_row_counts(
+    out: &mut Vec<u8>,
+    counts: &Counts,
+    bend: u8,
+    kinds: &[u8],
+) -> Result<(), AllocError>
+    requires { AreFew counts.now }
+    ensures { OnOk result (out.new.items
+        ≡ out.old.items ++ flat_map (count_cell (count_in counts.now) bend) kinds.now) }
 {
-    let holes = [
-        Hole::Number(i64::from(bend)),
-        Hole::Text(name_of(job, bend)),
-    ];
-    put_line(out, COUNT_ROW, &holes)
-}
-
-/// The row of a bend.
-fn put_row(out: &mut Vec<u8>, job: &Job, kept: &Kept, bend: u8) -> Result<(), AllocError>
-    requires some { 1 ≤ bend }
-    requires few { bend ≤ 12 }
-    ensures { OnOk result (Extends out.old.items out.new.items) }
-{
-    put_bend(out, job, bend)?;
-    for place in 0..9 {
-        put_count(out, kept, bend, kind_at(place))?;
+    for kind in kinds {
+        put_count(out, counts, bend, *kind)?;
     }
+    Ok(())
+}
+
+/// The row of a bend: its number, the name of its flange, and its counts.
+#[tactic(auto, using(sheet_paper::proofs::Texts::pieces), unfolding(crate::specs::Counts::count_row))]
+fn put_row(out: &mut Vec<u8>, job: &Job, counts: &Counts, bend: u8) -> Result<(), AllocError>
+    requires { AreFew counts.now }
+    ensures { OnOk result (out.new.items
+        ≡ out.old.items ++ count_row job.now (count_in counts.now) bend) }
+{
+    let holes = [Hole::Number(i64::from(bend)), text(name_of(job, bend))];
+    put_line(out, COUNT_ROW, &holes)?;
+    put_row_counts(out, counts, bend, &KINDS)?;
     put_line(out, COUNT_ROW_END, &[])
 }
 
 /// A row for each bend.
-fn put_rows(out: &mut Vec<u8>, job: &Job, kept: &Kept) -> Result<(), AllocError>
-    ensures { OnOk result (Extends out.old.items out.new.items) }
+fn put_rows(out: &mut Vec<u8>, job: &Job, counts: &Counts) -> Result<(), AllocError>
+    requires { AreFew counts.now }
+    ensures { OnOk result (out.new.items ≡ out.old.items
+        ++ flat_map (count_row job.now (count_in counts.now)) (numbers_to (bend_count job.now))) }
 {
-    for bend in 1..=job.bends() {
-        put_row(out, job, kept, bend)?;
+    for bend in 1..job.bends() + 1 {
+        put_row(out, job, counts, bend)?;
     }
     Ok(())
 }
 
 /// Over how many states the refusals are counted.
-fn put_caption(out: &mut Vec<u8>, states: u16) -> Result<(), AllocError>
-    ensures { OnOk result (Extends out.old.items out.new.items) }
+#[tactic(auto, using(sheet_paper::proofs::Texts::pieces), unfolding(crate::specs::Counts::count_caption))]
+fn put_caption_words(out: &mut Vec<u8>, states: usize) -> Result<(), AllocError>
+    requires { states < 2 ^ 63 }
+    ensures { OnOk result (out.new.items ≡ out.old.items ++ count_caption states) }
 {
-    let mut words = Vec::new(*out.allocator());
-    put_word(&mut words, b"Refused strokes by bend and kind, over ")?;
-    put_plural(&mut words, usize::from(states), b"state")?;
-    put_word(&mut words, b" of the part in the certificate.")?;
-    put_line(out, CAPTION, &[Hole::Text(words.as_slice())])
+    put_word(out, COUNTED_OVER)?;
+    put_plural(out, states, b"state")?;
+    put_word(out, IN_CERTIFICATE)
 }
 
-/// The table of the counts.
-fn put_table(out: &mut Vec<u8>, job: &Job, kept: &Kept) -> Result<(), AllocError>
-    ensures { OnOk result (Extends out.old.items out.new.items) }
+/// The table: a column for each kind that occurs, and a row for each bend.
+#[tactic(auto, using(sheet_paper::proofs::Texts::pieces), unfolding(crate::specs::Counts::count_table))]
+fn put_table(out: &mut Vec<u8>, job: &Job, counts: &Counts, states: usize) -> Result<(), AllocError>
+    requires counts { AreFew counts.now }
+    requires states { states < 2 ^ 63 }
+    ensures { OnOk result (out.new.items
+        ≡ out.old.items ++ count_table job.now (count_in counts.now) states) }
 {
+    let mut caption = Vec::new(*out.allocator());
+    put_caption_words(&mut caption, states)?;
     put_line(out, TABLE, &[])?;
-    put_caption(out, kept.states)?;
-    put_head(out, kept)?;
-    put_rows(out, job, kept)?;
+    put_line(out, CAPTION, &[Hole::Text(caption.as_slice())])?;
+    put_line(out, COUNT_HEAD, &[])?;
+    put_kinds(out, counts, &KINDS)?;
+    put_line(out, COUNT_HEAD_END, &[])?;
+    put_rows(out, job, counts)?;
     put_line(out, TABLE_END, &[])
 }
 
-/// The counts of refusals by bend and kind.
-pub fn put_counts(out: &mut Vec<u8>, job: &Job, kept: &Kept) -> Result<(), AllocError>
-    ensures { OnOk result (Extends out.old.items out.new.items) }
+/// The counts of refusals by bend and kind, over so many states.
+#[tactic(auto, using(sheet_paper::proofs::Texts::pieces), unfolding(crate::specs::Counts::counts_text))]
+pub fn put_counts(
+    out: &mut Vec<u8>,
+    job: &Job,
+    counts: &Counts,
+    states: usize,
+) -> Result<(), AllocError>
+    requires counts { AreFew counts.now }
+    requires states { states < 2 ^ 63 }
+    ensures { OnOk result (out.new.items
+        ≡ out.old.items ++ counts_text job.now (count_in counts.now) states) }
 {
     put_line(out, SECTION, &[Hole::Word(b"")])?;
-    put_line(
-        out,
-        H2,
-        &[Hole::Text(b"What stands in the way, over all states")],
-    )?;
-    put_table(out, job, kept)?;
+    put_line(out, H2, &[Hole::Text(IN_THE_WAY)])?;
+    put_table(out, job, counts, states)?;
     put_line(out, SECTION_END, &[])
 }

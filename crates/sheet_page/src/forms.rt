@@ -23,6 +23,9 @@ pub const PAGE_END: &[u8] = b"</main></body></html>";
 
 pub const SECTION: &[u8] = b"<section~>";
 
+/// The attribute of a section that may be broken.
+pub const FLOW: &[u8] = b" class=\"flow\"";
+
 pub const SECTION_END: &[u8] = b"</section>";
 
 pub const H2: &[u8] = b"<h2>~</h2>";

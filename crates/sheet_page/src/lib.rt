@@ -9,6 +9,7 @@ mod head;
 mod holes;
 mod job_parts;
 mod kept;
+mod left;
 mod lists;
 mod no_plan;
 mod order;

@@ -1,16 +1,23 @@
 //! The table of the refused strokes of a state.
-ghost use Rattle.std.specs.Prelude.{◌≡◌, ◌≤◌, ◌<◌, ◌*◌, length, IfOk, OnOk};
-ghost use Rattle.job_setup.specs.Setup.{stage_count};
+ghost use Rattle.std.specs.Prelude.{◌≡◌, ℕ, ◌≤◌, ◌<◌, ◌*◌, ◌++◌, length, map, take, flat_map, slice_index_or, IfOk, OnOk};
+ghost use Rattle.brake_base.specs.Masks.{numbers_to};
+ghost use Rattle.brake_base.specs.declared.stroke.Back.{Back};
+ghost use Rattle.brake_base.specs.declared.stroke.Back.TheVariants.{Parent, Child};
+ghost use Rattle.job_setup.specs.Setup.{bend_count, stage_count};
 ghost use Rattle.handling_cost.specs.StepCost.{IsActionAt};
+ghost use Rattle.plan_cert.specs.declared.cert.Note.{Note};
 ghost use Rattle.plan_cert.specs.Lines.{action_at};
-ghost use Rattle.sheet_figures.specs.Extending.{Extends};
 ghost use Rattle.sheet_page.specs.Kept.{key_at, IsNoteAt, AreNotesAt};
-ghost use Rattle.sheet_page.specs.Refused.{AreRefusals};
+ghost use Rattle.sheet_page.specs.Left.{action_of_note};
+ghost use Rattle.sheet_page.specs.Refused.{note_words, is_one_row, is_first, is_refused_so, row_line, refusal_row, row_begun, refusal_rows, left_row, left_rows, AreRefusals};
+ghost use Rattle.sheet_page.specs.Ways.{has_mark, marked, ways_words};
 
 use crate::forms::REFUSAL_ROW;
+use crate::holes::text;
+use crate::left::{left_of, ways_left};
 use crate::ways::Ways;
 use brake_base::{Action, Key, Mask, Turn, action_of};
-use handling_cost::{is_lead, pose_before};
+use handling_cost::pose_before;
 use job_setup::Job;
 use plan_cert::Note;
 use sheet_words::{name_of, put_reason};
@@ -38,9 +45,11 @@ pub fn key_of(mask: Mask) -> Key
 }
 
 /// The action of a number at the job's stages.
-fn action_in(job: &Job, number: u8) -> Action
+pub fn action_in(job: &Job, number: u8) -> Action
     requires { number < 24 * stage_count job.now }
     ensures value { result ≡ action_at (stage_count job.now) number }
+    ensures first { 1 ≤ result.bend }
+    ensures last { result.bend ≤ 12 }
     ensures few { result.stage < 6 }
 {
     action_of(number, job.stages())
@@ -49,6 +58,7 @@ fn action_in(job: &Job, number: u8) -> Action
 /// The words of a note.
 fn words_of(alloc: Global, job: &Job, mask: Mask, note: &Note) -> Result<Vec<u8>, AllocError>
     requires { IsNoteAt job.now mask note.now }
+    ensures { IfOk result (λ words. words.items ≡ note_words job.now mask note.now) }
 {
     let action = action_in(job, note.action);
     let pose = pose_before(job, &key_of(mask), action);
@@ -65,7 +75,8 @@ fn all_words(
     notes: &[Note],
 ) -> Result<Vec<Vec<u8>>, AllocError>
     requires { AreNotesAt job.now mask notes.now }
-    ensures { IfOk result (λ words. length words.items ≡ length notes.now) }
+    ensures { IfOk result (λ all. map (λ words. words.items) all.items
+        ≡ map (note_words job.now mask) notes.now) }
 {
     let mut words = Vec::new(alloc);
     for note in notes {
@@ -83,7 +94,10 @@ impl<'a> Refusals<'a> {
         notes: &'a [Note],
     ) -> Result<Self, AllocError>
         requires { AreNotesAt job.now mask notes.now }
-        ensures { IfOk result AreRefusals }
+        ensures good { IfOk result AreRefusals }
+        ensures of_job { IfOk result (λ refusals. refusals.job.now ≡ job.now) }
+        ensures of_mask { IfOk result (λ refusals. refusals.mask ≡ mask) }
+        ensures of_notes { IfOk result (λ refusals. refusals.notes.now ≡ notes.now) }
     {
         let words = all_words(alloc, job, mask, notes)?;
         Ok(Refusals {
@@ -94,14 +108,35 @@ impl<'a> Refusals<'a> {
         })
     }
 
+    /// A note, by its place.
+    pub fn note(&self, at: usize) -> Note
+        requires { at < length self.now.notes.now }
+        ensures { (d : Note) → result ≡ slice_index_or self.now.notes.now at d }
+    {
+        self.notes[at]
+    }
+
     /// The action of a note, by its place.
     pub fn action(&self, at: usize) -> Action
         requires refusals { AreRefusals self.now }
         requires at { at < length self.now.notes.now }
+        ensures value { (d : Note) → result
+            ≡ action_of_note self.now.job.now (slice_index_or self.now.notes.now at d) }
         ensures tried { IsActionAt self.now.job.now (key_at self.now.mask) result }
         ensures few { result.stage < 6 }
     {
         action_in(self.job, self.notes[at].action)
+    }
+
+    /// The words of a note, by its place.
+    fn words(&self, at: usize) -> &[u8]
+        requires refusals { AreRefusals self.now }
+        requires at { at < length self.now.notes.now }
+        ensures { (d : Note) → result.now
+            ≡ note_words self.now.job.now self.now.mask (slice_index_or self.now.notes.now at d) }
+    {
+        let words = self.words.as_slice();
+        words[at].as_slice()
     }
 
     /// Whether two notes stand in one row: they are of one bend and have the same words.
@@ -109,15 +144,18 @@ impl<'a> Refusals<'a> {
         requires refusals { AreRefusals self.now }
         requires a { a < length self.now.notes.now }
         requires b { b < length self.now.notes.now }
+        ensures { (d : Note) → result ≡ is_one_row self.now.job.now self.now.mask
+            (slice_index_or self.now.notes.now a d) (slice_index_or self.now.notes.now b d) }
     {
-        self.action(a).bend == self.action(b).bend
-            && self.words[a].as_slice() == self.words[b].as_slice()
+        self.action(a).bend == self.action(b).bend && self.words(a) == self.words(b)
     }
 
     /// Whether a note is the first of its row.
     pub fn is_first_of_row(&self, at: usize) -> bool
         requires refusals { AreRefusals self.now }
         requires at { at < length self.now.notes.now }
+        ensures { (d : Note) → result ≡ is_first (is_one_row self.now.job.now self.now.mask)
+            (take at self.now.notes.now) (slice_index_or self.now.notes.now at d) }
     {
         for before in 0..at {
             if self.is_one_row(before, at) {
@@ -131,8 +169,11 @@ impl<'a> Refusals<'a> {
     fn ways_of_row(&self, at: usize) -> Ways
         requires refusals { AreRefusals self.now }
         requires at { at < length self.now.notes.now }
+        ensures { (d : Note) (back : Back) (station : ℕ) → has_mark result back station
+            ≡ is_refused_so self.now.job.now self.now.mask self.now.notes.now
+            (slice_index_or self.now.notes.now at d) back station }
     {
-        let mut ways = Ways::default();
+        let mut ways = Ways::none();
         for i in 0..self.notes.len() {
             if self.is_one_row(i, at) {
                 ways.add(self.action(i));
@@ -141,24 +182,38 @@ impl<'a> Refusals<'a> {
         ways
     }
 
+    /// The row of a note.
+    #[tactic(auto, unfolding(crate::specs::Refused::refusal_row))]
+    fn put_row_of(&self, out: &mut Vec<u8>, at: usize) -> Result<(), AllocError>
+        requires refusals { AreRefusals self.now }
+        requires at { at < length self.now.notes.now }
+        ensures { OnOk result ((d : Note) → out.new.items
+            ≡ out.old.items ++ refusal_row self.now.job.now self.now.mask self.now.notes.now
+            (slice_index_or self.now.notes.now at d)) }
+    {
+        let ways = self.ways_of_row(at);
+        put_row(out, self.job, self.action(at).bend, &ways, self.words(at))
+    }
+
     /// The row that a note begins, where it is the first of one.
     fn put_row_at(&self, out: &mut Vec<u8>, at: usize) -> Result<(), AllocError>
         requires refusals { AreRefusals self.now }
         requires at { at < length self.now.notes.now }
-        ensures { OnOk result (Extends out.old.items out.new.items) }
+        ensures { OnOk result ((d : Note) → out.new.items
+            ≡ out.old.items ++ row_begun self.now.job.now self.now.mask self.now.notes.now
+            (take at self.now.notes.now) (slice_index_or self.now.notes.now at d)) }
     {
         if !self.is_first_of_row(at) {
             return Ok(());
         }
-        let ways = self.ways_of_row(at);
-        let words = self.words[at].as_slice();
-        put_row(out, self.job, self.action(at).bend, &ways, words)
+        self.put_row_of(out, at)
     }
 
     /// The rows, those of one bend with the same words in one.
     pub fn put_rows(&self, out: &mut Vec<u8>) -> Result<(), AllocError>
         requires { AreRefusals self.now }
-        ensures { OnOk result (Extends out.old.items out.new.items) }
+        ensures { OnOk result (out.new.items
+            ≡ out.old.items ++ refusal_rows self.now.job.now self.now.mask self.now.notes.now) }
     {
         for i in 0..self.notes.len() {
             self.put_row_at(out, i)?;
@@ -166,45 +221,28 @@ impl<'a> Refusals<'a> {
         Ok(())
     }
 
-    /// Whether an action is refused.
-    fn is_refused(&self, action: u8) -> bool {
-        self.notes.iter().any(|note| note.action == action)
-    }
-
-    /// The ways in which a bend isn't refused.
-    fn ways_left(&self, bend: u8) -> Ways
-        requires some { 0 < bend }
-        requires few { bend ≤ 12 }
-    {
-        let mut ways = Ways::default();
-        let sides = 2 * self.job.stages();
-        for action in (bend - 1) * sides..bend * sides {
-            if !self.is_refused(action) {
-                ways.add(action_in(self.job, action));
-            }
-        }
-        ways
-    }
-
-    /// The row of a bend, where it can be bent: no order goes on from there to the end.
+    /// The row of a bend, where strokes of it are left: no order goes on from there to the end.
+    #[tactic(auto, using(sheet_paper::proofs::Texts::pieces), unfolding(crate::specs::Refused::left_row))]
     fn put_left_row(&self, out: &mut Vec<u8>, bend: u8) -> Result<(), AllocError>
         requires some { 0 < bend }
         requires bend { bend < length self.now.job.now.part.faces }
         requires few { bend ≤ 12 }
-        ensures { OnOk result (Extends out.old.items out.new.items) }
+        ensures { OnOk result (out.new.items
+            ≡ out.old.items ++ left_row self.now.job.now self.now.mask self.now.notes.now bend) }
     {
-        let ways = self.ways_left(bend);
-        if ways.is_empty() || !is_lead(self.job, self.mask, bend) {
+        if left_of(self.job, self.mask, self.notes, bend) == 0 {
             return Ok(());
         }
+        let ways = ways_left(self.job, self.notes, bend);
         put_row(out, self.job, bend, &ways, NO_ORDER_FROM_THERE)
     }
 
-    /// A row for each bend that can be bent in some ways.
+    /// A row for each bend of which strokes are left.
     pub fn put_left_rows(&self, out: &mut Vec<u8>) -> Result<(), AllocError>
-        ensures { OnOk result (Extends out.old.items out.new.items) }
+        ensures { OnOk result (out.new.items
+            ≡ out.old.items ++ left_rows self.now.job.now self.now.mask self.now.notes.now) }
     {
-        for bend in 1..=self.job.bends() {
+        for bend in 1..self.job.bends() + 1 {
             self.put_left_row(out, bend)?;
         }
         Ok(())
@@ -214,20 +252,22 @@ impl<'a> Refusals<'a> {
 const NO_ORDER_FROM_THERE: &[u8] = b"from there no order reaches the end";
 
 /// The line of a row: a bend, its flange's name, how it is tried, and the answer.
+#[tactic(auto, using(sheet_paper::proofs::Texts::pieces), unfolding(crate::specs::Refused::row_line))]
 fn put_cells<'a>(
     out: &mut Vec<u8>,
+    job: &'a Job,
     bend: u8,
-    name: &'a [u8],
     how: &'a [u8],
     answer: &'a [u8],
 ) -> Result<(), AllocError>
-    ensures { OnOk result (Extends out.old.items out.new.items) }
+    ensures { OnOk result (out.new.items
+        ≡ out.old.items ++ row_line job.now bend how.now answer.now) }
 {
     let holes = [
         Hole::Number(i64::from(bend)),
-        Hole::Text(name),
-        Hole::Text(how),
-        Hole::Text(answer),
+        text(name_of(job, bend)),
+        text(how),
+        text(answer),
     ];
     put_line(out, REFUSAL_ROW, &holes)
 }
@@ -240,9 +280,11 @@ fn put_row(
     ways: &Ways,
     answer: &[u8],
 ) -> Result<(), AllocError>
-    ensures { OnOk result (Extends out.old.items out.new.items) }
+    ensures { OnOk result (out.new.items ≡ out.old.items ++ row_line job.now bend
+        (ways_words (marked ways.now Parent) (marked ways.now Child) (stage_count job.now))
+        answer.now) }
 {
     let mut how = Vec::new(*out.allocator());
     ways.put_words(&mut how, usize::from(job.stages()))?;
-    put_cells(out, bend, name_of(job, bend), how.as_slice(), answer)
+    put_cells(out, job, bend, how.as_slice(), answer)
 }
