@@ -5,7 +5,7 @@ use Rattle.brake_cli.specs.Forms.{kinds_of, form_of}
 use Rattle.brake_cli.proofs.CommandAnswers.{plan_files}
 use Rattle.brake_cli.proofs.command.CommandCommand.answer.Goals as goal
 
-pub answer-requires-in-Plan : goal.answer-requires-in-Plan
-answer-requires-in-Plan g c =
+pub answer-requires : goal.answer-requires
+answer-requires g c =
     c.requires.count ∙ ap (λ (k : Command). length (file_words (kinds_of (form_of k)))) c.in-Plan.is
     ∙ plan_files c.in-Plan.part c.in-Plan.tools c.in-Plan.machine c.in-Plan.cert c.in-Plan.budget
