@@ -1,11 +1,10 @@
 -- The words of a line from the front, each behind a space: a value by its one spelling and its
 -- range, and the text behind it.
-use Rattle.std.specs.Prelude.{ℕ, ◌+◌, ◌-◌, ◌^◌, ◌==◌, ℤ, Bool, true, false, ◌&&◌, not, nat_le}
+use Rattle.std.specs.Prelude.{ℕ, ◌==◌, ℤ, Bool, ◌&&◌, not, nat_le}
 use Rattle.std.specs.Prelude.{nat_lt, List, [], ◌∷◌, take, drop, bytes_eq, codes, Option, Some}
 use Rattle.std.specs.Prelude.{None, if◌then◌else◌, ◌≡◌}
 use Rattle.std.specs.List.{prefix_len}
 use Rattle.brake_text.specs.Numbers.{number_of, signed_of}
-use Rattle.brake_base.specs.declared.plane.Rect.{Rect}
 use Rattle.brake_base.specs.declared.plane.Quarter.{Quarter}
 use Rattle.brake_base.specs.declared.plane.Quarter.TheVariants.{Q1, Q2, Q3, Q4}
 use Rattle.brake_base.specs.declared.stroke.Back.{Back}
@@ -48,6 +47,42 @@ abbrev pub at_end : {A : Type 0} → A → List ℕ → Option A
 at_end x [] = Some x
 at_end x (byte ∷ text) = None
 
+-- one thing, and another behind it
+abbrev pub both_at : {A B : Type 0} → (List ℕ → Option (A × List ℕ))
+    → (List ℕ → Option (B × List ℕ)) → List ℕ → Option ((A × B) × List ℕ)
+both_at first second text = do
+  one ← first text
+  two ← second one.1
+  Some ((one.0, two.0), two.1)
+
+-- what is read, as something else
+abbrev pub as_at : {A B : Type 0} → (A → B) → (List ℕ → Option (A × List ℕ)) → List ℕ
+    → Option (B × List ℕ)
+as_at to read text = read text >>= λ x. Some (to x.0, x.1)
+
+-- what is read, of which nothing is behind
+abbrev pub alone : {A : Type 0} → (List ℕ → Option (A × List ℕ)) → List ℕ → Option A
+alone read text = read text >>= λ x. at_end x.0 x.1
+
+-- one thing, and behind it another that goes on to the end
+abbrev pub then_in : {A B : Type 0} → (List ℕ → Option (A × List ℕ)) → (List ℕ → Option B)
+    → List ℕ → Option (A × B)
+then_in first second text = do
+  one ← first text
+  two ← second one.1
+  Some (one.0, two)
+
+-- what is read to the end, as something else
+abbrev pub as_in : {A B : Type 0} → (A → B) → (List ℕ → Option A) → List ℕ → Option B
+as_in to read text = read text >>= λ x. Some (to x)
+
+-- what the next word is by its spelling
+unfoldable pub kind_at : {A : Type 0} → (List ℕ → Option A) → List ℕ → Option (A × List ℕ)
+kind_at spelled text = do
+  word ← word_at text
+  x ← spelled word.0
+  Some (x, word.1)
+
 -- a number from low on and below an end
 unfoldable pub count_at : ℕ → ℕ → List ℕ → Option (ℕ × List ℕ)
 count_at low end text = do
@@ -57,24 +92,11 @@ count_at low end text = do
 
 -- a signed number
 unfoldable pub signed_at : List ℕ → Option (ℤ × List ℕ)
-signed_at text = do
-  word ← word_at text
-  n ← signed_of word.0
-  Some (n, word.1)
+signed_at text = kind_at signed_of text
 
 -- two signed numbers
 unfoldable pub pair_at : List ℕ → Option ((ℤ × ℤ) × List ℕ)
-pair_at text = do
-  from ← signed_at text
-  to ← signed_at from.1
-  Some ((from.0, to.0), to.1)
-
--- a rectangle
-unfoldable pub rect_at : List ℕ → Option (Rect × List ℕ)
-rect_at text = do
-  across ← pair_at text
-  upwards ← pair_at across.1
-  Some (record { y0 = across.0.0; y1 = across.0.1; z0 = upwards.0.0; z1 = upwards.0.1 }, upwards.1)
+pair_at text = both_at signed_at signed_at text
 
 -- the side whose word it is
 abbrev pub side_of : List ℕ → Option Side
@@ -117,10 +139,3 @@ cost_of word = number_of word >>= λ cost. if nat_le cost 1000000000 then Some (
 -- a cost, or that there is no way on
 abbrev pub worth_of : List ℕ → Option Worth
 worth_of word = if bytes_eq word (codes "none") then Some Blocked else cost_of word
-
--- what the next word is by its spelling
-unfoldable pub kind_at : {A : Type 0} → (List ℕ → Option A) → List ℕ → Option (A × List ℕ)
-kind_at spelled text = do
-  word ← word_at text
-  x ← spelled word.0
-  Some (x, word.1)

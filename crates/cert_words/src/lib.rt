@@ -6,9 +6,6 @@ mod job_words;
 mod line_words;
 mod plan_words;
 
-pub use job_words::{
-    child, cost_numbers, costs_of, die, fine_of, fixed, gang_of, gauge, number, pair_alone, part,
-    pieces, punch, rect_alone, root,
-};
+pub use job_words::{child, costs_of, fine_of, gang_of, named, signed_numbers};
 pub use line_words::split_word;
 pub use plan_words::{claim, note, row, step};

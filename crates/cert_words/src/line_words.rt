@@ -2,10 +2,10 @@
 ghost use Rattle.std.specs.Prelude.{◌≡◌, ◌↔◌, ◌==◌, ◌+◌, ◌≤◌, ◌<◌, not, ℕ, [], length, take, drop, IsTrue, IfSome};
 ghost use Rattle.std.specs.List.{prefix_len};
 ghost use Rattle.toml_fields.specs.Fields.{checked_name};
-ghost use Rattle.cert_words.specs.LineWords.{Reads, is_space, word_length, word_at, count_at, signed_at, pair_at, rect_at, kind_at, side_of, dir_of, back_of, half_of, quarter_of, cost_of, worth_of};
+ghost use Rattle.cert_words.specs.LineWords.{Reads, is_space, word_length, word_at, count_at, signed_at, pair_at, kind_at, side_of, dir_of, back_of, half_of, quarter_of, cost_of, worth_of};
 
 use arrayvec::ArrayString;
-use brake_base::{Back, Half, Name, Quarter, Rect, Worth};
+use brake_base::{Back, Half, Name, Quarter, Worth};
 use brake_text::{number, signed};
 use part_file::{Dir, Side};
 use toml_fields::is_name;
@@ -69,7 +69,7 @@ pub fn small(text: &[u8], low: u8, end: u8) -> Option<(u8, &[u8])>
 }
 
 /// A signed number, and the text behind it.
-#[tactic(auto, unfolding(crate::specs::LineWords::signed_at), using(crate::proofs::Numbers::signed))]
+#[tactic(auto, unfolding(crate::specs::LineWords::signed_at, crate::specs::LineWords::kind_at), using(crate::proofs::Numbers::signed))]
 pub fn signed_number(text: &[u8]) -> Option<(i64, &[u8])>
     ensures { Reads (λ x. (x.0, x.1.now)) result (signed_at text.now) }
 {
@@ -86,22 +86,6 @@ pub fn pair(text: &[u8]) -> Option<((i64, i64), &[u8])>
     let (from, rest) = signed_number(text)?;
     let (to, rest) = signed_number(rest)?;
     Some(((from, to), rest))
-}
-
-/// A rectangle, and the text behind it.
-#[tactic(auto, unfolding(crate::specs::LineWords::rect_at), using(crate::proofs::Numbers::signed))]
-pub fn rect(text: &[u8]) -> Option<(Rect, &[u8])>
-    ensures { Reads (λ x. (x.0, x.1.now)) result (rect_at text.now) }
-{
-    let (across, rest) = pair(text)?;
-    let (upwards, rest) = pair(rest)?;
-    let rect = Rect {
-        y0: across.0,
-        y1: across.1,
-        z0: upwards.0,
-        z1: upwards.1,
-    };
-    Some((rect, rest))
 }
 
 /// The text as a name, which has 1 to 24 bytes from 0x21 to 0x7E.

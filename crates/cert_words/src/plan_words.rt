@@ -1,10 +1,10 @@
 //! The words of the lines behind the job: of the claim, of steps, of rows and of notes.
 ghost use Rattle.std.specs.Prelude.{◌≡◌, ◌+◌, ◌-◌, ◌*◌, ◌^◌, ◌≤◌, ◌<◌, ℕ, IfSome};
-ghost use Rattle.cert_words.specs.LineWords.{Reads, at_end};
-ghost use Rattle.cert_words.specs.PlanWords.{action_at, gauge_at, step_in, claim_in, key_at, row_in, half_in, box_in, meeting_in, upper_in, nose_in, lower_in, self_hit_in, arguments_in, reason_in, note_in};
+ghost use Rattle.cert_words.specs.LineWords.{Reads, at_end, alone, count_at, kind_at, half_of};
+ghost use Rattle.cert_words.specs.PlanWords.{action_at, gauge_at, step_in, claim_in, key_at, row_in, meeting_in, arguments_in, reason_in, note_in};
 
 use crate::line_words::{back, count, half, is_end, quarter, small, worth};
-use brake_base::{Action, Gauge, Key, Mask, Quarter, Reason, Step, Turn, Worth};
+use brake_base::{Action, Gauge, Half, Key, Mask, Quarter, Reason, Step, Turn, Worth};
 
 /// An action of a job of so many bends and stages, and the text behind it.
 #[tactic(auto, unfolding(crate::specs::PlanWords::action_at))]
@@ -92,32 +92,6 @@ pub fn row(text: &[u8], bends: u8, stages: u8) -> Option<(Key, Worth)>
     Some((key, worth))
 }
 
-/// A half alone.
-#[tactic(auto, unfolding(crate::specs::PlanWords::half_in))]
-fn half_alone(text: &[u8]) -> Option<Reason>
-    ensures { result ≡ half_in text.now }
-{
-    let (half, rest) = half(text)?;
-    if is_end(rest) {
-        Some(Reason::Rest(half))
-    } else {
-        None
-    }
-}
-
-/// A box of the part alone.
-#[tactic(auto, unfolding(crate::specs::PlanWords::box_in))]
-fn box_alone(text: &[u8]) -> Option<Reason>
-    ensures { result ≡ box_in text.now }
-{
-    let (body, rest) = small(text, 0, 25)?;
-    if is_end(rest) {
-        Some(Reason::Frame(body))
-    } else {
-        None
-    }
-}
-
 /// A box of the part in a quarter, and a number below an end, alone.
 #[tactic(auto, unfolding(crate::specs::PlanWords::meeting_in))]
 fn meeting(text: &[u8], end: u8) -> Option<(u8, Quarter, u8)>
@@ -133,40 +107,20 @@ fn meeting(text: &[u8], end: u8) -> Option<(u8, Quarter, u8)>
     }
 }
 
-/// A box of the part that meets one of the upper group.
-#[tactic(auto, unfolding(crate::specs::PlanWords::upper_in))]
-fn upper(text: &[u8]) -> Option<Reason>
-    ensures { result ≡ upper_in text.now }
+/// A half alone.
+fn half_alone(text: &[u8]) -> Option<Half>
+    ensures { result ≡ alone (kind_at half_of) text.now }
 {
-    let (body, quarter, index) = meeting(text, 64)?;
-    Some(Reason::Upper(body, quarter, index))
+    let (half, rest) = half(text)?;
+    if is_end(rest) { Some(half) } else { None }
 }
 
-/// A box of the part that meets the nose of one of so many stages.
-#[tactic(auto, unfolding(crate::specs::PlanWords::nose_in))]
-fn nose(text: &[u8], stages: u8) -> Option<Reason>
-    ensures { result ≡ nose_in stages text.now }
+/// A box of the part alone.
+fn box_alone(text: &[u8]) -> Option<u8>
+    ensures { result ≡ alone (count_at 0 25) text.now }
 {
-    let (body, quarter, stage) = meeting(text, stages)?;
-    Some(Reason::Nose(body, quarter, stage))
-}
-
-/// A box of the part that meets one of the lower group.
-#[tactic(auto, unfolding(crate::specs::PlanWords::lower_in))]
-fn lower(text: &[u8]) -> Option<Reason>
-    ensures { result ≡ lower_in text.now }
-{
-    let (body, quarter, index) = meeting(text, 64)?;
-    Some(Reason::Lower(body, quarter, index))
-}
-
-/// A box of the part that meets another one.
-#[tactic(auto, unfolding(crate::specs::PlanWords::self_hit_in))]
-fn self_hit(text: &[u8]) -> Option<Reason>
-    ensures { result ≡ self_hit_in text.now }
-{
-    let (body, quarter, other) = meeting(text, 25)?;
-    Some(Reason::SelfHit(body, quarter, other))
+    let (body, rest) = small(text, 0, 25)?;
+    if is_end(rest) { Some(body) } else { None }
 }
 
 /// A reason that names nothing.
@@ -183,12 +137,24 @@ fn arguments(kind: u8, text: &[u8], stages: u8) -> Option<Reason>
 {
     match kind {
         1 => bare(Reason::Cover, text),
-        2 => half_alone(text),
-        3 => box_alone(text),
-        4 => upper(text),
-        5 => nose(text, stages),
-        6 => lower(text),
-        7 => self_hit(text),
+        2 => Some(Reason::Rest(half_alone(text)?)),
+        3 => Some(Reason::Frame(box_alone(text)?)),
+        4 => {
+            let (body, quarter, index) = meeting(text, 64)?;
+            Some(Reason::Upper(body, quarter, index))
+        }
+        5 => {
+            let (body, quarter, stage) = meeting(text, stages)?;
+            Some(Reason::Nose(body, quarter, stage))
+        }
+        6 => {
+            let (body, quarter, index) = meeting(text, 64)?;
+            Some(Reason::Lower(body, quarter, index))
+        }
+        7 => {
+            let (body, quarter, other) = meeting(text, 25)?;
+            Some(Reason::SelfHit(body, quarter, other))
+        }
         8 => bare(Reason::NoGauge, text),
         _ => bare(Reason::Load, text),
     }

@@ -2,8 +2,7 @@
 
 use brake_base::{Back, Mask, Quarter, Reason, Worth};
 use cert_words::{
-    child, claim, cost_numbers, costs_of, die, fixed, gang_of, gauge, note, number, pair_alone,
-    part, punch, rect_alone, root, row, split_word, step,
+    child, claim, costs_of, gang_of, named, note, row, signed_numbers, split_word, step,
 };
 use std::test::Fail;
 
@@ -11,26 +10,18 @@ use std::test::Fail;
 fn words_of_the_job(rt: HostRuntime) -> Result<(), Fail> {
     let (keyword, text) = split_word(b"bed -10 3000000");
     assert_eq!(rt; keyword, b"bed".as_slice());
-    let (x0, x1) = pair_alone(text).ok_or("a range")?;
-    assert_eq!(rt; x0, -10);
-    assert_eq!(rt; x1, 3_000_000);
-    assert!(rt; pair_alone(b" 0 1 2").is_none());
-    assert_eq!(rt; number(b" -0"), None);
-    let (part, q) = part(b" S235 2000 2000 1919").ok_or("a part")?;
-    assert_eq!(rt; part.material.as_str(), "S235");
-    assert_eq!(rt; q, 1919);
-    assert!(rt; root(b" web 100000 60000").is_some());
+    let bed = signed_numbers(text).ok_or("a range")?;
+    assert_eq!(rt; bed.as_slice(), [-10, 3_000_000].as_slice());
+    assert!(rt; signed_numbers(b" -0").is_none());
+    let (material, sizes) = named(b" S235 2000 2000 1919").ok_or("a part")?;
+    assert_eq!(rt; material.as_str(), "S235");
+    assert_eq!(rt; sizes.as_slice(), [2000, 2000, 1919].as_slice());
+    assert!(rt; named(b" web 100000 6e4").is_none());
     let face = child(b" north 0 N 0 100000 30000 up", 1).ok_or("a face")?;
     assert_eq!(rt; face.width, 100_000);
     assert!(rt; child(b" north 1 N 0 100000 30000 up", 1).is_none());
-    assert!(rt; rect_alone(b" -6000 6000 6000 100000").is_some());
-    assert!(rt; fixed(b" 0 3000000 -60000 60000 0 300000").is_some());
-    assert!(rt; gauge(b" 5000 600000 5000 10000 10000 20000 10000 10000").is_some());
-    let numbers = cost_numbers(b" 100 20 -30 60 80 40").ok_or("numbers")?;
-    assert!(rt; costs_of(&numbers).is_none());
+    assert!(rt; costs_of(&((100, 20), ((-30, 60), (80, 40)))).is_none());
     assert_eq!(rt; gang_of(1), Some(true));
-    assert!(rt; punch(b" P100 100000 6000").is_some());
-    assert!(rt; die(b" D16 60000 16000 11000").is_some());
     Ok(())
 }
 

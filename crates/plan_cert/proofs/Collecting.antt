@@ -85,9 +85,6 @@ added cert answers i item e on =
     ∙ ap (λ (b : Bool). if b then Ok cert else cert_of (with_item cert item) (drop (i + 1) answers)) on
 
 -- the first answer
-all_left : (answers : List (Result Item CertFault)) → drop 0 answers ≡ answers
-all_left answers = refl
-
 pub first_refused : (text : List ℕ) (fault : CertFault) → slice_get (items Certificate text) 0 ≡ Some (Err fault) → cert_file_of text ≡ Err fault
 unfolding cert_file_of with_job
 first_refused text fault e = ap (λ (a : List (Result Item CertFault)). with_job text a) (left_is (items Certificate text) 0 (Err fault) e)

@@ -4,10 +4,10 @@ use Rattle.std.specs.Prelude.{◌⊎◌}
 use Rattle.plan_cert.specs.declared.item.CertFault.{CertFault}
 use Rattle.plan_cert.specs.declared.item.CertFault.TheVariants.{NoMemory}
 use Rattle.plan_cert.specs.CertReading.{CertFileData, cert_file_of}
+use Rattle.plan_cert.specs.CertItems.{IsReadFrom}
 use Rattle.plan_cert.specs.ExactTexts.{IsTextOf, GivesBack, IsTextIn}
-use Rattle.plan_cert.proofs.ReadWell.{read_file}
 use Rattle.plan_cert.proofs.Written.{written_is_read, old_is_read}
-use Rattle.plan_cert.proofs.ReadWritten.{read_was_written}
+use Rattle.plan_cert.proofs.ReadWritten.{text_of_file}
 
 pub text_gives : (text : List ℕ) → GivesBack text
 text_gives text file is = by_version is.spelled
@@ -19,8 +19,11 @@ text_gives text file is = by_version is.spelled
     by_version (inl two) = ap cert_file_of two.1 ∙ written_is_read file.job file.cert is.job is.form ∙ ap (λ (n : ℕ). Ok (in_version n)) (sym two.0)
     by_version (inr one) = ap cert_file_of one.2 ∙ old_is_read file.job file.cert is.job is.form one.1 ∙ ap (λ (n : ℕ). Ok (in_version n)) (sym one.0)
 
+pub read_file : (text : List ℕ) (file : CertFileData) → cert_file_of text ≡ Ok file → IsReadFrom file text
+read_file text file e = (text_of_file text file e).0
+
 pub text_of_given : (text : List ℕ) (file : CertFileData) → cert_file_of text ≡ Ok file → IsTextOf file text
-text_of_given text file e = let read = read_file text file e in record { job = read.job; form = read.form; spelled = read_was_written text file e }
+text_of_given text file e = (text_of_file text file e).1
 
 ok_not_err : (r : Result CertFileData CertFault) (file : CertFileData) (fault : CertFault) → r ≡ Ok file → r ≡ Err fault → ⊥
 ok_not_err r file fault one two = absurd (cc)

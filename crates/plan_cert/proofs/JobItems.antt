@@ -15,9 +15,8 @@ use Rattle.plan_cert.specs.JobTest.{is_job}
 use Rattle.plan_cert.specs.declared.job_reading.JobLines.{JobLines}
 use Rattle.plan_cert.specs.Formats.{format_of}
 use Rattle.plan_cert.specs.JobLines.{Takes, job_lines_data, JobLinesData, no_lines, job_of}
-use Rattle.plan_cert.specs.JobReading.{take_line}
 use Rattle.plan_cert.specs.PlanReading.{first_section}
-use Rattle.plan_cert.specs.Items.{lines_in, next_number, may_be_judged, judged_items, plan_items, items_behind, job_items, items_of_lines, items}
+use Rattle.plan_cert.specs.Items.{take_line, lines_in, next_number, may_be_judged, judged_items, plan_items, items_behind, job_items, items_of_lines, items}
 use Rattle.plan_cert.specs.Reading.{GivesNext, IsJudged, Stops}
 use Rattle.plan_cert.proofs.JobDecided.{job_decided}
 use Rattle.plan_cert.proofs.WholeLines.{some_line}
@@ -37,13 +36,6 @@ pub stopped_any : (n : ℕ) (lines : JobLinesData) (line : List ℕ) (rest : Lis
 unfolding job_items
 stopped_any n lines line [] some e = absurd (omega arith)
 stopped_any n lines line (next ∷ more) some e = ap (λ (o : Option JobLinesData). elim o [ Some t ↦ job_items (next_number n) t (next ∷ more) | None ↦ items_behind n lines line (next ∷ more) ]) e
-
-stops_any : (lines : JobLinesData) (line : List ℕ) (rest : List (List ℕ)) → take_line lines line ≡ None → Stops lines (line ∷ rest)
-stops_any lines line [] e = tt
-stops_any lines line (next ∷ more) e = e
-
-pub stops : (lines : JobLinesData) (line text behind : List ℕ) → lines_in text ≡ line ∷ lines_in behind → take_line lines line ≡ None → Stops lines (lines_in text)
-stops lines line text behind cut e = subst (λ ls. Stops lines ls) (sym cut) (stops_any lines line (lines_in behind) e)
 
 stop_any : (lines : JobLinesData) (line : List ℕ) (rest : List (List ℕ)) → 0 < length rest → Stops lines (line ∷ rest) → take_line lines line ≡ None
 stop_any lines line [] some stop = absurd (omega arith)

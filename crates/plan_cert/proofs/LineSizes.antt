@@ -29,15 +29,11 @@ use Rattle.plan_cert.specs.declared.format.Format.TheVariants.{Version1, Version
 use Rattle.plan_cert.specs.declared.cert.RowHead.{RowHead}
 use Rattle.plan_cert.specs.Lines.{CertLine, format_line, face_line, fine_line, frame_line, upper_line, lower_line, box_line, pieces_line, load_line, row_line, note_line, face_words, spaced, number, back_word, half_word, worth_word, meeting_words, argument_words, keyword_of, words_of, line_text, lines_text}
 use Rattle.plan_cert.specs.JobText.{part_lines, fixture_lines, fine_lines, rule_lines, punch_lines, die_lines, stage_lines, job_lines, job_text}
-use Rattle.plan_cert.specs.JobLines.{no_lines, begun_stage}
 use Rattle.plan_cert.specs.WellFormed.{IsWorth, IsReasonInRange, IsRow}
-use Rattle.plan_cert.proofs.WordsRead.{is_plain}
-use Rattle.plan_cert.proofs.LinesRead.{spelled}
+use Rattle.plan_cert.proofs.WordsRead.{is_plain, spelled}
 use Rattle.plan_cert.proofs.TextLines.{ArePlain, ArePlainLines}
-use Rattle.plan_cert.proofs.JobRun.{state}
-use Rattle.plan_cert.proofs.JobWritten.{job_run}
-use Rattle.plan_cert.proofs.TextsGiven.{runs_plain}
-use Rattle.plan_cert.proofs.WellRead.{IsSmall}
+use Rattle.plan_cert.proofs.JobLinesFit.{job_told, plain_of_told}
+use Rattle.plan_cert.proofs.PlanLineRead.{IsSmall}
 
 -- ---- lines of few words
 is_at_most : (n most : ℕ) → nat_le n most ≡ true → n ≤ most
@@ -209,9 +205,7 @@ job_count job valid =
 pub job_length : (job : JobData) → IsJob job → length (job_text job) ≤ 812000
 unfolding job_text
 job_length job valid =
-    let run = job_run Version2 job valid tt in
-    let end = state Version2 run.0 job.part job.q job.setup (begun_stage (pos 0) (pos 0)) in
-    let plain = runs_plain (no_lines Version2) end (job_lines job) run.2 in
+    let plain = plain_of_told (job_lines job) (job_told job valid) in
     let size = lines_length (job_lines job) plain (few_job job valid) in
     let count = job_count job valid in
     omega (arith, size, count)

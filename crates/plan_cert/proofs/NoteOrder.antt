@@ -30,9 +30,6 @@ earlier row next (note ∷ notes) le up = (omega (arith, le, up.0), up.1)
 same_number : (a b : ℕ) → (a == b) ≡ true → a ≡ b
 same_number a b e = grind (arith, common_steps)
 
-other_number : (a b : ℕ) → (a == b) ≡ false → a ≤ b → a < b
-other_number a b e le = grind (arith, common_steps)
-
 lesser_number : (a b : ℕ) → a < b → (a == b) ≡ false
 lesser_number a b lt = grind (arith, common_steps)
 

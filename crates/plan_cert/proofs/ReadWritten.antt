@@ -1,11 +1,11 @@
--- What is read was written: a text that gives a job, the items behind it and the end is the one text that these have in its format.
-use Rattle.std.proofs.Common.{◌≡◌, ℕ, ◌<◌, inl, inr, false, List, [], ◌∷◌, ◌++◌, length, map, Some, None, Result, Ok, Err, refl, sym, ap, ◌∙◌, append_assoc, arith}
+-- What is read was written: a text that is read to its end is the one text that its job and its items have in a format.
+use Rattle.std.proofs.Common.{◌≡◌, ℕ, ◌<◌, inl, inr, List, [], ◌∷◌, ◌++◌, length, map, Some, None, Result, Ok, refl, sym, ap, subst, ◌∙◌, append_assoc, arith}
 use Rattle.std.specs.List.{join_with_byte}
 use Rattle.std.proofs.lemmas.List.{map-append}
 use Rattle.std.proofs.lemmas.List.Splits.{join_with_byte-slice_split}
 use Rattle.job_setup.specs.Setup.{JobData, stage_count}
 use Rattle.job_setup.specs.ValidJob.{IsJob}
-use Rattle.plan_cert.specs.ExactTexts.{IsTextIn}
+use Rattle.plan_cert.specs.ExactTexts.{IsTextIn, IsTextOf}
 use Rattle.plan_cert.specs.CertText.{cert_text2, lines_of_format, format_lines, plan_lines, cert_text1}
 use Rattle.plan_cert.specs.declared.format.Format.{Format}
 use Rattle.plan_cert.specs.declared.format.Format.TheVariants.{Version1, Version2, Table}
@@ -14,22 +14,25 @@ use Rattle.plan_cert.specs.declared.format.TextKind.TheVariants.{Certificate}
 use Rattle.plan_cert.specs.declared.item.Item.{Item}
 use Rattle.plan_cert.specs.declared.item.Item.TheVariants as given
 use Rattle.plan_cert.specs.declared.item.CertFault.{CertFault}
-use Rattle.plan_cert.specs.declared.item.CertFault.TheVariants as faults
 use Rattle.plan_cert.specs.Cert.{CertData}
 use Rattle.plan_cert.specs.Lines.{CertLine, format_line, end_line, line_text, lines_text}
 use Rattle.plan_cert.specs.JobText.{job_lines}
 use Rattle.plan_cert.specs.CertItems.{cert_items, IsReadFrom}
 use Rattle.plan_cert.specs.Formats.{format_of}
 use Rattle.plan_cert.specs.PlanReading.{first_section}
-use Rattle.plan_cert.specs.Items.{is_over, lines_in, plan_items, items_of_lines, items}
-use Rattle.plan_cert.specs.CertReading.{CertFileData, cert_of, with_job, cert_file_of, no_cert, version_in}
+use Rattle.plan_cert.specs.Items.{lines_in, plan_items, items_of_lines, items}
+use Rattle.plan_cert.specs.CertReading.{CertFileData, cert_file_of, version_in}
 use Rattle.plan_cert.proofs.FormatLines.{JobIn}
+use Rattle.plan_cert.proofs.WholeLines.{some_line}
+use Rattle.plan_cert.proofs.JobSplits.{Shaped, Begins, lines_begin}
+use Rattle.plan_cert.proofs.Endings.{first_on}
+use Rattle.plan_cert.proofs.Runs.{Run, ends_with, not_refused, plan_runs}
 use Rattle.plan_cert.proofs.StepsTold.{steps_told}
-use Rattle.plan_cert.proofs.ReadWell.{small_of, body_items, read_file}
+use Rattle.plan_cert.proofs.ReadWell.{small_of, body_items, IsCertificate, cert_run, accepted_file}
+use Rattle.plan_cert.proofs.Collecting.{ends_items, file_of}
 use Rattle.plan_cert.proofs.TextLines.{line_bytes}
-use Rattle.plan_cert.proofs.PlanWritten.{oks}
-use Rattle.plan_cert.proofs.PlanLinesSpelled.{line_of_item, plan_lines_are, body_lines}
-use Rattle.plan_cert.proofs.JobSplits.{lines_begin}
+use Rattle.plan_cert.proofs.Follows.{line_of_item}
+use Rattle.plan_cert.proofs.PlanLinesSpelled.{body_lines}
 
 -- lines, each ended by a line feed
 ends_line : (line : List ℕ) (rest : List (List ℕ)) → 0 < length rest → join_with_byte 10 (line ∷ rest) ≡ line ++ 10 ∷ join_with_byte 10 rest
@@ -57,88 +60,51 @@ put_together first own behind =
     ∙ ap (λ (ls : List (List ℕ)). (ls ++ line_bytes end_line ∷ []) ++ last) (sym (map-append line_bytes (first ∷ own) behind))
     ∙ ap (λ (ls : List (List ℕ)). ls ++ last) (sym (map-append line_bytes (first ∷ own ++ behind) (end_line ∷ [])))
 
--- the text is the one of a format that has a text of this kind
-pub record HasFormat (kind : TextKind) (job : JobData) (body : List Item) (text : List ℕ) : Type 0 where
+-- a text of a format that texts of this kind have, which gives a valid job and these items, and is the one that these have
+pub record Whole (kind : TextKind) (text : List ℕ) (body : List Item) : Type 0 where
+  pub job : JobData
   pub format : Format
   pub named : format_of kind (line_bytes (format_line format)) ≡ Some format
   pub valid : IsJob job
   pub tells : JobIn format job
+  pub run : Run format job (first_section format) body
+  pub gives : items kind text ≡ Ok (given.Job job) ∷ ends_with body
   pub text_is : text ≡ lines_text (format_lines format job (map (line_of_item (stage_count job)) body))
-  pub rest : List (List ℕ)
-  pub number : ℕ
-  pub behind : plan_items format job number (first_section format) rest ≡ oks body ++ Ok given.End ∷ []
 
-section_open : (format : Format) → is_over (first_section format) ≡ false
-section_open Version1 = refl
-section_open Version2 = refl
-section_open Table = refl
-
-pub items_have_format : (kind : TextKind) (text : List ℕ) (job : JobData) (body : List Item) → items kind text ≡ Ok (given.Job job) ∷ (oks body ++ Ok given.End ∷ []) → HasFormat kind job body text
-unfolding items
-items_have_format kind text job body e =
-    let begins = lines_begin kind (lines_in text) job (oks body ++ Ok given.End ∷ []) e in
+whole_behind : (kind : TextKind) (text : List ℕ) (all : List Item) (begins : Begins kind (lines_in text) (items kind text)) → Ok (given.Job begins.job) ∷ plan_items begins.format begins.job begins.number (first_section begins.format) begins.rest ≡ ends_with all
+    → (body : List Item) × Whole kind text body
+whole_behind kind text [] begins e = absurd (no_end e)
+  where
+    no_end : {answers : List (Result Item CertFault)} → Ok (given.Job begins.job) ∷ answers ≡ Ok given.End ∷ [] → ⊥
+    no_end e = absurd (cc)
+whole_behind kind text (first ∷ body) begins e =
+    let job = begins.job in
     let f = begins.format in
     let own = lines_of_format f (job_lines job) in
-    let behind = map (line_of_item (stage_count job)) body in
-    let plan = plan_lines_are f job begins.number (first_section f) body begins.rest (small_of job begins.valid) (section_open f) (sym begins.behind) in
-    let lines = begins.lines_are ∙ ap (λ (ls : List (List ℕ)). line_bytes (format_line f) ∷ (map line_bytes own ++ ls)) plan ∙ put_together (format_line f) own behind in
-    record {
-      format = f;
-      named = begins.named;
-      valid = begins.valid;
-      tells = begins.tells;
-      text_is = sym (join_with_byte-slice_split 10 text) ∙ ap (λ (ls : List (List ℕ)). join_with_byte 10 ls) lines ∙ lines_joined (format_lines f job behind);
-      rest = begins.rest;
-      number = begins.number;
-      behind = sym begins.behind;
-    }
+    let written = map (line_of_item (stage_count job)) body in
+    let behind : plan_items f job begins.number (first_section f) begins.rest ≡ ends_with body = cc in
+    let runs = plan_runs f job begins.number (first_section f) body begins.rest (small_of job begins.valid) (first_on f) behind in
+    let lines = begins.lines_are ∙ ap (λ (ls : List (List ℕ)). line_bytes (format_line f) ∷ (map line_bytes own ++ ls)) runs.0 ∙ put_together (format_line f) own written in (
+      body,
+      record {
+        job = job;
+        format = f;
+        named = begins.named;
+        valid = begins.valid;
+        tells = begins.tells;
+        run = runs.1;
+        gives = begins.behind ∙ ap (λ (a : List (Result Item CertFault)). Ok (given.Job job) ∷ a) behind;
+        text_is = sym (join_with_byte-slice_split 10 text) ∙ ap (λ (ls : List (List ℕ)). join_with_byte 10 ls) lines ∙ lines_joined (format_lines f job written);
+      },
+    )
 
--- the version of a certificate is the one of its text
-same_file : (a b : CertFileData) (x : Result CertFileData CertFault) → x ≡ Ok a → x ≡ Ok b → a ≡ b
-same_file a b x one two = cc
-
-version_kept : (text : List ℕ) (answers : List (Result Item CertFault)) (file : CertFileData) → with_job text answers ≡ Ok file → version_in text ≡ file.version
-unfolding with_job
-version_kept text [] file e = absurd (none e)
-  where
-    none : Err faults.Unended ≡ Ok file → ⊥
-    none e = absurd (cc)
-version_kept text (Err fault ∷ more) file e = absurd (none e)
-  where
-    none : Err fault ≡ Ok file → ⊥
-    none e = absurd (cc)
-version_kept text (Ok item ∷ more) file e = by_item item e
-  where
-    unended : Err faults.Unended ≡ Ok file → ⊥
-    unended e = absurd (cc)
-
-    file_from : JobData → Result CertData CertFault → Result CertFileData CertFault
-    file_from job (Ok cert) = Ok (record { job = job; cert = cert; version = version_in text })
-    file_from job (Err fault) = Err fault
-
-    by_cert : (job : JobData) (cert : Result CertData CertFault) → file_from job cert ≡ Ok file → version_in text ≡ file.version
-    by_cert job (Ok cert) e = ap (λ (f : CertFileData). f.version) (same_file (record { job = job; cert = cert; version = version_in text }) file (file_from job (Ok cert)) refl e)
-    by_cert job (Err fault) e = absurd (cc)
-
-    by_item : (item : Item) → with_job text (Ok item ∷ more) ≡ Ok file → version_in text ≡ file.version
-    by_item (given.Job job) e = by_cert job (cert_of no_cert more) e
-    by_item (given.Claim claim) e = absurd (unended e)
-    by_item (given.Step step) e = absurd (unended e)
-    by_item (given.Row row) e = absurd (unended e)
-    by_item (given.Note action reason) e = absurd (unended e)
-    by_item given.End e = absurd (unended e)
-
-version_of_file : (text : List ℕ) (file : CertFileData) → cert_file_of text ≡ Ok file → version_in text ≡ file.version
-unfolding cert_file_of
-version_of_file text file e = version_kept text (items Certificate text) file e
-
-answers_are : (job : JobData) (cert : CertData) → map Ok (cert_items job cert) ≡ Ok (given.Job job) ∷ (oks (body_items cert) ++ Ok given.End ∷ [])
-unfolding cert_items
-answers_are job cert = ap (λ (answers : List (Result Item CertFault)). Ok (given.Job job) ∷ answers) (map-append Ok (body_items cert) (given.End ∷ []))
-
-items_split : (text : List ℕ) (answers : List (Result Item CertFault)) → items Certificate text ≡ answers → items_of_lines Certificate (lines_in text) ≡ answers
+pub whole_text : (kind : TextKind) (text : List ℕ) (all : List Item) → items kind text ≡ ends_with all → (body : List Item) × Whole kind text body
 unfolding items
-items_split text answers e = e
+whole_text kind text all e = by_shape (lines_begin kind (lines_in text) (some_line text))
+  where
+    by_shape : Shaped (items_of_lines kind (lines_in text)) (Begins kind (lines_in text) (items_of_lines kind (lines_in text))) → (body : List Item) × Whole kind text body
+    by_shape (inl refused) = absurd (not_refused refused.0 all (sym refused.1 ∙ e))
+    by_shape (inr begins) = whole_behind kind text all begins (sym begins.behind ∙ e)
 
 -- the version that a text names
 version_1 : (job : JobData) (lines : List CertLine) → version_in (lines_text (format_lines Version1 job lines)) ≡ 1
@@ -149,32 +115,53 @@ version_2 : (job : JobData) (lines : List CertLine) → version_in (lines_text (
 unfolding line_text
 version_2 job lines = refl
 
--- the text that gives a certificate is the one that the certificate has in the text's version
-pub read_was_written : (text : List ℕ) (file : CertFileData) → cert_file_of text ≡ Ok file → IsTextIn file.version file.job file.cert text
-unfolding cert_text1 cert_text2
-read_was_written text file e = by_format has.format has.named has.tells (has.text_is ∙ ap (λ (ls : List CertLine). lines_text (format_lines has.format job ls)) (body_lines (stage_count job) cert)) has.behind
+-- the certificate that a text is
+pub record CertText (text : List ℕ) : Type 0 where
+  pub file : CertFileData
+  pub given : cert_file_of text ≡ Ok file
+  pub read : IsReadFrom file text
+  pub is : IsTextOf file text
+
+certificate_named : (f : Format) → format_of Certificate (line_bytes (format_line f)) ≡ Some f → IsCertificate f
+certificate_named Version1 named = tt
+certificate_named Version2 named = tt
+certificate_named Table named = absurd (none named)
   where
-    job : JobData
-    job = file.job
+    none : None ≡ Some Table → ⊥
+    none e = absurd (cc)
 
-    cert : CertData
-    cert = file.cert
+in_version : (f : Format) (text : List ℕ) (job : JobData) (cert : CertData) → IsCertificate f → JobIn f job → Run f job (first_section f) (body_items cert) → text ≡ lines_text (format_lines f job (plan_lines job cert)) → IsTextIn (version_in text) job cert text
+unfolding cert_text1 cert_text2
+in_version Version1 text job cert certificate tells run is = inr (ap (λ (t : List ℕ). version_in t) is ∙ version_1 job (plan_lines job cert), record { told = tells; steps = steps_told job cert run }, is)
+in_version Version2 text job cert certificate tells run is = inl (ap (λ (t : List ℕ). version_in t) is ∙ version_2 job (plan_lines job cert), is)
+in_version Table text job cert certificate tells run is = absurd certificate
 
-    read : IsReadFrom file text
-    read = read_file text file e
+answers_are : (job : JobData) (cert : CertData) → Ok (given.Job job) ∷ ends_with (body_items cert) ≡ map Ok (cert_items job cert)
+unfolding cert_items
+answers_are job cert = ap (λ (answers : List (Result Item CertFault)). Ok (given.Job job) ∷ answers) (sym (map-append Ok (body_items cert) (given.End ∷ [])))
 
-    has : HasFormat Certificate job (body_items cert) text
-    has = items_have_format Certificate text job (body_items cert) (read.items ∙ answers_are job cert)
+pub cert_text : (text : List ℕ) (all : List Item) → items Certificate text ≡ ends_with all → CertText text
+cert_text text all e =
+    let (body, w) = whole_text Certificate text all e in
+    let certificate = certificate_named w.format w.named in
+    let well = cert_run w.format w.job body (small_of w.job w.valid) certificate w.run in
+    let cert = well.final in
+    let lines : text ≡ lines_text (format_lines w.format w.job (plan_lines w.job cert)) =
+    w.text_is ∙ ap (λ (is : List Item). lines_text (format_lines w.format w.job (map (line_of_item (stage_count w.job)) is))) well.shown ∙ ap (λ (ls : List CertLine). lines_text (format_lines w.format w.job ls)) (body_lines (stage_count w.job) cert) in
+    record {
+      file = record { job = w.job; cert = cert; version = version_in text };
+      given = file_of text w.job (ends_with body) cert w.gives well.gives;
+      read = record { job = w.valid; form = well.form; items = w.gives ∙ ap (λ (is : List Item). Ok (given.Job w.job) ∷ ends_with is) well.shown ∙ answers_are w.job cert };
+      is = record { job = w.valid; form = well.form; spelled = in_version w.format text w.job cert certificate w.tells (subst (λ is. Run w.format w.job (first_section w.format) is) well.shown w.run) lines };
+    }
 
-    version : (n : ℕ) → version_in text ≡ n → file.version ≡ n
-    version n is = sym (version_of_file text file e) ∙ is
+-- a text that gives a certificate
+same_file : (a b : CertFileData) (x : Result CertFileData CertFault) → x ≡ Ok a → x ≡ Ok b → a ≡ b
+same_file a b x one two = cc
 
-    by_format : (f : Format) → format_of Certificate (line_bytes (format_line f)) ≡ Some f → JobIn f job → text ≡ lines_text (format_lines f job (plan_lines job cert))
-        → plan_items f job has.number (first_section f) has.rest ≡ oks (body_items cert) ++ Ok given.End ∷ [] → IsTextIn file.version job cert text
-    by_format Version1 named tells is behind =
-        inr (version 1 (ap (λ (t : List ℕ). version_in t) is ∙ version_1 job (plan_lines job cert)), record { told = tells; steps = steps_told job has.number has.rest cert (small_of job read.job) behind }, is)
-    by_format Version2 named tells is behind = inl (version 2 (ap (λ (t : List ℕ). version_in t) is ∙ version_2 job (plan_lines job cert)), is)
-    by_format Table named tells is behind = absurd (not_certificate named)
-      where
-        not_certificate : None ≡ Some Table → ⊥
-        not_certificate e = absurd (cc)
+pub text_of_file : (text : List ℕ) (file : CertFileData) → cert_file_of text ≡ Ok file → IsReadFrom file text × IsTextOf file text
+unfolding cert_file_of
+text_of_file text file e =
+    let (all, is) = accepted_file text file (items Certificate text) (ends_items Certificate text) e in
+    let found = cert_text text all is in
+    subst (λ (f : CertFileData). IsReadFrom f text × IsTextOf f text) (same_file found.file file (cert_file_of text) found.given e) (found.read, found.is)

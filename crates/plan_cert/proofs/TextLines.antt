@@ -9,8 +9,7 @@ use Rattle.brake_text.specs.Lines.{is_line_feed}
 use Rattle.plan_cert.specs.declared.format.Format.TheVariants.{Version1, Version2, Table}
 use Rattle.plan_cert.specs.Lines.{CertLine, format_line, part_line, face_line, bed_line, frame_line, upper_line, lower_line, uncovered_line, gauge_line, cost_line, gang_line, force_line, fine_line, stage_line, punch_line, die_line, box_line, pieces_line, load_line, claim_line, step_line, row_line, note_line, end_line, keyword_of, words_of, line_text, lines_text}
 use Rattle.plan_cert.specs.Items.{lines_in}
-use Rattle.plan_cert.proofs.WordsRead.{is_plain, IsPlain, plain_bytes}
-use Rattle.plan_cert.proofs.LinesRead.{spelled}
+use Rattle.plan_cert.proofs.WordsRead.{is_plain, IsPlain, plain_bytes, spelled}
 
 -- a line without its line feed
 abbrev pub line_bytes : CertLine → List ℕ

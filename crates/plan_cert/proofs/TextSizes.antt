@@ -20,10 +20,10 @@ use Rattle.plan_cert.specs.CertText.{line_of_note, row_lines, rows_lines, cert_t
 use Rattle.plan_cert.proofs.JobTexts.{four}
 use Rattle.plan_cert.proofs.Actions.{in_range, few_actions}
 use Rattle.plan_cert.proofs.TextLines.{ArePlainLines}
-use Rattle.plan_cert.proofs.WellRead.{IsSmall}
+use Rattle.plan_cert.proofs.PlanLineRead.{IsSmall, plan_lines_read}
 use Rattle.plan_cert.proofs.ReadWell.{small_of}
 use Rattle.plan_cert.proofs.NoteOrder.{ascend}
-use Rattle.plan_cert.proofs.PlanWritten.{worth_plain, step_plain, own_notes, all_own}
+use Rattle.plan_cert.proofs.PlanWritten.{own_notes, all_own}
 use Rattle.plan_cert.proofs.RowOrder.{few_rows}
 use Rattle.plan_cert.proofs.NoteCounts.{few_notes}
 use Rattle.plan_cert.proofs.LineSizes.{few_map, lines_length, job_length, row_length, note_length}
@@ -85,7 +85,7 @@ module _ (job : JobData) (cert : CertData) (valid : IsJob job) (form : IsWellFor
 
   plain_steps : (steps : List Step) → All (IsStep job) steps → ArePlainLines (map step_line steps)
   plain_steps [] each = tt
-  plain_steps (step ∷ steps) each = (step_plain job step small (each 0 step (omega arith)), plain_steps steps (λ k d within. each (suc k) d (omega arith)))
+  plain_steps (step ∷ steps) each = ((plan_lines_read job small).plain (step_line step) (each 0 step (omega arith)), plain_steps steps (λ k d within. each (suc k) d (omega arith)))
 
   few_steps : (claim : Worth) → HasSteps job claim cert.steps → length cert.steps ≤ 12
   few_steps (Cost cost) has = let bends = small.bends in omega (arith, has, bends)
@@ -94,7 +94,7 @@ module _ (job : JobData) (cert : CertData) (valid : IsJob job) (form : IsWellFor
   plan_text : length (lines_text (claim_line cert.claim ∷ map step_line cert.steps)) ≤ 10556
   plan_text =
       let lines = claim_line cert.claim ∷ map step_line cert.steps in
-      let size = lines_length lines ((worth_plain cert.claim form.claim, tt), plain_steps cert.steps form.steps) (few_map step_line (λ step. refl) cert.steps) in
+      let size = lines_length lines ((plan_lines_read job small).plain (claim_line cert.claim) form.claim, plain_steps cert.steps form.steps) (few_map step_line (λ step. refl) cert.steps) in
       let same = length-map cert.steps step_line in
       let few = few_steps cert.claim form.has_steps in
       omega (arith, size, same, few)

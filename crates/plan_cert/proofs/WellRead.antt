@@ -28,6 +28,7 @@ use Rattle.plan_cert.specs.KeyPlaces.{key_place}
 use Rattle.plan_cert.specs.WellFormed.{IsWorth, IsStep, HasSteps, IsRow, IsNote, NoteIsBefore, AreRows, IsWellFormed}
 use Rattle.plan_cert.specs.PlanReading.{behind_claim, may_leave}
 use Rattle.plan_cert.specs.CertReading.{no_cert, with_step, with_note, with_item}
+use Rattle.plan_cert.proofs.PlanLineRead.{IsSmall}
 use Rattle.plan_cert.proofs.Follows.{MayBeRow, FitsAt, Follows}
 
 -- the claim and the steps so far
@@ -256,10 +257,6 @@ note_holds job rows notes key least note more at fits held = record {
     all_before k d within = by_place k d within (cases_lt k (length notes))
 
 -- what a line gives is added to what holds
-pub record IsSmall (job : JobData) : Type 0 where
-  pub bends : bend_count job ≤ 12
-  pub stages : stage_count job ≤ 6
-
 add_row : (format : Format) (job : JobData) (section : Section) (cert : CertData) (row : RowHead) → IsSmall job → IsRow job row → MayBeRow format job section row.key → Holds job section cert
     → Holds job (sections.Notes row.key 0) (record cert { rows = cert.rows ++ row ∷ [] })
 add_row format job sections.Claim cert row small is may held = absurd may

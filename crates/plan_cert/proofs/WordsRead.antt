@@ -2,7 +2,7 @@
 use Rattle.std.proofs.Common.{◌≡◌, ℕ, suc, ◌+◌, ◌^◌, ◌<◌, ◌≤◌, ◌==◌, ℤ, pos, negsuc, Bool, true, false, cond, not, ◌&&◌, nat_le, nat_lt, List, [], ◌∷◌, ◌++◌, codes, take, drop, length, Option, Some, None, decimal, refl, sym, ap, ◌∙◌, arith}
 use Rattle.std.specs.Prelude.{if◌then◌else◌, bytes_eq, unsigned_abs}
 use Rattle.std.proofs.lemmas.Slice.Eq.{bytes_eq-Decides}
-use Rattle.std.specs.List.{list_all}
+use Rattle.std.specs.List.{flat_map, list_all}
 use Rattle.std.specs.Char.{is_ascii_digit}
 use Rattle.std.specs.Fmt.{signed_decimal}
 use Rattle.std.proofs.lemmas.Bool.{and_parts, and_from}
@@ -10,7 +10,7 @@ use Rattle.std.proofs.lemmas.Grind.{common_steps}
 use Rattle.std.proofs.lemmas.Fmt.{digits_decimal, decimal_digit, length-decimal-le}
 use Rattle.std.proofs.Math.Seq.{take-append_seam, drop-append_seam}
 use Rattle.toml_fields.specs.Fields.{is_name, checked_name}
-use Rattle.brake_text.specs.Numbers.{number_of}
+use Rattle.brake_text.specs.Numbers.{number_of, signed_of}
 use Rattle.brake_text.proofs.Numerals.{digits_model}
 use Rattle.brake_text.proofs.ReadBack.{number_of-decimal, signed_of-decimal}
 use Rattle.brake_base.specs.declared.plane.Quarter.{Quarter}
@@ -26,9 +26,13 @@ use Rattle.part_file.specs.declared.part.Side.{Side}
 use Rattle.part_file.specs.declared.part.Side.TheVariants.{N, E, S, W}
 use Rattle.part_file.specs.declared.part.Dir.{Dir}
 use Rattle.part_file.specs.declared.part.Dir.TheVariants.{Up, Down}
-use Rattle.cert_words.specs.LineWords.{is_space, word_length, word_at, count_at, signed_at, pair_at, side_of, dir_of, back_of, half_of, quarter_of, cost_of, worth_of, kind_at}
+use Rattle.cert_words.specs.LineWords.{is_space, word_length, word_at, count_at, signed_at, side_of, dir_of, back_of, half_of, quarter_of, cost_of, worth_of, kind_at}
 use Rattle.plan_cert.specs.Lines.{number, side_word, dir_word, back_word, half_word, worth_word, spaced, spaced_number}
 use Rattle.plan_cert.specs.WellFormed.{IsWorth}
+
+-- words, each behind a space
+abbrev pub spelled : List (List ℕ) → List ℕ
+spelled words = flat_map spaced words
 
 -- neither a space nor a line feed
 abbrev pub is_plain : ℕ → Bool
@@ -109,9 +113,6 @@ name_plain name is =
 pub checked : (name : List ℕ) → is_name name ≡ true → checked_name name ≡ Some name
 checked name is = ap (λ (b : Bool). if b then Some name else None) is
 
-pub name_read : (name rest : List ℕ) → is_name name ≡ true → Ends rest → word_at (spaced name ++ rest) ≡ Some (name, rest)
-name_read name rest is ends = word_read name rest (name_plain name is) ends
-
 both_true : (low end n : ℕ) → low ≤ n → n < end → (nat_le low n && nat_lt n end) ≡ true
 both_true low end n le lt = grind (arith, common_steps)
 
@@ -119,44 +120,67 @@ pub count_read : (low end n : ℕ) (rest : List ℕ) → low ≤ n → n < end �
 unfolding count_at
 count_read low end n rest le lt short ends = rw (word_read (number n) rest (number_plain n short) ends, number_of-decimal n short, both_true low end n le lt) refl
 
-pub signed_read : (z : ℤ) (rest : List ℕ) → IsSmall z → Ends rest → signed_at (spaced_number z ++ rest) ≡ Some (z, rest)
-unfolding signed_at
-signed_read z rest small ends = rw (word_read (signed_decimal z) rest (signed_plain z small) ends, signed_of-decimal z small) refl
-
-pub pair_read : (a b : ℤ) (rest : List ℕ) → IsSmall a → IsSmall b → Ends rest → pair_at (spaced_number a ++ (spaced_number b ++ rest)) ≡ Some ((a, b), rest)
-unfolding pair_at
-pair_read a b rest one two ends = rw (signed_read a (spaced_number b ++ rest) one refl, signed_read b rest two ends) refl
-
 pub kind_read : {A : Type 0} (of : List ℕ → Option A) (word rest : List ℕ) (x : A) → of word ≡ Some x → IsPlain word → Ends rest → kind_at of (spaced word ++ rest) ≡ Some (x, rest)
 unfolding kind_at
 kind_read of word rest x is plain ends = rw (word_read word rest plain ends, is) refl
 
-pub side_read : (x : Side) (rest : List ℕ) → Ends rest → kind_at side_of (spaced (side_word x) ++ rest) ≡ Some (x, rest)
-side_read N rest ends = kind_read side_of (codes "N") rest N refl refl ends
-side_read E rest ends = kind_read side_of (codes "E") rest E refl refl ends
-side_read S rest ends = kind_read side_of (codes "S") rest S refl refl ends
-side_read W rest ends = kind_read side_of (codes "W") rest W refl refl ends
+pub signed_read : (z : ℤ) (rest : List ℕ) → IsSmall z → Ends rest → signed_at (spaced_number z ++ rest) ≡ Some (z, rest)
+unfolding signed_at
+signed_read z rest small ends = kind_read signed_of (signed_decimal z) rest z (signed_of-decimal z small) (signed_plain z small) ends
 
-pub dir_read : (x : Dir) (rest : List ℕ) → Ends rest → kind_at dir_of (spaced (dir_word x) ++ rest) ≡ Some (x, rest)
-dir_read Up rest ends = kind_read dir_of (codes "up") rest Up refl refl ends
-dir_read Down rest ends = kind_read dir_of (codes "down") rest Down refl refl ends
+pub side_back : (x : Side) → side_of (side_word x) ≡ Some x
+side_back N = refl
+side_back E = refl
+side_back S = refl
+side_back W = refl
 
-pub back_read : (x : Back) (rest : List ℕ) → Ends rest → kind_at back_of (spaced (back_word x) ++ rest) ≡ Some (x, rest)
-back_read Parent rest ends = kind_read back_of (codes "P") rest Parent refl refl ends
-back_read Child rest ends = kind_read back_of (codes "C") rest Child refl refl ends
+pub side_plain : (x : Side) → IsPlain (side_word x)
+side_plain N = refl
+side_plain E = refl
+side_plain S = refl
+side_plain W = refl
 
-pub half_read : (x : Half) (rest : List ℕ) → Ends rest → kind_at half_of (spaced (half_word x) ++ rest) ≡ Some (x, rest)
-half_read BackHalf rest ends = kind_read half_of (codes "B") rest BackHalf refl refl ends
-half_read FrontHalf rest ends = kind_read half_of (codes "F") rest FrontHalf refl refl ends
+pub dir_back : (x : Dir) → dir_of (dir_word x) ≡ Some x
+dir_back Up = refl
+dir_back Down = refl
+
+pub dir_plain : (x : Dir) → IsPlain (dir_word x)
+dir_plain Up = refl
+dir_plain Down = refl
+
+pub back_back : (x : Back) → back_of (back_word x) ≡ Some x
+back_back Parent = refl
+back_back Child = refl
+
+pub back_plain : (x : Back) → IsPlain (back_word x)
+back_plain Parent = refl
+back_plain Child = refl
+
+pub half_back : (x : Half) → half_of (half_word x) ≡ Some x
+half_back BackHalf = refl
+half_back FrontHalf = refl
+
+pub half_plain : (x : Half) → IsPlain (half_word x)
+half_plain BackHalf = refl
+half_plain FrontHalf = refl
 
 digit_word : (n : ℕ) → n < 10 → number n ≡ (48 + n) ∷ []
 digit_word n few = decimal_digit n few
 
-pub quarter_read : (x : Quarter) (rest : List ℕ) → Ends rest → kind_at quarter_of (spaced (number (quarter_number x)) ++ rest) ≡ Some (x, rest)
-quarter_read Q1 rest ends = rw (digit_word 1 (omega arith)) (kind_read quarter_of (codes "1") rest Q1 refl refl ends)
-quarter_read Q2 rest ends = rw (digit_word 2 (omega arith)) (kind_read quarter_of (codes "2") rest Q2 refl refl ends)
-quarter_read Q3 rest ends = rw (digit_word 3 (omega arith)) (kind_read quarter_of (codes "3") rest Q3 refl refl ends)
-quarter_read Q4 rest ends = rw (digit_word 4 (omega arith)) (kind_read quarter_of (codes "4") rest Q4 refl refl ends)
+pub quarter_back : (x : Quarter) → quarter_of (number (quarter_number x)) ≡ Some x
+quarter_back Q1 = rw (digit_word 1 (omega arith)) refl
+quarter_back Q2 = rw (digit_word 2 (omega arith)) refl
+quarter_back Q3 = rw (digit_word 3 (omega arith)) refl
+quarter_back Q4 = rw (digit_word 4 (omega arith)) refl
+
+pub quarter_plain : (x : Quarter) → IsPlain (number (quarter_number x))
+quarter_plain x = number_plain (quarter_number x) (few x)
+  where
+    few : (x : Quarter) → IsShort (quarter_number x)
+    few Q1 = omega arith
+    few Q2 = omega arith
+    few Q3 = omega arith
+    few Q4 = omega arith
 
 cost_read : (cost : ℕ) → cost ≤ 1000000000 → cost_of (number cost) ≡ Some (Cost cost)
 cost_read cost few = let le : nat_le cost 1000000000 ≡ true = grind (arith, common_steps) in rw (number_of-decimal cost (omega (arith, few)), le) refl
@@ -172,6 +196,10 @@ not_none cost few = by_test (bytes_eq (number cost) (codes "none")) refl
     by_test true e = absurd (clash (sym (ap number_of ((bytes_eq-Decides (number cost) (codes "none")).0 e)) ∙ number_of-decimal cost (omega (arith, few))))
     by_test false e = refl
 
-pub worth_read : (x : Worth) (rest : List ℕ) → IsWorth x → Ends rest → kind_at worth_of (spaced (worth_word x) ++ rest) ≡ Some (x, rest)
-worth_read (Cost cost) rest is ends = kind_read worth_of (number cost) rest (Cost cost) (not_none cost is ∙ cost_read cost is) (number_plain cost (omega (arith, is))) ends
-worth_read Blocked rest is ends = kind_read worth_of (codes "none") rest Blocked refl refl ends
+pub worth_back : (x : Worth) → IsWorth x → worth_of (worth_word x) ≡ Some x
+worth_back (Cost cost) is = not_none cost is ∙ cost_read cost is
+worth_back Blocked is = refl
+
+pub worth_plain : (x : Worth) → IsWorth x → IsPlain (worth_word x)
+worth_plain (Cost cost) is = number_plain cost (omega (arith, is))
+worth_plain Blocked is = refl

@@ -1,6 +1,6 @@
 -- The items of a certificate or a table file, in order, up to its end or to the refusal.
-use Rattle.std.specs.Prelude.{ℕ, ◌+◌, ◌-◌, ◌^◌, min, Bool, true, false, ◌&&◌, List, [], ◌∷◌, Some}
-use Rattle.std.specs.Prelude.{None, Result, Ok, Err, if◌then◌else◌}
+use Rattle.std.specs.Prelude.{ℕ, ◌+◌, ◌-◌, ◌^◌, min, Bool, true, false, ◌&&◌, List, [], ◌∷◌}
+use Rattle.std.specs.Prelude.{Option, Some, None, Result, Ok, Err, if◌then◌else◌}
 use Rattle.std.specs.List.{slice_split}
 use Rattle.job_setup.specs.Setup.{JobData, bend_count, stage_count}
 use Rattle.brake_text.specs.Lines.{is_line_feed}
@@ -12,11 +12,12 @@ use Rattle.plan_cert.specs.declared.item.Item.{Item}
 use Rattle.plan_cert.specs.declared.item.Item.TheVariants as given
 use Rattle.plan_cert.specs.declared.item.CertFault.{CertFault}
 use Rattle.plan_cert.specs.declared.item.CertFault.TheVariants as faults
+use Rattle.cert_words.specs.LineWords.{◌>>=◌}
 use Rattle.plan_cert.specs.JobTest.{is_job}
+use Rattle.plan_cert.specs.JobLineReading.{line_in}
 use Rattle.plan_cert.specs.Formats.{format_of}
-use Rattle.plan_cert.specs.LineKinds.{is_complete}
 use Rattle.plan_cert.specs.JobLines.{JobLinesData, no_lines, job_of}
-use Rattle.plan_cert.specs.JobReading.{take_line}
+use Rattle.plan_cert.specs.JobFold.{is_complete, take}
 use Rattle.plan_cert.specs.PlanReading.{may_leave, take_plan_line, may_follow_job, first_section}
 use Rattle.plan_cert.specs.PlanReading.{is_end_line}
 use Rattle.plan_cert.specs.LineReading.{keyword_in, behind_keyword}
@@ -76,8 +77,12 @@ judged_items n lines rest = if lines.is_sound && is_job (job_of lines)
 -- the job lines are complete, and the line may follow them
 abbrev pub may_be_judged : JobLinesData → List ℕ → Bool
 may_be_judged lines line =
-    is_complete lines.format lines.last
+    is_complete lines.section
     && may_follow_job lines.format (bend_count (job_of lines)) (stage_count (job_of lines)) line
+
+-- the job lines with one more line, where it is a job line that may stand there
+unfoldable pub take_line : JobLinesData → List ℕ → Option JobLinesData
+take_line lines text = line_in text >>= take lines
 
 -- what stands behind the job lines, from line n on
 abbrev pub items_behind : ℕ → JobLinesData → List ℕ → List (List ℕ) → List (Result Item CertFault)

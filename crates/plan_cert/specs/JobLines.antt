@@ -1,23 +1,21 @@
 -- The job lines so far: what they give, and what is given before the first.
-use Rattle.std.specs.Prelude.{◌≡◌, ℤ, pos, Bool, true, false, nat_lt, [], length, Option, Some}
-use Rattle.std.specs.Prelude.{None}
+use Rattle.std.specs.Prelude.{◌≡◌, ℤ, pos, Bool, true, false, List, [], ℕ, Option, Some, None}
 use Rattle.part_file.specs.Part.{PartData, part_data}
-use Rattle.machine_file.specs.Bounds.{most_stages}
 use Rattle.machine_file.specs.declared.machine.GaugeRule.{GaugeRule}
 use Rattle.machine_file.specs.declared.machine.Costs.{Costs}
 use Rattle.tool_library.specs.Tools.{PunchData, DieData}
 use Rattle.job_setup.specs.Setup.{StageData, SetupData, JobData, stage_data, setup_data}
 use Rattle.plan_cert.specs.declared.format.Format.{Format}
-use Rattle.plan_cert.specs.declared.line_kind.LineKind.{LineKind}
-use Rattle.plan_cert.specs.declared.line_kind.LineKind.TheVariants as kinds
+use Rattle.plan_cert.specs.declared.job_section.JobSection.{JobSection}
+use Rattle.plan_cert.specs.declared.job_section.JobSection.TheVariants as sections
 use Rattle.plan_cert.specs.declared.job_reading.JobLines.{JobLines}
 
--- the job lines so far: their format, the kind of the last one, the values that they give, the
+-- the job lines so far: their format, the section of the last one, the values that they give, the
 -- stage that isn't complete yet, and whether no cost is negative, `gang` is 0 or 1, and `fine` is 1
 -- to 12
 pub record JobLinesData : Type 0 where
   pub format : Format
-  pub last : LineKind
+  pub section : JobSection
   pub part : PartData
   pub q : ℤ
   pub setup : SetupData
@@ -28,7 +26,7 @@ abbrev pub job_lines_data : JobLines → JobLinesData
 job_lines_data s =
     record {
       format = s.format;
-      last = s.last;
+      section = s.section;
       part = part_data s.part;
       q = s.q;
       setup = setup_data s.setup;
@@ -41,37 +39,47 @@ abbrev pub Takes : Option (Unit {0}) → JobLines → JobLines → Option JobLin
 Takes (Some _) old new there = there ≡ Some (job_lines_data new)
 Takes None old new there = (there ≡ None) × (job_lines_data new ≡ job_lines_data old)
 
-abbrev pub no_punch : PunchData
-no_punch =
-    record { name = []; height = pos 0; nose = pos 0; body = []; sections = []; limit = pos 0 }
+-- a part without faces
+abbrev pub begun_part : List ℕ → ℤ → ℤ → PartData
+begun_part material thickness radius =
+    record { material = material; thickness = thickness; radius = radius; faces = [] }
 
-abbrev pub no_die : DieData
-no_die =
+-- tools without boxes
+abbrev pub begun_punch : List ℕ → ℤ → ℤ → PunchData
+begun_punch name height nose =
     record {
-      name = [];
-      height = pos 0;
-      v = pos 0;
-      least_flange = pos 0;
+      name = name;
+      height = height;
+      nose = nose;
       body = [];
       sections = [];
       limit = pos 0;
     }
 
--- a stage from x0 to x1 of which no other line is read
+abbrev pub begun_die : List ℕ → ℤ → ℤ → ℤ → DieData
+begun_die name height v least_flange =
+    record {
+      name = name;
+      height = height;
+      v = v;
+      least_flange = least_flange;
+      body = [];
+      sections = [];
+      limit = pos 0;
+    }
+
+-- a stage of which only its range is known
 abbrev pub begun_stage : ℤ → ℤ → StageData
 begun_stage x0 x1 =
     record {
-      punch = no_punch;
-      die = no_die;
+      punch = begun_punch [] (pos 0) (pos 0);
+      die = begun_die [] (pos 0) (pos 0) (pos 0);
       x0 = x0;
       x1 = x1;
       pieces = [];
       load = pos 0;
       limit = pos 0;
     }
-
-abbrev pub no_part : PartData
-no_part = record { material = []; thickness = pos 0; radius = pos 0; faces = [] }
 
 abbrev pub no_gauge : GaugeRule
 no_gauge =
@@ -89,10 +97,11 @@ no_gauge =
 abbrev pub no_costs : Costs
 no_costs = record { stroke = 0; quarter = 0; half = 0; flip = 0; roll = 0; stage = 0 }
 
-abbrev pub no_setup : SetupData
-no_setup =
+-- a setup of which only its bed is known
+abbrev pub begun_setup : ℤ × ℤ → SetupData
+begun_setup bed =
     record {
-      bed = (pos 0, pos 0);
+      bed = bed;
       frames = [];
       upper = [];
       lower = [];
@@ -105,22 +114,18 @@ no_setup =
       fine = 0;
     }
 
--- nothing but the format is read; a job of version 1 has no gangs, no force, no depth and no loads
+-- nothing but the format is read
 abbrev pub no_lines : Format → JobLinesData
 no_lines format =
     record {
       format = format;
-      last = kinds.Format;
-      part = no_part;
+      section = sections.Start;
+      part = begun_part [] (pos 0) (pos 0);
       q = pos 0;
-      setup = no_setup;
+      setup = begun_setup (pos 0, pos 0);
       stage = begun_stage (pos 0) (pos 0);
       is_sound = true;
     }
-
--- there is room for another stage
-abbrev pub has_room : JobLinesData → Bool
-has_room s = nat_lt (length s.setup.stages) most_stages
 
 -- the values that the job lines give
 abbrev pub job_of : JobLinesData → JobData

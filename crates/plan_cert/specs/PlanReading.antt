@@ -19,6 +19,7 @@ use Rattle.plan_cert.specs.declared.item.Item.{Item}
 use Rattle.plan_cert.specs.declared.item.Item.TheVariants as given
 use Rattle.cert_words.specs.LineWords.{◌>>=◌}
 use Rattle.cert_words.specs.PlanWords.{step_in, claim_in, row_in, note_in}
+use Rattle.plan_cert.specs.Lines.{CertLine, claim_line, step_line, row_line, note_line}
 use Rattle.plan_cert.specs.LineReading.{only_if, keyword_in, behind_keyword}
 
 -- the first key stands before the second in the order of keys
@@ -49,35 +50,6 @@ abbrev pub may_be_row : Format → ℕ → Section → Key → Bool
 may_be_row format bends (sections.Notes last number) key = is_before last key
 may_be_row format bends section key = may_leave format bends section
 
-unfoldable pub take_claim : Section → List ℕ → Option (Item × Section)
-take_claim sections.Claim text =
-    claim_in text >>= λ claim. Some (given.Claim claim, behind_claim claim)
-take_claim _ text = None
-
--- a step behind so many steps: there is at most one for each bend
-unfoldable pub step_behind : ℕ → ℕ → ℕ → List ℕ → Option (Item × Section)
-step_behind bends stages steps text =
-    only_if (nat_lt steps bends) (step_in bends stages text
-    >>= λ step. Some (given.Step step, sections.Steps (steps + 1)))
-
-unfoldable pub take_step : JobData → Section → List ℕ → Option (Item × Section)
-take_step job (sections.Steps steps) text =
-    step_behind (bend_count job) (stage_count job) steps text
-take_step job _ text = None
-
-unfoldable pub row_behind : Format → ℕ → ℕ → Section → List ℕ → Option (Item × Section)
-row_behind format bends stages section text = row_in bends stages text >>= λ row.
-    only_if (may_be_row format bends section row.0) (Some (
-      given.Row (record {
-        key = row.0;
-        worth = row.1;
-      }),
-      sections.Notes row.0 0,
-    ))
-
-unfoldable pub take_row : Format → JobData → Section → List ℕ → Option (Item × Section)
-take_row format job section text = row_behind format (bend_count job) (stage_count job) section text
-
 -- a reason against an action at a key, where the next note's number is at least the least
 unfoldable pub noted : JobData → Key → ℕ → Action → Reason → Option (Item × Section)
 noted job key least action reason = let number = number_of_action (stage_count job) action in
@@ -87,15 +59,24 @@ noted job key least action reason = let number = number_of_action (stage_count j
       sections.Notes key (number + 1),
     ))
 
-unfoldable pub note_behind : JobData → ℕ → ℕ → Key → ℕ → List ℕ → Option (Item × Section)
-note_behind job bends stages key least text =
-    note_in bends stages text >>= λ note. noted job key least note.0 note.1
+-- what a line gives where it stands, and where the next one stands: the claim first, then at most a
+-- step for each bend, then rows, each with its notes in the order of their actions
+unfoldable pub give : Format → JobData → CertLine → Section → Option (Item × Section)
+give format job (claim_line claim) sections.Claim = Some (given.Claim claim, behind_claim claim)
+give format job (step_line step) (sections.Steps steps) =
+    only_if (nat_lt steps (bend_count job)) (Some (given.Step step, sections.Steps (steps + 1)))
+give format job (row_line row) section =
+    only_if (may_be_row format (bend_count job) section row.key) (Some (
+      given.Row row,
+      sections.Notes row.key 0,
+    ))
+give format job (note_line action reason) (sections.Notes key least) =
+    noted job key least action reason
+give format job _ _ = None
 
--- the notes of a row stand in the order of their actions
-unfoldable pub take_note : JobData → Section → List ℕ → Option (Item × Section)
-take_note job (sections.Notes key least) text =
-    note_behind job (bend_count job) (stage_count job) key least text
-take_note job _ text = None
+-- the same of a line that was read, if one was
+abbrev pub give_read : Format → JobData → Section → Option CertLine → Option (Item × Section)
+give_read format job section read = read >>= λ line. give format job line section
 
 -- the kind of a line behind the job by its keyword
 abbrev pub plan_line_of : List ℕ → Option PlanLine
@@ -105,19 +86,29 @@ plan_line_of keyword = if bytes_eq keyword (codes "claim") then Some kinds.Claim
     else if bytes_eq keyword (codes "x") then Some kinds.Note
     else None
 
--- what the words of a line of a kind give, and where the next line stands
-unfoldable pub take_plan_words : Format → JobData → Section → PlanLine → List ℕ
-    → Option (Item × Section)
-take_plan_words format job section kinds.Claim text = take_claim section text
-take_plan_words format job section kinds.Step text = take_step job section text
-take_plan_words format job section kinds.Row text = take_row format job section text
-take_plan_words format job section kinds.Note text = take_note job section text
+-- the line of a kind by its words, in a job of so many bends and stages
+unfoldable pub plan_words_in : ℕ → ℕ → PlanLine → List ℕ → Option CertLine
+plan_words_in bends stages kinds.Claim text = claim_in text >>= λ claim. Some (claim_line claim)
+plan_words_in bends stages kinds.Step text =
+    step_in bends stages text >>= λ step. Some (step_line step)
+plan_words_in bends stages kinds.Row text = row_in bends stages text >>= λ row.
+    Some (row_line (record {
+      key = row.0;
+      worth = row.1;
+    }))
+plan_words_in bends stages kinds.Note text =
+    note_in bends stages text >>= λ note. Some (note_line note.0 note.1)
+
+-- the line behind the job that a keyword and the text behind it are, if they are one but the end
+unfoldable pub plan_line_in : ℕ → ℕ → List ℕ → List ℕ → Option CertLine
+plan_line_in bends stages keyword text =
+    plan_line_of keyword >>= λ kind. plan_words_in bends stages kind text
 
 -- what a line gives, and where the next one stands
 unfoldable pub take_plan_line : Format → JobData → Section → List ℕ → List ℕ
     → Option (Item × Section)
 take_plan_line format job section keyword text =
-    plan_line_of keyword >>= λ kind. take_plan_words format job section kind text
+    give_read format job section (plan_line_in (bend_count job) (stage_count job) keyword text)
 
 -- the line that ends a certificate or a table file
 abbrev pub is_end_line : List ℕ → Bool

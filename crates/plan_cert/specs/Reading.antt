@@ -11,11 +11,10 @@ use Rattle.plan_cert.specs.declared.section.Section.{Section}
 use Rattle.plan_cert.specs.declared.section.Section.TheVariants as sections
 use Rattle.plan_cert.specs.declared.stand.Stand.{Stand}
 use Rattle.plan_cert.specs.JobLines.{JobLinesData, job_of}
-use Rattle.plan_cert.specs.JobReading.{take_line}
 use Rattle.plan_cert.specs.PlanReading.{first_section}
 use Rattle.plan_cert.specs.Facts.{KeepsFacts, HasFew}
 use Rattle.plan_cert.specs.JobTest.{is_job}
-use Rattle.plan_cert.specs.Items.{items, lines_in, plan_items}
+use Rattle.plan_cert.specs.Items.{items, lines_in, plan_items, take_line}
 
 -- what is read, its text, and the number of answers so far
 pub record Reading : Type 0 where

@@ -44,10 +44,12 @@ impl<'a> Model for KnownNotes<'a> {
 }
 
 /// The note of a line; None where it is no line of a note.
-fn note_of<'a>(line: &'a [u8], bends: u8, stages: u8) -> Option<KnownNote<'a>>
+pub(crate) fn note_of<'a>(line: &'a [u8], bends: u8, stages: u8) -> Option<KnownNote<'a>>
     requires bends { bends ≤ 12 }
     requires line { All (λ byte. byte ≢ 10) line.now }
-    ensures { IfSome result IsKnown }
+    ensures known { IfSome result IsKnown }
+    ensures bends { IfSome result (λ note. note.bends ≡ bends) }
+    ensures stages { IfSome result (λ note. note.stages ≡ stages) }
 {
     let (keyword, text) = split_word(line);
     match plan_line_of(keyword) {
@@ -100,7 +102,7 @@ impl<'a> KnownNotes<'a> {
 }
 
 /// What stands behind the line feed with which the text begins.
-fn behind_line_feed(text: &[u8]) -> Option<&[u8]>
+pub(crate) fn behind_line_feed(text: &[u8]) -> Option<&[u8]>
     ensures { IfSome result (λ rest. text.now ≡ 10 ∷ rest.now) }
 {
     match text {
@@ -159,7 +161,7 @@ fn known_note<'a>(
 }
 
 /// Whether the job has so many bends and stages.
-fn is_of(bends: u8, stages: u8, facts: &JobFacts) -> bool
+pub(crate) fn is_of(bends: u8, stages: u8, facts: &JobFacts) -> bool
     ensures { IsTrue result ↔ ((bends ≡ facts.now.bends) × (stages ≡ facts.now.stages)) }
 {
     bends == facts.bends && stages == facts.stages

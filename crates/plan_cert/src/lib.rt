@@ -2,27 +2,27 @@
 //! costs less.
 #![tactic(auto)]
 
+mod begun_values;
 mod cert;
 mod cert_reading;
-mod fixture_reading;
 mod format;
 mod item;
 mod job_answers;
 mod job_facts;
+mod job_line;
 mod job_lines;
 mod job_reading;
+mod job_section;
 mod known_notes;
-mod line_kind;
-mod part_reading;
+mod note_lines;
+mod note_run;
 mod plan_answers;
 mod plan_reading;
 mod reader;
 mod rows;
-mod rule_reading;
 mod section;
-mod stage_reading;
+mod set_leads;
 mod stand;
-mod tool_reading;
 mod words;
 mod writing;
 
@@ -31,6 +31,7 @@ pub use cert_reading::{CertFile, read_cert};
 pub use format::TextKind;
 pub use item::{CertFault, Item, PlanItem};
 pub use job_lines::write_job;
+pub use note_lines::NoteLines;
 pub use reader::CertReader;
 pub use rows::{put_reason, put_rows, put_worth};
 pub use words::put_count;

@@ -1,19 +1,22 @@
 //! Reading the lines behind the job: which line may stand where, and what it gives.
-ghost use Rattle.std.specs.Prelude.{◌≡◌, ◌+◌, ◌≤◌, ◌<◌, ℕ, IsTrue, IfSome};
+ghost use Rattle.std.specs.Prelude.{◌≡◌, ◌+◌, ◌≤◌, ◌<◌, nat_lt, ℕ, IsTrue, Some, IfSome};
 ghost use Rattle.brake_base.specs.Actions.{IsActionAmong};
 ghost use Rattle.job_setup.specs.Setup.{JobData};
-ghost use Rattle.plan_cert.specs.LineReading.{keyword_in, behind_keyword};
+ghost use Rattle.plan_cert.specs.declared.item.Item.TheVariants as given;
+ghost use Rattle.plan_cert.specs.declared.section.Section.TheVariants as sections;
+ghost use Rattle.plan_cert.specs.declared.section.PlanLine.TheVariants as kinds;
+ghost use Rattle.plan_cert.specs.LineReading.{only_if, keyword_in, behind_keyword};
 ghost use Rattle.cert_words.specs.LineWords.{Reads};
 ghost use Rattle.plan_cert.specs.Facts.{KeepsFacts};
 ghost use Rattle.plan_cert.specs.PlanItem.{placed};
-ghost use Rattle.plan_cert.specs.PlanReading.{behind_claim, are_enough, may_leave, may_be_row, take_claim, step_behind, take_step, row_behind, take_row, take_note, noted, note_behind, plan_line_of, take_plan_words, take_plan_line, is_end_line, is_claim_line, is_row_line, may_follow_job, first_section};
+ghost use Rattle.plan_cert.specs.PlanReading.{behind_claim, are_enough, may_leave, may_be_row, give_read, noted, plan_line_of, plan_words_in, plan_line_in, take_plan_line, is_end_line, is_claim_line, is_row_line, may_follow_job, first_section};
 
 use crate::cert::RowHead;
 use crate::format::Format;
 use crate::item::PlanItem;
 use crate::job_facts::JobFacts;
 use crate::section::{PlanLine, Section};
-use brake_base::{Action, Key, Reason, Worth, action_number};
+use brake_base::{Action, Key, Reason, Step, Worth, action_number};
 use cert_words::{claim, note, row, split_word, step};
 
 /// Where the line behind the claim stands.
@@ -57,52 +60,55 @@ fn may_be_row(format: Format, bends: u8, section: &Section, key: &Key) -> bool
     }
 }
 
-/// The claim.
-#[tactic(auto, unfolding(crate::specs::PlanReading::take_claim))]
-fn take_claim(section: &Section, text: &[u8]) -> Option<(PlanItem, Section)>
-    ensures { Reads placed result (take_claim section.now text.now) }
+/// The claim, where it may stand.
+#[tactic(auto, unfolding(crate::specs::PlanReading::give, crate::specs::PlanReading::plan_words_in))]
+fn take_claim(facts: &JobFacts, section: &Section, text: &[u8]) -> Option<(PlanItem, Section)>
+    ensures { (job : JobData) → Reads placed result
+        (give_read facts.now.format job section.now
+        (plan_words_in facts.now.bends facts.now.stages kinds.Claim text.now)) }
 {
+    let claim = claim(text)?;
     match section {
-        Section::Claim => {
-            let claim = claim(text)?;
-            Some((PlanItem::Claim(claim), behind_claim(claim)))
-        }
+        Section::Claim => Some((PlanItem::Claim(claim), behind_claim(claim))),
         _ => None,
     }
 }
 
-/// A step, of which there is at most one for each bend.
-#[tactic(auto, unfolding(crate::specs::PlanReading::take_step))]
+/// A step, where it may stand: there is at most one for each bend.
+#[tactic(auto, unfolding(crate::specs::PlanReading::give, crate::specs::PlanReading::plan_words_in))]
 fn take_step(facts: &JobFacts, section: &Section, text: &[u8]) -> Option<(PlanItem, Section)>
     requires { facts.now.bends ≤ 12 }
-    ensures { (job : JobData) → KeepsFacts facts.now job
-        → Reads placed result (take_step job section.now text.now) }
+    ensures { (job : JobData) → KeepsFacts facts.now job → Reads placed result
+        (give_read facts.now.format job section.now
+        (plan_words_in facts.now.bends facts.now.stages kinds.Step text.now)) }
 {
+    let step = step(text, facts.bends, facts.stages)?;
     match section {
-        Section::Steps(steps) => step_behind(facts, *steps, text),
+        Section::Steps(steps) => step_behind(facts, *steps, step),
         _ => None,
     }
 }
 
 /// A step behind so many steps.
-#[tactic(auto, unfolding(crate::specs::PlanReading::step_behind))]
-fn step_behind(facts: &JobFacts, steps: u8, text: &[u8]) -> Option<(PlanItem, Section)>
+fn step_behind(facts: &JobFacts, steps: u8, step: Step) -> Option<(PlanItem, Section)>
     requires { facts.now.bends ≤ 12 }
-    ensures { Reads placed result (step_behind facts.now.bends facts.now.stages steps text.now) }
+    ensures { Reads placed result (only_if (nat_lt steps facts.now.bends)
+        (Some (given.Step step, sections.Steps (steps + 1)))) }
 {
-    if steps >= facts.bends {
-        return None;
+    if steps < facts.bends {
+        Some((PlanItem::Step(step), Section::Steps(steps + 1)))
+    } else {
+        None
     }
-    let step = step(text, facts.bends, facts.stages)?;
-    Some((PlanItem::Step(step), Section::Steps(steps + 1)))
 }
 
-/// A row, behind the rows of lesser keys.
-#[tactic(auto, unfolding(crate::specs::PlanReading::row_behind))]
-fn row_behind(facts: &JobFacts, section: &Section, text: &[u8]) -> Option<(PlanItem, Section)>
+/// A row, where it may stand.
+#[tactic(auto, unfolding(crate::specs::PlanReading::give, crate::specs::PlanReading::plan_words_in))]
+fn take_row(facts: &JobFacts, section: &Section, text: &[u8]) -> Option<(PlanItem, Section)>
     requires { facts.now.bends ≤ 12 }
-    ensures { Reads placed result
-        (row_behind facts.now.format facts.now.bends facts.now.stages section.now text.now) }
+    ensures { (job : JobData) → KeepsFacts facts.now job → Reads placed result
+        (give_read facts.now.format job section.now
+        (plan_words_in facts.now.bends facts.now.stages kinds.Row text.now)) }
 {
     let (key, worth) = row(text, facts.bends, facts.stages)?;
     if may_be_row(facts.format, facts.bends, section, &key) {
@@ -113,16 +119,6 @@ fn row_behind(facts: &JobFacts, section: &Section, text: &[u8]) -> Option<(PlanI
     } else {
         None
     }
-}
-
-/// A row, behind the rows of lesser keys.
-#[tactic(auto, unfolding(crate::specs::PlanReading::take_row))]
-fn take_row(facts: &JobFacts, section: &Section, text: &[u8]) -> Option<(PlanItem, Section)>
-    requires { facts.now.bends ≤ 12 }
-    ensures { (job : JobData) → KeepsFacts facts.now job
-        → Reads placed result (take_row facts.now.format job section.now text.now) }
-{
-    row_behind(facts, section, text)
 }
 
 /// A note at a key, where its action's number is at least the least one.
@@ -154,28 +150,18 @@ pub(crate) fn noted(
     }
 }
 
-/// A note at a key, of at least this number.
-#[tactic(auto, unfolding(crate::specs::PlanReading::note_behind))]
-fn note_behind(facts: &JobFacts, key: &Key, least: u8, text: &[u8]) -> Option<(PlanItem, Section)>
-    requires bends { facts.now.bends ≤ 12 }
-    requires stages { facts.now.stages ≤ 6 }
-    ensures { (job : JobData) → KeepsFacts facts.now job
-        → Reads placed result (note_behind job facts.now.bends facts.now.stages key.now least text.now) }
-{
-    let (action, reason) = note(text, facts.bends, facts.stages)?;
-    noted(facts, key, least, action, reason)
-}
-
-/// A note behind its row or another note of the row.
-#[tactic(auto, unfolding(crate::specs::PlanReading::take_note))]
+/// A note, where it may stand: behind its row or another note of the row.
+#[tactic(auto, unfolding(crate::specs::PlanReading::give, crate::specs::PlanReading::plan_words_in))]
 fn take_note(facts: &JobFacts, section: &Section, text: &[u8]) -> Option<(PlanItem, Section)>
     requires bends { facts.now.bends ≤ 12 }
     requires stages { facts.now.stages ≤ 6 }
-    ensures { (job : JobData) → KeepsFacts facts.now job
-        → Reads placed result (take_note job section.now text.now) }
+    ensures { (job : JobData) → KeepsFacts facts.now job → Reads placed result
+        (give_read facts.now.format job section.now
+        (plan_words_in facts.now.bends facts.now.stages kinds.Note text.now)) }
 {
+    let (action, reason) = note(text, facts.bends, facts.stages)?;
     match section {
-        Section::Notes(key, least) => note_behind(facts, key, *least, text),
+        Section::Notes(key, least) => noted(facts, key, *least, action, reason),
         _ => None,
     }
 }
@@ -194,7 +180,6 @@ pub(crate) fn plan_line_of(keyword: &[u8]) -> Option<PlanLine>
 }
 
 /// What the words of a line of a kind give, and where the next line stands.
-#[tactic(auto, unfolding(crate::specs::PlanReading::take_plan_words))]
 fn take_plan_words(
     facts: &JobFacts,
     section: &Section,
@@ -203,12 +188,12 @@ fn take_plan_words(
 ) -> Option<(PlanItem, Section)>
     requires bends { facts.now.bends ≤ 12 }
     requires stages { facts.now.stages ≤ 6 }
-    ensures { (job : JobData) → KeepsFacts facts.now job
-        → Reads placed result
-        (take_plan_words facts.now.format job section.now kind text.now) }
+    ensures { (job : JobData) → KeepsFacts facts.now job → Reads placed result
+        (give_read facts.now.format job section.now
+        (plan_words_in facts.now.bends facts.now.stages kind text.now)) }
 {
     match kind {
-        PlanLine::Claim => take_claim(section, text),
+        PlanLine::Claim => take_claim(facts, section, text),
         PlanLine::Step => take_step(facts, section, text),
         PlanLine::Row => take_row(facts, section, text),
         PlanLine::Note => take_note(facts, section, text),
@@ -216,7 +201,7 @@ fn take_plan_words(
 }
 
 /// What a line gives, and where the next one stands.
-#[tactic(auto, unfolding(crate::specs::PlanReading::take_plan_line))]
+#[tactic(auto, unfolding(crate::specs::PlanReading::take_plan_line, crate::specs::PlanReading::plan_line_in))]
 pub(crate) fn take_plan_line(
     facts: &JobFacts,
     section: &Section,

@@ -6,8 +6,7 @@ use Rattle.plan_cert.specs.declared.item.CertFault.TheVariants.{NoMemory}
 use Rattle.plan_cert.specs.Cert.{cert_data}
 use Rattle.plan_cert.specs.CertReading.{cert_file_data, cert_file_of, BeginsWith}
 use Rattle.plan_cert.proofs.Collecting.{read_ok, read_err}
-use Rattle.plan_cert.proofs.ReadWell.{read_file}
-use Rattle.plan_cert.proofs.Exactly.{text_gives, text_of_given, none_refused}
+use Rattle.plan_cert.proofs.Exactly.{read_file, text_gives, text_of_given, none_refused}
 use Rattle.plan_cert.specs.ExactTexts.{IsExact}
 use Rattle.plan_cert.proofs.cert_reading.read_cert.Goals as goal
 

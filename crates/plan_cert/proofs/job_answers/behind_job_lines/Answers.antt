@@ -1,7 +1,6 @@
 use Rattle.std.proofs.Common.{sym, ap, ◌∙◌}
 use Rattle.plan_cert.specs.JobLines.{job_lines_data}
-use Rattle.plan_cert.specs.JobReading.{take_line}
-use Rattle.plan_cert.specs.Items.{lines_in, job_items}
+use Rattle.plan_cert.specs.Items.{take_line, lines_in, job_items}
 use Rattle.plan_cert.proofs.JobItems.{taken, takes_some}
 use Rattle.plan_cert.proofs.job_answers.behind_job_lines.Goals as goal
 
