@@ -7,8 +7,8 @@ pub mod Accepting
 pub mod Refusing
 pub mod ItemLemmas
 pub mod GrowLemmas
-pub mod ReasonLemmas
 pub mod NoteLemmas
+pub mod KnownLemmas
 pub mod ReadLemmas
 pub mod RowLemmas
 pub mod ProvedLemmas

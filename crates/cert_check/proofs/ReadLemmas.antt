@@ -21,17 +21,18 @@ use Rattle.plan_cert.specs.Items.{items}
 use Rattle.plan_cert.specs.CertItems.{rows_items, cert_items}
 use Rattle.plan_cert.specs.CertReading.{CertFileData, no_cert, with_item, with_step, cert_of, answers_left, version_in, AnswersLeft}
 use Rattle.plan_cert.specs.Lines.{action_at}
+use Rattle.plan_cert.specs.NoteLines.{KnownReasons}
 use Rattle.plan_cert.specs.WellFormed.{IsNote, IsRow}
 use Rattle.plan_cert.proofs.Conditions.{rows_of}
-use Rattle.plan_cert.proofs.Exactly.{text_of_given}
 use Rattle.plan_cert.proofs.NumberedActions.{tried_at}
-use Rattle.plan_cert.proofs.ReadWell.{read_file}
+use Rattle.plan_cert.proofs.Exactly.{read_file, text_of_given}
 use Rattle.plan_cert.proofs.RowOrder.{no_row, few_rows}
 use Rattle.cert_check.specs.declared.fault.CheckFault.{CheckFault}
 use Rattle.cert_check.specs.declared.fault.CheckFault.TheVariants.{Cert, NoMemory}
 use Rattle.cert_check.specs.declared.read_cert.ReadCert.{ReadCert}
 use Rattle.cert_check.specs.declared.row_notes.RowNotes.{RowNotes}
 use Rattle.cert_check.specs.RowNotes.{AreNoted, HasNoNotes, IsAtRow, IsFirstUnsound, IsSound, IsTesting, last_note, note_at}
+use Rattle.cert_check.specs.KnownNotes.{KnowsSound}
 use Rattle.cert_check.specs.ReadCert.{HasParts, KeepsNotes, KeepsAll, ReadAnswer, IsRowFirst, IsUnderway, ItemAnswer}
 use Rattle.cert_check.specs.Texts.{IsTextOfCert}
 use Rattle.cert_check.proofs.Accepting.{text_reads}
@@ -112,7 +113,7 @@ module _ (job : JobData) (cert before : CertData) (left : List (Result Item Cert
         ∙ (slice_get-get_or (before.rows ++ head ∷ []) (length before.rows) head (omega (arith, one)) ∙ ap Some (get_or_push before.rows head head (length before.rows) refl)))
         ∙ at)
 
-    pub underway_row : head.key.mask ≡ new.reasons.mask → (AreNoted job before.rows before.notes old.sets.items → AreNoted job (before.rows ++ head ∷ []) before.notes new.sets.items) → new.unsound ≡ old.unsound
+    pub underway_row : head.key.mask ≡ new.folded.mask → (AreNoted job before.rows before.notes old.sets.items → AreNoted job (before.rows ++ head ∷ []) before.notes new.sets.items) → new.unsound ≡ old.unsound
         → IsUnderway job cert (with_item before (given.Row head)) left new
     underway_row mask sets unsound = record {
       valid = under.valid;
@@ -165,7 +166,7 @@ module _ (job : JobData) (cert before : CertData) (left : List (Result Item Cert
         subst (λ (n : ℕ). IsNote job cert.rows (note_at n action reason)) min_is
         (subst (IsNote job cert.rows) is.2 (under.form.rows.each_note is.0 noted is.1))
 
-    at_row : IsAtRow job cert.rows old.reasons.mask (note_at own action reason)
+    at_row : IsAtRow job cert.rows old.folded.mask (note_at own action reason)
     at_row =
         let head = get_or before.rows own no_row in
         let at = slice_get-get_or before.rows own no_row last_within in
@@ -181,9 +182,9 @@ module _ (job : JobData) (cert before : CertData) (left : List (Result Item Cert
           tried = (is.action, tried_at job head.key action is.action (subst (λ (h : RowHead). IsTrue (is_lead job h.key.mask (action_at (stage_count job) action).bend)) here (is.lead no_row)));
         }
 
-    pub underway_note : new.reasons.mask ≡ old.reasons.mask
+    pub underway_note : new.folded.mask ≡ old.folded.mask
         → (0 < length before.rows → action < 2 * bend_count job * stage_count job → AreNoted job before.rows before.notes old.sets.items → AreNoted job before.rows (before.notes ++ last_note old action reason ∷ []) new.sets.items)
-        → (0 < length old.sets.items → IsAtRow job cert.rows old.reasons.mask (last_note old action reason) → IsFirstUnsound job cert.rows before.notes old.unsound → IsFirstUnsound job cert.rows (before.notes ++ last_note old action reason ∷ []) new.unsound)
+        → (0 < length old.sets.items → IsAtRow job cert.rows old.folded.mask (last_note old action reason) → IsFirstUnsound job cert.rows before.notes old.unsound → IsFirstUnsound job cert.rows (before.notes ++ last_note old action reason ∷ []) new.unsound)
         → IsUnderway job cert (with_item before (given.Note action reason)) left new
     underway_note mask sets unsound = record {
       valid = under.valid;
@@ -198,7 +199,7 @@ module _ (job : JobData) (cert before : CertData) (left : List (Result Item Cert
     }
 
 -- ---- the text begins with the job, and what stands behind it comes to the same as what is left behind what was read
-pub record Reads (text : List ℕ) (read : ReadCert) (reader : Reading) : Type 0 where
+pub record Reads (text : List ℕ) (read : ReadCert) (reader : Reading) (known : KnownReasons) : Type 0 where
   pub behind_job : List (Result Item CertFault)
   pub starts : items Certificate text ≡ Ok (given.Job read.job) ∷ behind_job
   pub before : CertData
@@ -207,22 +208,24 @@ pub record Reads (text : List ℕ) (read : ReadCert) (reader : Reading) : Type 0
   pub job_read : 0 < reader.answered
   pub more : AnswersLeft reader
   pub testing : IsTesting read.job read.notes
+  pub knows : KnowsSound read.job read.notes known
   pub underway : (cert : CertData) → IsTextOfCert text read.job cert → IsUnderway read.job cert before (answers_left reader) read.notes
 
-abbrev pub ReadsBy : Bool → List ℕ → ReadCert → Reading → Type 0
-ReadsBy true text read reader = Reads text read reader
-ReadsBy false text read reader = ReadAnswer text (Ok read)
+abbrev pub ReadsBy : Bool → List ℕ → ReadCert → Reading → KnownReasons → Type 0
+ReadsBy true text read reader known = Reads text read reader known
+ReadsBy false text read reader known = ReadAnswer text (Ok read)
 
 -- how many answers are left while the end isn't read
 abbrev pub unread : Bool → ℕ → ℕ
 unread true left = suc left
 unread false left = 0
 
-module _ (text : List ℕ) (read : ReadCert) (reader : Reading) (reads : Reads text read reader) where
+module _ (text : List ℕ) (read : ReadCert) (reader : Reading) (known : KnownReasons) (reads : Reads text read reader known) where
   -- an item more
-  pub reads_on : (after : ReadCert) (next : Reading) (goes : Bool) → after.job ≡ read.job → 0 < next.answered → (0 < length (answers_left next) → AnswersLeft next) → IsTesting after.job after.notes
-      → ItemAnswer (Ok goes) reads.before read (answers_left reader) after (answers_left next) → ReadsBy goes text after next
-  reads_on after next true job on more_left testing answer = record {
+  pub reads_on : (after : ReadCert) (next : Reading) (learned : KnownReasons) (goes : Bool) → after.job ≡ read.job → 0 < next.answered → (0 < length (answers_left next) → AnswersLeft next) → IsTesting after.job after.notes
+      → KnowsSound after.job after.notes learned
+      → ItemAnswer (Ok goes) reads.before read (answers_left reader) after (answers_left next) → ReadsBy goes text after next learned
+  reads_on after next learned true job on more_left testing knows answer = record {
     behind_job = reads.behind_job;
     starts = reads.starts ∙ ap (λ (j : JobData). Ok (given.Job j) ∷ reads.behind_job) (sym job);
     before = answer.0;
@@ -231,9 +234,10 @@ module _ (text : List ℕ) (read : ReadCert) (reader : Reading) (reads : Reads t
     job_read = on;
     more = more_left answer.3;
     testing = testing;
+    knows = knows;
     underway = λ cert written. subst (λ (j : JobData). IsUnderway j cert answer.0 (answers_left next) after.notes) (sym job) (answer.4 cert (reads.underway cert (subst (λ (j : JobData). IsTextOfCert text j cert) job written)));
   }
-  reads_on after next false job on more_left testing answer =
+  reads_on after next learned false job on more_left testing knows answer =
       let written : IsTextOfCert text after.job answer.0 = record {
         version = version_in text;
         exact = text_of_given text (record { job = after.job; cert = answer.0; version = version_in text })

@@ -4,8 +4,9 @@ pub mod StepFaults
 pub mod Steps
 pub mod Standing
 pub mod SetActions
-pub mod HeldReasons
+pub mod RowSet
 pub mod RowNotes
+pub mod KnownNotes
 pub mod RowTable
 pub mod Rows
 pub mod ProvedCosts

@@ -35,7 +35,7 @@ pub record KeepsNotes (job : JobData) (all rows : List RowHead) (read : List Not
   pub first : IsFirstUnsound job all read notes.unsound
   pub mask :
       (head : RowHead) → slice_get rows (length rows - 1) ≡ Some head
-      → head.key.mask ≡ notes.reasons.mask
+      → head.key.mask ≡ notes.folded.mask
 
 -- what is kept of all its notes
 abbrev pub KeepsAll : JobData → CertData → RowNotes → Type 0

@@ -16,7 +16,7 @@ use Rattle.plan_cert.specs.WellFormed.{IsRow, AreRows}
 use Rattle.plan_cert.specs.RowFaults.{HoldsAt, IsTried}
 use Rattle.cert_check.specs.declared.row_notes.NotePlace.{NotePlace}
 use Rattle.cert_check.specs.declared.row_notes.RowNotes.{RowNotes}
-use Rattle.cert_check.specs.HeldReasons.{AreReasonsOf}
+use Rattle.cert_check.specs.RowSet.{AreLeadsWithin}
 
 -- whether the action of a number is in the set
 abbrev pub is_noted : JobData → ActionSet → ℕ → Bool
@@ -76,7 +76,7 @@ pub record HasNoNotes (notes : RowNotes) : Type 0 where
 -- by what is kept beside the notes reasons are tested
 pub record IsTesting (job : JobData) (notes : RowNotes) : Type 0 where
   pub table : notes.table ≡ job
-  pub reasons : AreReasonsOf job notes.reasons
+  pub leads : AreLeadsWithin job notes.folded.mask notes.folded.leads
 
 -- a note of the last row
 abbrev pub last_note : RowNotes → ℕ → Reason → Note
@@ -97,6 +97,13 @@ pub record IsActionPut (job : JobData) (row number : ℕ) (before after : List A
   pub places :
       (d : ActionSet) → ArePlaces set (λ place. has_place (slice_index_or before row d) place
       || (place == place_of (action_at (stage_count job) number)))
+
+-- the actions of another set were put into the set of a row, where there is one
+abbrev pub IsUnionPut : ℕ → ActionSet → List ActionSet → List ActionSet → Type 0
+IsUnionPut row more before after = row < length before → (set : ActionSet)
+    × (after ≡ slice_set before row set)
+    × ((d : ActionSet) → ArePlaces set (λ place. has_place (slice_index_or before row d) place
+    || has_place more place))
 
 -- the action of the unsound note, where the note is of the row
 abbrev pub unsound_at : ℕ → Option NotePlace → Option ℕ

@@ -6,11 +6,11 @@
 mod check_table;
 mod fault;
 mod fault_words;
-mod held_reasons;
 mod proved_costs;
 mod read_cert;
 mod row_lanes;
 mod row_notes;
+mod row_set;
 mod row_table;
 mod rows;
 mod set_actions;

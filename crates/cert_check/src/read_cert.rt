@@ -9,6 +9,7 @@ ghost use Rattle.plan_cert.specs.Cert.{CertData};
 ghost use Rattle.plan_cert.specs.PlanItem.{item_of};
 ghost use Rattle.plan_cert.specs.CertReading.{AnswersLeft, answers_left, is_last, with_item};
 ghost use Rattle.cert_check.specs.RowNotes.{IsTesting};
+ghost use Rattle.cert_check.specs.KnownNotes.{KnowsSound, KnowsSoundBut};
 ghost use Rattle.cert_check.specs.ReadCert.{ReadAnswer, HasParts, ItemAnswer, IsUnderway, IsFurther, IsKept, JobAnswer, behind};
 
 use crate::fault::CheckFault;
@@ -16,7 +17,7 @@ use crate::row_notes::RowNotes;
 use arrayvec::ArrayVec;
 use brake_base::{Step, Worth};
 use job_setup::Job;
-use plan_cert::{CertFault, CertReader, PlanItem, RowHead};
+use plan_cert::{CertFault, CertReader, NoteLines, PlanItem, RowHead};
 use std::alloc::{AllocError, Global};
 
 /// The job of a certificate, its claim, its steps and its rows, and what is kept of its notes.
@@ -36,6 +37,7 @@ pub(crate) fn read_cert(alloc: Global, text: &[u8]) -> Result<ReadCert, CheckFau
     let mut reader = CertReader::new(text);
     let job = first_job(&mut reader)?;
     let notes = RowNotes::open(alloc, &job)?;
+    let mut lines = NoteLines::new(job.stages());
     let mut read = ReadCert {
         job,
         claim: Worth::Blocked,
@@ -45,7 +47,7 @@ pub(crate) fn read_cert(alloc: Global, text: &[u8]) -> Result<ReadCert, CheckFau
     };
     let mut is_open = true;
     while is_open {
-        match take_items(&mut read, &mut reader) {
+        match take_items(&mut read, &mut reader, &mut lines) {
             Ok(more) => is_open = more,
             Err(fault) => return Err(fault),
         }
@@ -64,28 +66,63 @@ fn first_job(reader: &mut CertReader) -> Result<Job, CertFault>
     reader.read_job()
 }
 
-/// Reads on and keeps what the next item says. Whether another follows.
-fn take_items(read: &mut ReadCert, reader: &mut CertReader) -> Result<bool, CheckFault>
+/// Reads on and keeps what the next items say: known notes, as many as come, or else one item.
+/// Whether another follows.
+fn take_items<'a>(
+    read: &mut ReadCert,
+    reader: &mut CertReader<'a>,
+    lines: &mut NoteLines<'a>,
+) -> Result<bool, CheckFault>
     requires job { 0 < reader.old.answered }
     requires left { AnswersLeft reader.old }
     requires testing { IsTesting read.old.job read.old.notes }
+    requires lines { KnowsSound read.old.job read.old.notes lines.old }
     ensures job { read.new.job ≡ read.old.job }
     ensures testing { IfOk result (λ _. IsTesting read.new.job read.new.notes) }
+    ensures lines { IfOk result (λ _. KnowsSound read.new.job read.new.notes lines.new) }
     ensures reader { IsFurther reader.old reader.new }
     ensures item { (before : CertData) → HasParts read.old before → ItemAnswer result before
         read.old (answers_left reader.old) read.new (answers_left reader.new) }
 {
-    match reader.next_behind_job() {
-        Ok(item) => Ok(keep(read, item)?),
+    let known = reader.take_known(lines);
+    if known.is_empty() {
+        take_item(read, reader, lines)
+    } else {
+        read.notes.add_known(known);
+        Ok(true)
+    }
+}
+
+/// Reads on and keeps what the next item says. Whether another follows.
+fn take_item<'a>(
+    read: &mut ReadCert,
+    reader: &mut CertReader<'a>,
+    lines: &mut NoteLines<'a>,
+) -> Result<bool, CheckFault>
+    requires job { 0 < reader.old.answered }
+    requires left { AnswersLeft reader.old }
+    requires testing { IsTesting read.old.job read.old.notes }
+    requires lines { KnowsSound read.old.job read.old.notes lines.old }
+    ensures job { read.new.job ≡ read.old.job }
+    ensures testing { IfOk result (λ _. IsTesting read.new.job read.new.notes) }
+    ensures lines { IfOk result (λ _. KnowsSound read.new.job read.new.notes lines.new) }
+    ensures reader { IsFurther reader.old reader.new }
+    ensures item { (before : CertData) → HasParts read.old before → ItemAnswer result before
+        read.old (answers_left reader.old) read.new (answers_left reader.new) }
+{
+    match reader.next_kept(lines) {
+        Ok(item) => Ok(keep(read, lines, item)?),
         Err(fault) => Err(CheckFault::Cert(fault)),
     }
 }
 
 /// Keeps what an item says. Whether another item follows.
-fn keep(read: &mut ReadCert, item: PlanItem) -> Result<bool, AllocError>
+fn keep(read: &mut ReadCert, lines: &mut NoteLines, item: PlanItem) -> Result<bool, AllocError>
     requires testing { IsTesting read.old.job read.old.notes }
+    requires lines { KnowsSoundBut read.old.job read.old.notes (item_of item) lines.old }
     ensures job { read.new.job ≡ read.old.job }
     ensures testing { OnOk result (IsTesting read.new.job read.new.notes) }
+    ensures lines { OnOk result (KnowsSound read.new.job read.new.notes lines.new) }
     ensures more { IfOk result (λ more. more ≡ not (is_last (item_of item))) }
     ensures kept { OnOk result ((before : CertData) → HasParts read.old before
         → HasParts read.new (with_item before (item_of item))) }
@@ -102,7 +139,7 @@ fn keep(read: &mut ReadCert, item: PlanItem) -> Result<bool, AllocError>
             add_step(&mut read.steps, step);
             Ok(true)
         }
-        PlanItem::Row(row) => keep_row(read, row),
+        PlanItem::Row(row) => keep_row(read, lines, row),
         PlanItem::Note { action, reason } => {
             read.notes.add_note(&read.job, action, reason);
             Ok(true)
@@ -111,11 +148,13 @@ fn keep(read: &mut ReadCert, item: PlanItem) -> Result<bool, AllocError>
     }
 }
 
-/// Keeps a row. Another item follows.
-fn keep_row(read: &mut ReadCert, row: RowHead) -> Result<bool, AllocError>
+/// Keeps a row, and forgets the notes' lines where the row is of another set. Another item follows.
+fn keep_row(read: &mut ReadCert, lines: &mut NoteLines, row: RowHead) -> Result<bool, AllocError>
     requires testing { IsTesting read.old.job read.old.notes }
+    requires lines { KnowsSound read.old.job read.old.notes lines.old }
     ensures job { read.new.job ≡ read.old.job }
     ensures testing { OnOk result (IsTesting read.new.job read.new.notes) }
+    ensures lines { OnOk result (KnowsSound read.new.job read.new.notes lines.new) }
     ensures more { IfOk result (λ more. more ≡ true) }
     ensures kept { OnOk result ((before : CertData) → HasParts read.old before
         → HasParts read.new (with_item before (given.Row row))) }
@@ -124,6 +163,9 @@ fn keep_row(read: &mut ReadCert, row: RowHead) -> Result<bool, AllocError>
         → IsUnderway read.old.job cert (with_item before (given.Row row)) left read.new.notes) }
 {
     let mask = row.key.mask;
+    if mask != read.notes.folded.mask {
+        lines.forget();
+    }
     read.rows.push(row)?;
     read.notes.add_row(&read.job, mask)?;
     Ok(true)

@@ -1,13 +1,15 @@
 //! The notes of a certificate's rows: of each row the actions that are noted, and the first note
 //! whose reason doesn't hold. Each reason is tested where its note is read.
 ghost use Rattle.std.specs.Prelude.{◌≡◌, ◌-◌, ◌*◌, ◌<◌, ◌++◌, ◌∷◌, [], IfOk, IsTrue, OnOk, List, None, length};
-ghost use Rattle.job_setup.specs.Setup.{bend_count, stage_count};
+ghost use Rattle.job_setup.specs.Setup.{JobData, bend_count, stage_count};
+ghost use Rattle.handling_cost.specs.Plan.{IsReasonFor};
 ghost use Rattle.plan_cert.specs.declared.cert.RowHead.{RowHead};
 ghost use Rattle.plan_cert.specs.declared.cert.Note.{Note};
-ghost use Rattle.cert_check.specs.RowNotes.{AreNoted, HasNoNotes, IsActionPut, IsAtRow, IsFirstUnsound, IsTesting, last_note, note_at};
+ghost use Rattle.plan_cert.specs.Lines.{action_at};
+ghost use Rattle.cert_check.specs.RowNotes.{AreNoted, HasNoNotes, IsActionPut, IsAtRow, IsFirstUnsound, IsTesting, IsUnionPut, last_note, note_at};
 
 use crate::check_table::CheckTable;
-use crate::held_reasons::HeldReasons;
+use crate::row_set::RowSet;
 use crate::rows::{action_at, action_count};
 use brake_base::{Mask, Reason};
 use job_setup::Job;
@@ -27,8 +29,8 @@ pub(crate) struct NotePlace {
 pub(crate) struct RowNotes {
     /// What belongs to each set of folded bends.
     pub table: CheckTable,
-    /// Reasons that hold where the bends of the last row are folded.
-    pub reasons: HeldReasons,
+    /// The bends that are folded at the last row.
+    pub folded: RowSet,
     /// The noted actions of each row.
     pub sets: Vec<ActionSet>,
     /// The first note whose reason doesn't hold.
@@ -42,10 +44,10 @@ impl RowNotes {
         ensures none { IfOk result HasNoNotes }
     {
         let table = CheckTable::open(alloc, job)?;
-        let reasons = HeldReasons::of(job, table.facts(), Mask::empty());
+        let folded = RowSet::of(job, table.facts(), Mask::empty());
         Ok(RowNotes {
             table,
-            reasons,
+            folded,
             sets: Vec::new(alloc),
             unsound: None,
         })
@@ -62,7 +64,7 @@ impl RowNotes {
     pub fn add_row(&mut self, job: &Job, mask: Mask) -> Result<(), AllocError>
         requires testing { IsTesting job.now self.old }
         ensures testing { OnOk result (IsTesting job.now self.new) }
-        ensures mask { OnOk result (self.new.reasons.mask ≡ mask) }
+        ensures mask { OnOk result (self.new.folded.mask ≡ mask) }
         ensures sets { OnOk result ((rows : List RowHead) (head : RowHead) (notes : List Note)
             → AreNoted job.now rows notes self.old.sets.items
             → AreNoted job.now (rows ++ head ∷ []) notes self.new.sets.items) }
@@ -70,15 +72,15 @@ impl RowNotes {
     {
         job.recall_valid();
         self.sets.push(ActionSet::empty())?;
-        self.reasons.turn_to(job, self.table.facts(), mask);
+        self.folded.turn_to(job, self.table.facts(), mask);
         Ok(())
     }
 
-    /// A note more of the last row. One without a row, or of no action, is left out.
+    /// A note more of the last row. One without a row, or of no action, holds nowhere.
     pub fn add_note(&mut self, job: &Job, action: u8, reason: Reason)
         requires testing { IsTesting job.now self.old }
         ensures testing { IsTesting job.now self.new }
-        ensures mask { self.new.reasons.mask ≡ self.old.reasons.mask }
+        ensures mask { self.new.folded.mask ≡ self.old.folded.mask }
         ensures sets { (rows : List RowHead) (notes : List Note) → 0 < length rows
             → action < 2 * bend_count job.now * stage_count job.now
             → AreNoted job.now rows notes self.old.sets.items
@@ -86,16 +88,35 @@ impl RowNotes {
             self.new.sets.items }
         ensures unsound { (rows : List RowHead) (notes : List Note)
             → 0 < length self.old.sets.items
-            → IsAtRow job.now rows self.old.reasons.mask (last_note self.old action reason)
+            → IsAtRow job.now rows self.old.folded.mask (last_note self.old action reason)
             → IsFirstUnsound job.now rows notes self.old.unsound
             → IsFirstUnsound job.now rows (notes ++ last_note self.old action reason ∷ [])
             self.new.unsound }
+        ensures holds { self.new.unsound ≡ None → (self.old.unsound ≡ None)
+            × IsReasonFor job.now self.old.folded.mask (action_at (stage_count job.now) action)
+            reason }
     {
         job.recall_valid();
         if self.is_notable(job, action) {
             let row = self.last_row();
             put_action(job, self.sets.as_mut_slice(), row, action);
             self.test(job, row, action, reason);
+        } else {
+            self.unsound = Some(NotePlace { row: 0, action });
+        }
+    }
+
+    /// The notes of these actions more of the last row, of which the reasons are known to hold.
+    pub fn add_known(&mut self, known: ActionSet)
+        ensures testing { (job : JobData) → IsTesting job self.old → IsTesting job self.new }
+        ensures mask { self.new.folded.mask ≡ self.old.folded.mask }
+        ensures sets { IsUnionPut (length self.old.sets.items - 1) known self.old.sets.items
+            self.new.sets.items }
+        ensures unsound { self.new.unsound ≡ self.old.unsound }
+    {
+        if !self.sets.is_empty() {
+            let row = self.last_row();
+            put_union(self.sets.as_mut_slice(), row, known);
         }
     }
 
@@ -126,13 +147,16 @@ impl RowNotes {
         requires testing { IsTesting job.now self.old }
         requires action { action < 2 * bend_count job.now * stage_count job.now }
         ensures testing { IsTesting job.now self.new }
-        ensures mask { self.new.reasons.mask ≡ self.old.reasons.mask }
+        ensures mask { self.new.folded.mask ≡ self.old.folded.mask }
         ensures sets { self.new.sets.items ≡ self.old.sets.items }
         ensures unsound { (rows : List RowHead) (notes : List Note)
-            → IsAtRow job.now rows self.old.reasons.mask (note_at row action reason)
+            → IsAtRow job.now rows self.old.folded.mask (note_at row action reason)
             → IsFirstUnsound job.now rows notes self.old.unsound
             → IsFirstUnsound job.now rows (notes ++ note_at row action reason ∷ [])
             self.new.unsound }
+        ensures holds { self.new.unsound ≡ None → (self.old.unsound ≡ None)
+            × IsReasonFor job.now self.old.folded.mask (action_at (stage_count job.now) action)
+            reason }
     {
         match self.unsound {
             Some(_) => {}
@@ -146,15 +170,17 @@ impl RowNotes {
         requires action { action < 2 * bend_count job.now * stage_count job.now }
         requires none { self.old.unsound ≡ None }
         ensures testing { IsTesting job.now self.new }
-        ensures mask { self.new.reasons.mask ≡ self.old.reasons.mask }
+        ensures mask { self.new.folded.mask ≡ self.old.folded.mask }
         ensures sets { self.new.sets.items ≡ self.old.sets.items }
         ensures unsound { (rows : List RowHead) (notes : List Note)
-            → IsAtRow job.now rows self.old.reasons.mask (note_at row action reason)
+            → IsAtRow job.now rows self.old.folded.mask (note_at row action reason)
             → IsFirstUnsound job.now rows notes None
             → IsFirstUnsound job.now rows (notes ++ note_at row action reason ∷ [])
             self.new.unsound }
+        ensures holds { self.new.unsound ≡ None → IsReasonFor job.now self.old.folded.mask
+            (action_at (stage_count job.now) action) reason }
     {
-        if !self.reasons.holds(job, &mut self.table, action, reason) {
+        if !self.folded.holds(job, &mut self.table, action, reason) {
             self.unsound = Some(NotePlace { row, action });
         }
     }
@@ -170,4 +196,13 @@ fn put_action(job: &Job, sets: &mut [ActionSet], row: usize, number: u8)
     let action = action_at(job, number);
     let set = sets[row];
     sets[row] = set.with(action);
+}
+
+/// The actions of another set more in the set of a row.
+fn put_union(sets: &mut [ActionSet], row: usize, more: ActionSet)
+    requires { row < length sets.old }
+    ensures { IsUnionPut row more sets.old sets.new }
+{
+    let set = sets[row];
+    sets[row] = set.union(more);
 }

@@ -1,4 +1,4 @@
-use Rattle.std.proofs.Common.{List, ◌∷◌, Result, Ok, sym, subst}
+use Rattle.std.proofs.Common.{List, ◌∷◌, Result, Ok, ap, sym, subst}
 use Rattle.plan_cert.specs.declared.item.Item.{Item}
 use Rattle.plan_cert.specs.declared.item.PlanItem.{PlanItem}
 use Rattle.plan_cert.specs.declared.item.CertFault.{CertFault}
@@ -6,8 +6,10 @@ use Rattle.plan_cert.specs.PlanItem.{item_of}
 use Rattle.job_setup.specs.Setup.{JobData}
 use Rattle.plan_cert.specs.Cert.{CertData}
 use Rattle.cert_check.specs.declared.row_notes.RowNotes.{RowNotes}
+use Rattle.cert_check.specs.KnownNotes.{KnowsSoundBut}
 use Rattle.cert_check.specs.ReadCert.{IsUnderway, IsKept}
 use Rattle.cert_check.proofs.ReadLemmas.{underway_claim, underway_step, underway_note}
+use Rattle.cert_check.proofs.KnownLemmas.{is_note, learned_none, learned_note}
 use Rattle.cert_check.proofs.read_cert.keep.Goals as goal
 
 -- what an item keeps underway
@@ -35,3 +37,21 @@ pub returns-in-End-clause-notes : goal.returns-in-End-clause-notes
 returns-in-End-clause-notes c = λ cert before left.
     let read = c.args.read.now in
     subst (Goes read.job cert before left read.notes read.notes) (sym c.in-End.is) (λ under. under.kept)
+
+pub returns-in-Note-clause-lines : goal.returns-in-Note-clause-lines
+returns-in-Note-clause-lines c =
+    let read = c.args.read.now in
+    learned_note read.job read.notes c.add_note.new.self c.args.lines.now c.in-Note.action c.in-Note.reason
+    (subst (λ (item : PlanItem). KnowsSoundBut read.job read.notes (item_of item) c.args.lines.now) c.in-Note.is c.requires.lines) c.add_note.ensures.mask c.add_note.ensures.holds
+
+pub returns-in-Claim-clause-lines : goal.returns-in-Claim-clause-lines
+returns-in-Claim-clause-lines c = let read = c.args.read.now in learned_none read.job read.notes (item_of c.args.item) c.args.lines.now (ap (λ (item : PlanItem). is_note (item_of item)) c.in-Claim.is) c.requires.lines
+
+pub returns-in-Step-clause-lines : goal.returns-in-Step-clause-lines
+returns-in-Step-clause-lines c = let read = c.args.read.now in learned_none read.job read.notes (item_of c.args.item) c.args.lines.now (ap (λ (item : PlanItem). is_note (item_of item)) c.in-Step.is) c.requires.lines
+
+pub returns-in-End-clause-lines : goal.returns-in-End-clause-lines
+returns-in-End-clause-lines c = let read = c.args.read.now in learned_none read.job read.notes (item_of c.args.item) c.args.lines.now (ap (λ (item : PlanItem). is_note (item_of item)) c.in-End.is) c.requires.lines
+
+pub keep_row-requires-clause-lines : goal.keep_row-requires-clause-lines
+keep_row-requires-clause-lines c = let read = c.args.read.now in learned_none read.job read.notes (item_of c.args.item) c.args.lines.now (ap (λ (item : PlanItem). is_note (item_of item)) c.in-Row.is) c.requires.lines

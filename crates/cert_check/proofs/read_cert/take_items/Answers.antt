@@ -1,35 +1,48 @@
-use Rattle.std.proofs.Common.{Bool, List, Result, Ok, Err, not, sym, ◌∙◌, ap, subst}
+use Rattle.std.proofs.Common.{◌≡◌, ℕ, ◌++◌, ◌<◌, List, Result, length, drop, sym, ◌∙◌, ap, subst}
+use Rattle.stage_lanes.specs.ActionSets.{places_of}
 use Rattle.plan_cert.specs.declared.item.Item.{Item}
 use Rattle.plan_cert.specs.declared.item.CertFault.{CertFault}
 use Rattle.plan_cert.specs.Reading.{Reading}
-use Rattle.plan_cert.specs.PlanItem.{item_of}
-use Rattle.plan_cert.specs.CertReading.{answers_left, is_last, cert_of}
-use Rattle.cert_check.specs.ReadCert.{ItemAnswer, behind}
-use Rattle.cert_check.proofs.ItemLemmas.{left_on, of_fault, item_read, answer_behind, further_on}
+use Rattle.plan_cert.specs.Items.{items}
+use Rattle.plan_cert.specs.CertReading.{AnswersLeft, answers_left, cert_of}
+use Rattle.plan_cert.specs.NoteLines.{notes_told}
+use Rattle.cert_check.specs.ReadCert.{IsUnderway, ItemAnswer}
+use Rattle.cert_check.proofs.KnownLemmas.{known_read, known_behind, known_further, none_taken, some_places, underway_known, with_known}
 use Rattle.cert_check.proofs.read_cert.take_items.Goals as goal
 
-pub returns-in_ok-keep-in-Ok-clause-item : goal.returns-in_ok-keep-in-Ok-clause-item
-returns-in_ok-keep-in-Ok-clause-item c = λ before has.
+pub take_item-requires-clause-left : goal.take_item-requires-clause-left
+take_item-requires-clause-left c =
+    let took = c.take_known-known in
+    subst AnswersLeft (sym (none_taken c.args.reader.now took.new.self took.result (c.is_empty.ensures.0 c.if-is_empty.true) took.ensures.after)) c.requires.left
+
+pub returns-then-is_empty-clause-item : goal.returns-then-is_empty-clause-item
+returns-then-is_empty-clause-item c = λ before has.
+    let took = c.take_known-known in
+    subst (λ (q : Reading). ItemAnswer c.take_item.result before c.args.read.now (answers_left q) c.take_item.new.read (answers_left c.take_item.new.reader))
+    (none_taken c.args.reader.now took.new.self took.result (c.is_empty.ensures.0 c.if-is_empty.true) took.ensures.after) (c.take_item.ensures.item before has)
+
+pub returns-else-is_empty-clause-reader : goal.returns-else-is_empty-clause-reader
+returns-else-is_empty-clause-reader c =
+    let took = c.take_known-known in
+    let some = some_places took.result (λ none. let is = c.is_empty.ensures.1 none in let isnt = c.if-is_empty.false in cc) in
+    known_further c.args.reader.now took.new.self (length (places_of took.result)) some took.ensures.after
+
+pub returns-else-is_empty-clause-item : goal.returns-else-is_empty-clause-item
+returns-else-is_empty-clause-item c = λ before has.
+    let read = c.args.read.now in
     let r = c.args.reader.now in
-    let item = item_of c.in-Ok.item in
-    let old = c.args.read.now in
-    let read = c.keep.new.read in
-    subst (λ (more : Bool). ItemAnswer (Ok more) before old (answers_left r) read (answers_left c.next_behind_job.new.self)) (sym c.in_ok-keep-in-Ok.ensures.more)
-    (subst (λ (q : Reading). ItemAnswer (Ok (not (is_last item))) before old (answers_left r) read (answers_left q)) (sym c.next_behind_job.ensures.after)
-    (subst (λ (left : List (Result Item CertFault)). ItemAnswer (Ok (not (is_last item))) before old left read (answers_left (behind r))) (sym (left_on r (Ok item) c.in-Ok.ensures.given))
-    (item_read old read before item (answers_left (behind r)) (c.in_ok-keep-in-Ok.ensures.kept before has) (λ goes. answer_behind r item c.in-Ok.ensures.given goes)
-    (λ cert under. c.in_ok-keep-in-Ok.ensures.notes cert before (answers_left (behind r)) under))))
-
-pub returns-in-Err-clause-item : goal.returns-in-Err-clause-item
-returns-in-Err-clause-item c = λ before has.
-    let r = c.args.reader.now in
-    ap (cert_of before) (left_on r (Err c.in-Err.fault) c.in-Err.ensures.given) ∙ of_fault before (answers_left (behind r)) c.in-Err.fault
-
-pub returns-in_ok-keep-in-Ok-clause-reader : goal.returns-in_ok-keep-in-Ok-clause-reader
-returns-in_ok-keep-in-Ok-clause-reader c = further_on c.args.reader.now c.next_behind_job.new.self c.next_behind_job.ensures.after
-
-pub returns-in_err-keep-in-Ok-clause-reader : goal.returns-in_err-keep-in-Ok-clause-reader
-returns-in_err-keep-in-Ok-clause-reader c = further_on c.args.reader.now c.next_behind_job.new.self c.next_behind_job.ensures.after
-
-pub returns-in-Err-clause-reader : goal.returns-in-Err-clause-reader
-returns-in-Err-clause-reader c = further_on c.args.reader.now c.next_behind_job.new.self c.next_behind_job.ensures.after
+    let took = c.take_known-known in
+    let next = took.new.self in
+    let lines = c.args.lines.now in
+    let places = places_of took.result in
+    let some = some_places took.result (λ none. let is = c.is_empty.ensures.1 none in let isnt = c.if-is_empty.false in cc) in
+    let told : answers_left r ≡ notes_told lines took.result ++ answers_left next =
+    took.ensures.told ∙ ap (λ (q : Reading). notes_told lines took.result ++ drop q.answered (items r.kind r.text)) took.ensures.after ∙ ap (λ (q : Reading). notes_told lines took.result ++ answers_left q) (sym took.ensures.after) in (
+      with_known before lines places,
+      record { claim = has.claim; steps = has.steps; rows = has.rows },
+      ap (cert_of before) told ∙ known_read lines places before (answers_left next),
+      known_behind r next lines places some took.ensures.told took.ensures.after,
+      λ cert under.
+          underway_known read.job cert before (answers_left next) lines took.result read.notes c.add_known.new.self some (subst (λ (left : List (Result Item CertFault)). IsUnderway read.job cert before left read.notes) told under)
+          c.requires.lines took.ensures.reasons c.add_known.ensures.sets c.add_known.ensures.mask c.add_known.ensures.unsound,
+    )

@@ -26,7 +26,7 @@ returns-then-is_notable-clause-unsound c = λ rows notes some at first.
     let sets = c.args.self.now.sets.items in
     let row : c.last_row-row.result ≡ length sets - 1 = c.last_row-row.ensures in
     subst (λ (n : ℕ). IsFirstUnsound job rows (notes ++ note_at n c.args.action c.args.reason ∷ []) c.test.new.self.unsound) row
-    (c.test.ensures.unsound rows notes (subst (λ (n : ℕ). IsAtRow job rows c.args.self.now.reasons.mask (note_at n c.args.action c.args.reason)) (sym row) at) first)
+    (c.test.ensures.unsound rows notes (subst (λ (n : ℕ). IsAtRow job rows c.args.self.now.folded.mask (note_at n c.args.action c.args.reason)) (sym row) at) first)
 
 pub returns-else-is_notable-clause-sets : goal.returns-else-is_notable-clause-sets
 returns-else-is_notable-clause-sets c = λ rows notes some low are.

@@ -6,7 +6,7 @@ use Rattle.cert_check.proofs.row_notes.RowNotes.test_next.Goals as goal
 pub returns-then-not-holds-clause-unsound : goal.returns-then-not-holds-clause-unsound
 returns-then-not-holds-clause-unsound c = λ rows notes at sound.
     let job = c.args.job.now in
-    let mask = c.args.self.now.reasons.mask in
+    let mask = c.args.self.now.folded.mask in
     let note = note_at c.args.row c.args.action c.args.reason in
     unsound_more job rows notes mask c.args.row c.args.action c.args.reason at sound (λ holds.
     let yes = (c.holds.ensures.holds (mask_within job rows mask note at) (lead_at job rows mask note at)).1 holds in
@@ -16,7 +16,7 @@ returns-then-not-holds-clause-unsound c = λ rows notes at sound.
 pub returns-else-not-holds-clause-unsound : goal.returns-else-not-holds-clause-unsound
 returns-else-not-holds-clause-unsound c = λ rows notes at sound.
     let job = c.args.job.now in
-    let mask = c.args.self.now.reasons.mask in
+    let mask = c.args.self.now.folded.mask in
     let note = note_at c.args.row c.args.action c.args.reason in
     let holds = (c.holds.ensures.holds (mask_within job rows mask note at) (lead_at job rows mask note at)).0 c.if-not-holds.false in
     subst (IsFirstUnsound job rows _) (sym c.requires.none) (sound_more job rows notes mask c.args.row c.args.action c.args.reason at sound holds)

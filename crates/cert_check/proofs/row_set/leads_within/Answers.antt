@@ -1,6 +1,6 @@
 use Rattle.std.proofs.Common.{false, sym, ◌∙◌}
 use Rattle.cert_check.proofs.ActionLemmas.{leads_at}
-use Rattle.cert_check.proofs.held_reasons.leads_within.Goals as goal
+use Rattle.cert_check.proofs.row_set.leads_within.Goals as goal
 
 pub returns-then-is_within : goal.returns-then-is_within
 returns-then-is_within c =
