@@ -1,6 +1,6 @@
 -- From what the calls on tables say to what the commands answer.
-use Rattle.std.proofs.Common.{◌≡◌, ◌⊎◌, inl, inr, ℕ, List, [], ◌∷◌, ◌∙◌, Ok, Err, arith, sym, subst}
-use Rattle.std.specs.Prelude.{codes}
+use Rattle.std.proofs.Common.{◌≡◌, ◌⊎◌, inl, inr, ℕ, List, [], ◌∷◌, ◌∙◌, Result, Ok, Err, refl, sym, subst}
+use Rattle.std.specs.Prelude.{codes, IfOk, OnOk, OnErr}
 use Rattle.job_setup.specs.Setup.{JobData}
 use Rattle.plan_cert.specs.declared.item.CertFault.{CertFault}
 use Rattle.plan_cert.specs.declared.item.CertFault.TheVariants as cert
@@ -15,7 +15,13 @@ use Rattle.cert_merge.specs.SettledText.{IsSettledText}
 use Rattle.cert_merge.proofs.SettledLaws.{empty_closed}
 use Rattle.cert_merge.proofs.TableChecking.{closed_is_true}
 use Rattle.command_runner.specs.declared.status.Status.TheVariants as status
-use Rattle.command_runner.specs.Answers.{AnswerData, one_text, refusal}
+use Rattle.brake_io.specs.declared.shelf.StoreFault.{StoreFault}
+use Rattle.brake_io.specs.Meanings.{ShelfState}
+use Rattle.command_runner.specs.declared.answer.Answer.{Answer}
+use Rattle.command_runner.specs.Answers.{AnswerData, answer_data, one_text, one_stored, refusal, after_storing}
+use Rattle.command_runner.specs.Delivery.{AreStored, AreStoredUpTo}
+use Rattle.command_runner.specs.Ends.{StoresFirst, StoresBeginning}
+use Rattle.brake_cli.specs.PlanAnswer.{IsStoredOf}
 use Rattle.brake_cli.specs.declared.table_check.TableStop.{TableStop}
 use Rattle.brake_cli.specs.declared.table_check.TableStop.TheVariants as stop
 use Rattle.brake_cli.specs.TableCheck.{TableChecksTo, table_refused_line, AnswersTable}
@@ -97,11 +103,37 @@ settled_answers name low high base job settled answer base_closed is_settled for
 }
 
 -- the answer by what is settled over no base, of which the text is at hand
-pub settled_text_answers : (name : List ℕ) (low high : ℕ) (job : JobData) (told : SettledText) (answer : AnswerData) → IsSettledText job low high told → answer ≡ told_answer (record { name = name; text = told.text.items } ∷ []) told.rows told.at_start
+pub settled_text_answers : (name : List ℕ) (low high : ℕ) (job : JobData) (told : SettledText) (answer : AnswerData) → IsSettledText job low high told → answer ≡ told_answer (one_stored name told.text) told.rows told.at_start
     → IsSettledAnswer name low high empty_table job answer
 settled_text_answers name low high job told answer of is =
     settled_answers name low high empty_table job of.table answer (empty_closed job) of.settled of.form of.closed of.least
-    (is ∙ (λ i. told_answer (record { name = name; text = of.tells.text_is i } ∷ []) (of.tells.rows_are i) (of.tells.start_is i)))
+    (is ∙ (λ i. told_answer (one_stored name (of.tells.text_is i)) (of.tells.rows_are i) (of.tells.start_is i)))
+
+-- ---- an answer of which that text is stored, and the lines are left
+module _ (name : List ℕ) (low high : ℕ) (job : JobData) (told : SettledText) (of : IsSettledText job low high told) where
+  abbrev IsIt : AnswerData → Type 0
+  IsIt = IsSettledAnswer name low high empty_table job
+
+  whole : IsIt (told_answer (one_stored name told.text) told.rows told.at_start)
+  whole = settled_text_answers name low high job told (told_answer (one_stored name told.text) told.rows told.at_start) of refl
+
+  pub settled_first : (r : Result Answer StoreFault) (a b : ShelfState) → IfOk r (λ answer. answer_data answer ≡ told_answer [] told.rows told.at_start) → OnOk r (AreStored (one_stored name told.text) a b) → OnOk r (b.faults ≡ a.faults)
+      → IfOk r (λ answer. StoresFirst IsIt (answer_data answer) a b)
+  settled_first (Ok answer) a b is stored same = record {
+    first = one_stored name told.text;
+    are_stored = stored;
+    is_one = subst (λ (rest : AnswerData). IsIt (after_storing (one_stored name told.text) rest)) (sym is) whole;
+    faults = same;
+  }
+  settled_first (Err fault) a b is stored same = tt
+
+  begun_in_part : (a b : ShelfState) → (b ≡ a) ⊎ AreStoredUpTo (one_stored name told.text) a b → (b ≡ a) ⊎ StoresBeginning (IsStoredOf IsIt) a b
+  begun_in_part a b (inl same) = inl same
+  begun_in_part a b (inr part) = inr (record { stored = one_stored name told.text; is_beginning = (told_answer (one_stored name told.text) told.rows told.at_start, whole, refl); are_stored = inr part })
+
+  pub settled_begun : (r : Result Answer StoreFault) (a b : ShelfState) → OnErr r ((b ≡ a) ⊎ AreStoredUpTo (one_stored name told.text) a b) → OnErr r ((b ≡ a) ⊎ StoresBeginning (IsStoredOf IsIt) a b)
+  settled_begun (Ok answer) a b on = tt
+  settled_begun (Err fault) a b on = begun_in_part a b on
 
 -- the answer to a range of the job's sets
 pub range_answers : (low high : ℕ) (P : JobData → AnswerData → Type 0) (job : JobData) (answer : AnswerData) → IsRange low high job → P job answer → AnswersRange low high P job answer

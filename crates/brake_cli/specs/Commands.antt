@@ -69,13 +69,16 @@ meaning_of (Prove table) words contents answer = IsProveAnswer contents answer
 abbrev pub stores_in_turn : Command → Bool
 stores_in_turn (Plan part tools machine cert budget) = true
 stores_in_turn (Setups part tools machine setups cert) = true
+stores_in_turn (Settle part tools machine out low high None) = true
 stores_in_turn _ = false
 
 -- what each command may have stored while it has given no answer: nothing, but `plan` the certificate
--- of one of its answers, and `setups` those of the first setups
+-- of one of its answers, `setups` those of the first setups, and `settle` over no base its table
 abbrev pub begins_of : Command → Beginning
 begins_of (Plan part tools machine cert budget) words contents stored =
     IsStoredOf (IsPlanAnswer (word_at words cert) budget contents) stored
 begins_of (Setups part tools machine setups cert) words contents stored =
     IsSetupsBeginning (word_at words cert) contents stored
+begins_of (Settle part tools machine out low high None) words contents stored =
+    IsStoredOf (IsSettleAnswer (word_at words out) low high contents) stored
 begins_of _ words contents stored = ⊥

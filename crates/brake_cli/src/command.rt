@@ -120,13 +120,7 @@ impl Command {
             Command::Trial { n } => trial::answer(alloc, n),
             Command::Why { .. } => why::answer(alloc, contents),
             Command::Setups { .. } => unreachable!(),
-            Command::Settle {
-                out,
-                low,
-                high,
-                base: None,
-                ..
-            } => settle::answer(alloc, word_at(words, out), Range { low, high }, contents),
+            Command::Settle { base: None, .. } => unreachable!(),
             Command::Settle {
                 out,
                 low,
@@ -172,6 +166,16 @@ impl command_runner::Command for Command {
             }
             Command::Setups { cert, .. } => {
                 setups::answer(alloc, word_at(words, cert), contents, shelf)
+            }
+            Command::Settle {
+                out,
+                low,
+                high,
+                base: None,
+                ..
+            } => {
+                let range = Range { low, high };
+                settle::answer(alloc, word_at(words, out), range, contents, shelf)
             }
             _ => Ok(self.answer_at_once(alloc, words, contents)?),
         }

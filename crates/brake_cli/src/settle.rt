@@ -1,13 +1,17 @@
 //! What `settle` answers.
-ghost use Rattle.std.specs.Prelude.{◌≡◌, ◌↔◌, ◌+◌, ◌^◌, ◌<◌, ◌≤◌, [], codes, length, map, IfOk, IsTrue};
+ghost use Rattle.std.specs.Prelude.{◌≡◌, ◌⊎◌, ◌↔◌, ◌+◌, ◌^◌, ◌<◌, ◌≤◌, [], codes, length, map, IfOk, OnErr, IsErrOf, IsTrue};
 ghost use Rattle.std.specs.Vec.{vec_items};
 ghost use Rattle.job_setup.specs.Setup.{bend_count};
+ghost use Rattle.brake_io.specs.Rose.{Rose};
+ghost use Rattle.brake_io.specs.Meanings.{NoCountFalls};
 ghost use Rattle.cert_merge.specs.Table.{table_data, table_file_data, IsTable, IsClosedTable};
 ghost use Rattle.cert_merge.specs.TableTexts.{empty_table};
 ghost use Rattle.command_runner.specs.declared.status.Status.TheVariants as status;
 ghost use Rattle.command_runner.specs.Answers.{answer_data, refusal};
-ghost use Rattle.command_runner.specs.Fetching.{word_at};
+ghost use Rattle.command_runner.specs.Fetching.{HasDueCall};
 ghost use Rattle.command_runner.specs.Delivery.{IsCutShort};
+ghost use Rattle.command_runner.specs.Ends.{StoresFirst, StoresBeginning};
+ghost use Rattle.brake_cli.specs.PlanAnswer.{IsStoredOf};
 ghost use Rattle.brake_cli.specs.TableCheck.{AnswersTable};
 ghost use Rattle.brake_cli.specs.TableAnswer.{IsTrueTable};
 ghost use Rattle.brake_cli.specs.SettleAnswer.{IsRange, AnswersRange, IsSettledAnswer, AnswersBase, IsSettleAnswer, IsSettleOverAnswer};
@@ -16,6 +20,7 @@ use crate::job_files::{content_at, is_one_job, job_at};
 use crate::refusal::stopped;
 use crate::table_answer::{other_job, settled_text_answer, stored_table_answer};
 use crate::table_check::{checked_table, table_stopped};
+use brake_io::{Shelf, StoreFault};
 use cert_merge::{Table, TableFile, settle, settle_text};
 use command_runner::{Answer, Status, refusal};
 use job_setup::Job;
@@ -106,52 +111,89 @@ fn answer_over(
     }
 }
 
-/// The answer to a range of a job, over no base.
-fn answer_over_none(
+/// What is left of the answer to a range of a job, over no base, once the text of its table is stored.
+/// It is stored here, in pieces.
+fn answer_over_none<H: Shelf>(
     alloc: Global,
     name: &str,
     range: Range,
     job: &Job,
-) -> Result<Answer, AllocError>
+    shelf: &mut H,
+) -> Result<Answer, StoreFault>
     requires range { IsRange range.low range.high job.now }
-    ensures answer { IfOk result (λ answer. IsSettledAnswer name.now range.low range.high
-        empty_table job.now (answer_data answer)) }
+    ensures answer { IfOk result (λ answer.
+        StoresFirst (IsSettledAnswer name.now range.low range.high empty_table job.now)
+        (answer_data answer) (H.state shelf.old) (H.state shelf.new)) }
     ensures status { IfOk result (λ answer. ¬ IsCutShort answer.status) }
+    ensures begins { OnErr result ((H.state shelf.new ≡ H.state shelf.old) ⊎ StoresBeginning
+        (IsStoredOf (IsSettledAnswer name.now range.low range.high empty_table job.now))
+        (H.state shelf.old) (H.state shelf.new)) }
+    ensures never_falls { NoCountFalls (H.state shelf.old) (H.state shelf.new) }
+    ensures failed { IsErrOf result StoreFault.Failed →
+        Rose (H.state shelf.old).faults (H.state shelf.new).faults }
+    ensures cause { IsErrOf result StoreFault.Failed →
+        HasDueCall (H.state shelf.old) (H.state shelf.new) }
 {
     let settled = settle_text(alloc, job, range.low, range.high)?;
-    settled_text_answer(alloc, name, settled)
+    settled_text_answer(alloc, name, settled, shelf)
 }
 
 /// The answer to a job, over no base.
-fn answer_to_job(alloc: Global, name: &str, range: Range, job: &Job) -> Result<Answer, AllocError>
-    ensures answer { IfOk result (λ answer. AnswersRange range.low range.high
-        (IsSettledAnswer name.now range.low range.high empty_table) job.now
-        (answer_data answer)) }
+fn answer_to_job<H: Shelf>(
+    alloc: Global,
+    name: &str,
+    range: Range,
+    job: &Job,
+    shelf: &mut H,
+) -> Result<Answer, StoreFault>
+    ensures answer { IfOk result (λ answer. StoresFirst (AnswersRange range.low range.high
+        (IsSettledAnswer name.now range.low range.high empty_table) job.now)
+        (answer_data answer) (H.state shelf.old) (H.state shelf.new)) }
     ensures status { IfOk result (λ answer. ¬ IsCutShort answer.status) }
+    ensures begins { OnErr result ((H.state shelf.new ≡ H.state shelf.old) ⊎ StoresBeginning
+        (IsStoredOf (AnswersRange range.low range.high
+        (IsSettledAnswer name.now range.low range.high empty_table) job.now))
+        (H.state shelf.old) (H.state shelf.new)) }
+    ensures never_falls { NoCountFalls (H.state shelf.old) (H.state shelf.new) }
+    ensures failed { IsErrOf result StoreFault.Failed →
+        Rose (H.state shelf.old).faults (H.state shelf.new).faults }
+    ensures cause { IsErrOf result StoreFault.Failed →
+        HasDueCall (H.state shelf.old) (H.state shelf.new) }
 {
     job.recall_valid();
     if range.is_of(job) {
-        answer_over_none(alloc, name, range, job)
+        answer_over_none(alloc, name, range, job, shelf)
     } else {
-        range_refused(alloc)
+        Ok(range_refused(alloc)?)
     }
 }
 
-/// The answer to the contents of the part's file, the tools file and the machine file.
-pub fn answer(
+/// The answer to the contents of the part's file, the tools file and the machine file. The text of its
+/// table is stored here, in pieces; what is given back is left to put.
+pub fn answer<H: Shelf>(
     alloc: Global,
     name: &str,
     range: Range,
     contents: &[Vec<u8>],
-) -> Result<Answer, AllocError>
+    shelf: &mut H,
+) -> Result<Answer, StoreFault>
     requires { length contents.now ≡ 3 }
-    ensures answer { IfOk result (λ answer. IsSettleAnswer name.now range.low range.high
-        (map vec_items contents.now) (answer_data answer)) }
+    ensures answer { IfOk result (λ answer. StoresFirst
+        (IsSettleAnswer name.now range.low range.high (map vec_items contents.now))
+        (answer_data answer) (H.state shelf.old) (H.state shelf.new)) }
     ensures status { IfOk result (λ answer. ¬ IsCutShort answer.status) }
+    ensures begins { OnErr result ((H.state shelf.new ≡ H.state shelf.old) ⊎ StoresBeginning
+        (IsStoredOf (IsSettleAnswer name.now range.low range.high (map vec_items contents.now)))
+        (H.state shelf.old) (H.state shelf.new)) }
+    ensures never_falls { NoCountFalls (H.state shelf.old) (H.state shelf.new) }
+    ensures failed { IsErrOf result StoreFault.Failed →
+        Rose (H.state shelf.old).faults (H.state shelf.new).faults }
+    ensures cause { IsErrOf result StoreFault.Failed →
+        HasDueCall (H.state shelf.old) (H.state shelf.new) }
 {
     match job_at(alloc, contents, 0) {
-        Ok(job) => answer_to_job(alloc, name, range, &job),
-        Err(stop) => stopped(alloc, stop),
+        Ok(job) => answer_to_job(alloc, name, range, &job, shelf),
+        Err(stop) => Ok(stopped(alloc, stop)?),
     }
 }
 

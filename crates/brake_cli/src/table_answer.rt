@@ -1,17 +1,21 @@
 //! What is told of a table.
-ghost use Rattle.std.specs.Prelude.{◌≡◌, ◌<◌, ◌≤◌, ◌^◌, [], ◌∷◌, codes, map, IfOk};
+ghost use Rattle.std.specs.Prelude.{◌≡◌, ◌⊎◌, ◌<◌, ◌≤◌, ◌^◌, [], ◌∷◌, codes, map, IfOk, OnOk, OnErr, IsErrOf};
 ghost use Rattle.plan_cert.specs.WellFormed.{IsWorth};
 ghost use Rattle.cert_merge.specs.Table.{table_data, IsTable};
+ghost use Rattle.brake_io.specs.Rose.{Rose};
+ghost use Rattle.brake_io.specs.Meanings.{NoCountFalls};
 ghost use Rattle.command_runner.specs.declared.status.Status.TheVariants as status;
-ghost use Rattle.command_runner.specs.Answers.{answer_data, stored_data, refusal};
-ghost use Rattle.command_runner.specs.Delivery.{IsCutShort};
+ghost use Rattle.command_runner.specs.Answers.{answer_data, stored_data, one_stored, refusal};
+ghost use Rattle.command_runner.specs.Fetching.{HasDueCall};
+ghost use Rattle.command_runner.specs.Delivery.{IsCutShort, AreStored, AreStoredUpTo};
 ghost use Rattle.brake_cli.specs.TableAnswer.{rows_line, at_least_line, proved_line, told_answer, table_answer, stored_table_answer};
 
 use crate::plan::claim_status;
 use brake_base::Worth;
+use brake_io::{Shelf, StoreFault};
 use brake_text::put_word;
 use cert_merge::{SettledText, Table, proved_at_start, write_table};
-use command_runner::{Answer, Status, StoredText, refusal};
+use command_runner::{Answer, Status, StoredText, refusal, store_pieces};
 use job_setup::Job;
 use plan_cert::put_count;
 use std::alloc::{AllocError, Global};
@@ -123,21 +127,40 @@ pub fn stored_table_answer(
     table_answer(alloc, stored, job, table)
 }
 
-/// The same of a table that is given as its text, with what is told of it.
-pub fn settled_text_answer(
+/// What is left of the answer to a table that is given as its text, with what is told of it, once the
+/// text is stored under this name. The text is stored here, in pieces.
+pub fn settled_text_answer<H: Shelf>(
     alloc: Global,
     name: &str,
     settled: SettledText,
-) -> Result<Answer, AllocError>
+    shelf: &mut H,
+) -> Result<Answer, StoreFault>
     requires rows { settled.rows < 2 ^ 32 }
     requires worth { IsWorth settled.at_start }
     ensures answer { IfOk result (λ answer. answer_data answer
-        ≡ told_answer (record { name = name.now; text = settled.text.items } ∷ []) settled.rows
-        settled.at_start) }
+        ≡ told_answer [] settled.rows settled.at_start) }
     ensures status { IfOk result (λ answer. ¬ IsCutShort answer.status) }
+    ensures ok { OnOk result (AreStored (one_stored name.now settled.text)
+        (H.state shelf.old) (H.state shelf.new)) }
+    ensures err { OnErr result ((H.state shelf.new ≡ H.state shelf.old)
+        ⊎ AreStoredUpTo (one_stored name.now settled.text)
+        (H.state shelf.old) (H.state shelf.new)) }
+    ensures never_falls { NoCountFalls (H.state shelf.old) (H.state shelf.new) }
+    ensures faults { OnOk result ((H.state shelf.new).faults ≡ (H.state shelf.old).faults) }
+    ensures failed { IsErrOf result StoreFault.Failed →
+        Rose (H.state shelf.old).faults (H.state shelf.new).faults }
+    ensures cause { IsErrOf result StoreFault.Failed →
+        HasDueCall (H.state shelf.old) (H.state shelf.new) }
 {
-    let stored = one_stored(alloc, name, settled.text)?;
-    told_answer(alloc, stored, settled.rows as usize, settled.at_start)
+    let answer = told_answer(
+        alloc,
+        Vec::new(alloc),
+        settled.rows as usize,
+        settled.at_start,
+    )?;
+    let mut text = settled.text;
+    store_pieces(alloc, name, &mut text, shelf)?;
+    Ok(answer)
 }
 
 /// The answer that a table is of another job.

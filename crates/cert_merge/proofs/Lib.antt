@@ -27,3 +27,4 @@ pub mod Floors
 pub mod LaneWorths
 pub mod SetNotes
 pub mod PutRows
+pub mod PieceTexts

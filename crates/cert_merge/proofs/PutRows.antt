@@ -26,7 +26,8 @@ use Rattle.cert_merge.specs.TableTexts.{empty_table}
 use Rattle.cert_merge.specs.MergeSteps.{row_said, with_row, written}
 use Rattle.cert_merge.specs.Settling.{proved_over, said_by, said_in, AreSettled, AreSettledBy, HasSets, IsAmong, IsKeyAt, SaysSettled}
 use Rattle.cert_merge.specs.SetRows.{IsSetOf, row_of, rows_text, IsRowPut}
-use Rattle.cert_merge.specs.SettledText.{AreRowsPut, IsSettledText}
+use Rattle.cert_merge.specs.SettledPieces.{AreRowsPut, IsWholeText}
+use Rattle.cert_merge.specs.SettledText.{IsSettledText}
 use Rattle.cert_merge.proofs.SettledRows.{AreRowsBefore, in_range, range_among, none_before, row_on, none_on, notes_before, all_said}
 use Rattle.cert_merge.proofs.SettledTable.{settled_merge, agree}
 use Rattle.cert_merge.proofs.SettledLaws.{settled_closed, settled_least}
@@ -98,9 +99,10 @@ empty_is_table job valid = record {
   };
 }
 
-pub settled_text : (job : JobData) → IsJob job → (low high : ℕ) (settled : SettledSets) → HasSets low high settled → AreSettled job [] settled → (told : SettledText) (old new : List ℕ) → AreRowsPut job low high settled old new told.rows
-    → old ≡ codes "brake-table 1\n" ++ job_text job → told.text.items ≡ new ++ codes "end\n" → told.at_start ≡ proved_over job [] settled start → IsWorth told.at_start → IsSettledText job low high told
-settled_text job is_job low high settled has are told old new put begun ended proves small =
+pub settled_text : (job : JobData) → IsJob job → (low high : ℕ) (settled : SettledSets) → HasSets low high settled → AreSettled job [] settled → (told : SettledText)
+    → IsWholeText job low high settled told.text → told.rows ≡ (high + 1 - low) * (24 * stage_count job) → told.at_start ≡ proved_over job [] settled start → IsWorth told.at_start → IsSettledText job low high told
+settled_text job is_job low high settled has are told whole counted proves small =
+    let put = whole.1 in
     let table = put.table in
     let is_base = empty_is_table job is_job in
     let both = settled_merge job empty_table table table low high settled [] refl is_base has put.says are (λ key. refl) (λ j a b. b) in
@@ -108,8 +110,8 @@ settled_text job is_job low high settled has are told old new put begun ended pr
       table = table;
       small = small;
       tells = record {
-        text_is = table_written job table.rows table.notes (stage_count job) [] (codes "brake-table 1\n") old new told.text.items refl refl refl begun put.text ended;
-        rows_are = put.counted;
+        text_is = table_written job table.rows table.notes (stage_count job) [] (codes "brake-table 1\n") (codes "brake-table 1\n" ++ job_text job) whole.0 told.text refl refl refl refl put.text whole.2;
+        rows_are = counted ∙ put.counted;
         start_is = proves ∙ agree job empty_table table table low high settled is_base both.1 has put.says are (λ key. refl) start (start_in_range job is_job);
       };
       settled = both.0;

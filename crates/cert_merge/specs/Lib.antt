@@ -10,4 +10,5 @@ pub mod Settled
 pub mod Settling
 pub mod SetWorths
 pub mod SetRows
+pub mod SettledPieces
 pub mod SettledText

@@ -1,22 +1,19 @@
 -- The text of what is settled over no base, and what is told of it.
-use Rattle.std.specs.Prelude.{◌≡◌, ℕ, ◌+◌, ◌<◌, ◌^◌, List, ◌++◌, length}
-use Rattle.job_setup.specs.Setup.{JobData, stage_count}
+use Rattle.std.specs.Prelude.{◌≡◌, ℕ, length}
+use Rattle.job_setup.specs.Setup.{JobData}
 use Rattle.handling_cost.specs.Plan.{start}
 use Rattle.plan_cert.specs.CertText.{table_text}
 use Rattle.plan_cert.specs.WellFormed.{IsWorth}
-use Rattle.cert_merge.specs.declared.settled_sets.SettledSets.{SettledSets}
 use Rattle.cert_merge.specs.declared.settled_text.SettledText.{SettledText}
 use Rattle.cert_merge.specs.Table.{TableData, IsTable}
 use Rattle.cert_merge.specs.TableTexts.{empty_table}
 use Rattle.cert_merge.specs.TableChecks.{proved_by}
 use Rattle.cert_merge.specs.Settled.{IsSettled, IsOneSettled, StaysClosed, ProvesLeast}
-use Rattle.cert_merge.specs.Settling.{SaysSettled}
-use Rattle.cert_merge.specs.SetRows.{rows_text}
 
 -- the text of a table, with its number of rows and what they prove of the start, in tenths of a
 -- second
 pub record TellsTable (job : JobData) (t : TableData) (told : SettledText) : Type 0 where
-  pub text_is : told.text.items ≡ table_text job t.rows t.notes
+  pub text_is : told.text ≡ table_text job t.rows t.notes
   pub rows_are : told.rows ≡ length t.rows
   pub start_is : told.at_start ≡ proved_by job t.rows start
 
@@ -30,11 +27,3 @@ pub record IsSettledText (job : JobData) (low high : ℕ) (told : SettledText) :
   pub form : IsTable job table
   pub closed : StaysClosed job empty_table table
   pub least : ProvesLeast job empty_table low high table
-
--- a text goes on with the rows, so many, of a table that says what is settled
-pub record AreRowsPut (job : JobData) (low high : ℕ) (settled : SettledSets) (old new : List ℕ)
-    (count : ℕ) : Type 0 where
-  pub table : TableData
-  pub says : SaysSettled job low high settled table
-  pub counted : count ≡ length table.rows
-  pub text : new ≡ old ++ rows_text (stage_count job) table

@@ -1,6 +1,7 @@
 -- How the keys of a range are settled, set by set from the highest mask downwards. Worths are in
 -- tenths of a second.
-use Rattle.std.specs.Prelude.{◌≡◌, ℕ, ◌+◌, ◌-◌, ◌*◌, ◌<◌, ◌≤◌, nat_le, List, length, slice_get}
+use Rattle.std.specs.Prelude.{◌≡◌, ℕ, ◌+◌, ◌-◌, ◌*◌, ◌/◌, ◌%◌, ◌<◌, ◌≤◌, nat_le, List, length}
+use Rattle.std.specs.Prelude.{slice_get}
 use Rattle.std.specs.Prelude.{slice_index_or, Option, Some, None, option_map, if◌then◌else◌}
 use Rattle.brake_base.specs.declared.mask.Mask.{Mask}
 use Rattle.brake_base.specs.declared.stroke.Key.{Key}
@@ -124,6 +125,15 @@ pub record IsLeastAfter (job : JobData) (key : Key) (nexts : List (Option NextKe
   pub least : Worth
   pub is_least : IsLeastWorth (IsAfterOne job key nexts) least
   pub is : worth ≡ capped least
+
+-- the key of a number among all that a job can have; where the job has fewer stages it may be none
+-- of its keys
+abbrev pub key_of : ℕ → Key
+key_of place = record {
+  mask = record { 0 = place / 144 };
+  attitude = place / 6 % 24;
+  stage = place % 6;
+}
 
 -- the key of a number among all that a job can have; none where no key of the job has it
 abbrev pub IsKeyAt : JobData → ℕ → Option Key → Type 0

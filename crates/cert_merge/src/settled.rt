@@ -7,7 +7,7 @@ ghost use Rattle.plan_cert.specs.KeyPlaces.{key_count};
 ghost use Rattle.plan_cert.specs.WellFormed.{AreRowsOf};
 ghost use Rattle.cert_merge.specs.Table.{table_data, IsTable};
 ghost use Rattle.cert_merge.specs.Settled.{IsOneSettled, IsSettled, StaysClosed, ProvesLeast};
-ghost use Rattle.cert_merge.specs.Settling.{AreSettled, AreSettledBy, HasSets, IsKeyAt, SaysSettled};
+ghost use Rattle.cert_merge.specs.Settling.{AreSettled, AreSettledBy, HasSets, IsKeyAt, SaysSettled, key_of};
 
 use crate::merged::merge;
 use crate::noted_row::{no_table, put_row};
@@ -104,6 +104,18 @@ fn settled_rows(
         }
     }
     Ok(rows)
+}
+
+/// The key of a number: each mask has 144, by the attitude and then by the stage.
+pub(crate) fn key_of(place: usize) -> Key
+    requires { place < 2 ^ 20 }
+    ensures { result ≡ key_of place }
+{
+    Key {
+        mask: Mask((place / 144) as u16),
+        attitude: Turn::from_number((place / 6 % 24) as u8),
+        stage: (place % 6) as u8,
+    }
 }
 
 /// The key of a number: each mask has 144, by the attitude and then by the stage. None where the

@@ -11,7 +11,7 @@ pub returns-in-Settle-default-default-default-default-default-default-Some-claus
     goal.returns-in-Settle-default-default-default-default-default-default-Some-clause-answer
 returns-in-Settle-default-default-default-default-default-default-Some-clause-answer c =
     let at = c.in-Settle-default-default-default-default-default-default-Some in
-    let name = c.word_at-in-Settle-default-default-default-default-default-default-Some in
+    let name = c.word_at in
     let base : at.base ≡ Some at.base-0 = rw at.is at at.base-is in
     let is : c.args.self ≡ Settle at.part at.tools at.machine at.out at.low at.high (Some at.base-0) =
     at.is ∙ ap (λ (b : Option ℕ). Settle at.part at.tools at.machine at.out at.low at.high b) base in
