@@ -15,7 +15,7 @@ use Rattle.stage_lanes.specs.Lanes.{AreLanes, IsLeastLane}
 use Rattle.stage_lanes.specs.ActionSets.{has_place, place_of, ArePlaces, IsNone, IsFirst}
 use Rattle.action_lanes.specs.declared.costs.ActionCosts.{ActionCosts}
 use Rattle.action_lanes.specs.Costs.{cost_at, is_of, IsCheapest}
-use Rattle.action_lanes.specs.Cheapest.{IsLeastIn}
+use Rattle.action_lanes.specs.Cheapest.{IsLeastIn, AreCheapest}
 use Rattle.action_lanes.proofs.CostLemmas.{place_is}
 
 -- each lane is the cost of one of the set's actions, and the least of its stage at the sides before
@@ -95,7 +95,7 @@ both_true true true false e = absurd (true≢false (sym e))
 both_true true false c e = absurd (true≢false (sym e))
 both_true false b c e = absurd (true≢false (sym e))
 
--- the first of the set's actions that have the least cost
+-- the set's actions that have the least cost
 module _ (costs : ActionCosts) (set same both : ActionSet) (bends : Mask) (least : ℕ) (full : (bend : ℕ) → Masks.has bends bend ≡ (nat_le 1 bend && nat_le bend 12))
     (equal : ArePlaces same (λ place. is_of bends place && (cost_at costs place == least))) (common : ArePlaces both (λ place. has_place same place && has_place set place))
     (its : IsLeastIn costs set least) where
@@ -109,23 +109,49 @@ module _ (costs : ActionCosts) (set same both : ActionSet) (bends : Mask) (least
       let folds : is_of bends place ≡ true = full (place / 16 + 1) ∙ (λ i. le-leb 1 (place / 16 + 1) (omega arith) i && le-leb (place / 16 + 1) 12 (omega (arith, h)) i) in
       common place h ∙ (λ i. (equal place h ∙ (λ j. folds j && eq-eqb (cost_at costs place) least e j)) i && t i)
 
-  pub first_cheapest : (action : Action) → IsFirst both action → IsCheapest costs set action
-  first_cheapest action first =
-      let low = place_low action first.among in
-      let own = of_both (place_of action) low first.member in
-      record {
-        among = first.among;
-        member = own.1;
-        none_earlier = λ place h t earlier. elim earlier [
-          | inl less ↦ let l = its.least place h t in let e = own.0 in omega (arith, less, l, e)
-          | inr tie ↦ true≢false (sym (to_both place h t (tie.0 ∙ own.0)) ∙ first.none_before place tie.1)
+  -- they cost the least
+  pub are_cheapest : AreCheapest costs set both
+  are_cheapest = record {
+    among = λ place h t. (of_both place h t).1;
+    least = λ place other h o t u.
+        let own = (of_both place h t).0 in
+        let low = its.least other o u in
+        elim (cases_eq (cost_at costs other) least) [
+          | inl same ↦ inr (own ∙ sym same, to_both other o u same)
+          | inr apart ↦ inl (omega (arith, own, low, apart))
         ];
-      }
+  }
 
   pub none_cheapest : IsNone both → IsNone set
   none_cheapest none place h =
       let found = its.attained in
       absurd (true≢false (sym (to_both found.0 found.1 found.2 found.3) ∙ none found.0 found.1))
+
+-- the first of those that cost the least comes before all others by its cost
+pub first_cheapest : (costs : ActionCosts) (set part : ActionSet) → AreCheapest costs set part → (action : Action) → IsFirst part action → IsCheapest costs set action
+first_cheapest costs set part are action first =
+    let low = place_low action first.among in
+    record {
+      among = first.among;
+      member = are.among (place_of action) low first.member;
+      none_earlier = λ place h t earlier. elim (are.least (place_of action) place low h first.member t) [
+        | inl dearer ↦ elim earlier [
+          | inl less ↦ omega (arith, less, dearer)
+          | inr tie ↦ let e = tie.0 in omega (arith, e, dearer)
+        ]
+        | inr same ↦ elim earlier [
+          | inl less ↦ let e = same.0 in omega (arith, less, e)
+          | inr tie ↦ true≢false (sym same.1 ∙ first.none_before place tie.1)
+        ]
+      ];
+    }
+
+-- all of a set that has none
+pub none_are_cheapest : (costs : ActionCosts) (set : ActionSet) → IsNone set → AreCheapest costs set set
+none_are_cheapest costs set none = record {
+  among = λ place h t. t;
+  least = λ place other h o t u. absurd (true≢false (sym t ∙ none place h));
+}
 
 pub none_then : (action : Option Action) {P Q : Type 0} → (P → Q) → IfNone action P → IfNone action Q
 none_then None p h = p h

@@ -11,7 +11,7 @@ use Rattle.stage_lanes.specs.declared.actions.ActionSet.{ActionSet}
 use Rattle.stage_lanes.specs.ActionSets.{has_place, place_of, ArePlaces, IsNone, IsFirst}
 use Rattle.action_lanes.specs.declared.costs.ActionCosts.{ActionCosts}
 use Rattle.action_lanes.specs.Costs.{cost_at, is_of, IsLeastCost}
-use Rattle.action_lanes.specs.Tested.{IsTested}
+use Rattle.action_lanes.specs.Tested.{IsTested, AreTested}
 use Rattle.action_lanes.proofs.CostLemmas.{test_same, test_apart, yes, no}
 
 back_low : (back : Back) → back_number back < 2
@@ -37,12 +37,6 @@ equal_is m n e = elim (cases_eq m n) [
 either : (a b : Bool) → (a || b) ≡ true → (a ≡ true) ⊎ (b ≡ true)
 either true b e = inl refl
 either false b e = inr e
-
--- what is answered
-pub record AreTested (leads : Mask) (sums known : ActionCosts) (best : ℕ) (set : ActionSet) : Type 0 where
-  pub tested : (place : ℕ) → place < 192 → IsTrue (has_place set place) ↔ IsTested leads sums known place
-  pub rest : (place : ℕ) → place < 192 → IsTrue (is_of leads place) → has_place set place ≡ false → best ≤ cost_at sums place
-  pub most : (place : ℕ) → place < 192 → IsTrue (has_place set place) → cost_at sums place ≤ best
 
 module _ (leads : Mask) (sums known : ActionCosts) (best : ℕ)
     (bound : (place : ℕ) → place < 192 → IsTrue (is_of leads place) → cost_at sums place ≤ cost_at known place)

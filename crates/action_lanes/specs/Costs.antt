@@ -1,11 +1,13 @@
 -- A cost for each action, in tenths of a second.
-use Rattle.std.specs.Prelude.{◌≡◌, ◌⊎◌, ℕ, ◌+◌, ◌/◌, ◌%◌, ◌<◌, ◌≤◌, Bool, IsTrue, List, []}
-use Rattle.std.specs.Prelude.{slice_index, slice_index_or}
+use Rattle.std.specs.Prelude.{◌≡◌, ◌⊎◌, ℕ, ◌+◌, ◌*◌, ◌/◌, ◌%◌, ◌<◌, ◌≤◌, Bool, IsTrue, List, []}
+use Rattle.std.specs.Prelude.{slice_index, slice_index_or, map}
+use Rattle.std.specs.List.{range_with_len}
 use Rattle.brake_base.specs.declared.mask.Mask.{Mask}
 use Rattle.brake_base.specs.Masks.{has}
 use Rattle.brake_base.specs.declared.stroke.Action.{Action}
 use Rattle.brake_base.specs.Actions.{IsActionAmong}
 use Rattle.stage_lanes.specs.declared.actions.ActionSet.{ActionSet}
+use Rattle.stage_lanes.specs.declared.costs.StageCosts.{StageCosts}
 use Rattle.stage_lanes.specs.ActionSets.{has_place, place_of, has as has_action}
 use Rattle.action_lanes.specs.declared.costs.ActionCosts.{ActionCosts}
 
@@ -20,6 +22,17 @@ cost_at costs place = slice_index (lanes_at costs (place / 8)) (place % 8)
 -- each action has the cost of its place
 abbrev pub AreCosts : ActionCosts → (ℕ → ℕ) → Type 0
 AreCosts costs cost = (place : ℕ) → place < 192 → cost_at costs place ≡ cost place
+
+-- the sums of two costs at a side, by stage
+abbrev pub side_sums : ActionCosts → ActionCosts → ℕ → StageCosts
+side_sums one two side = record {
+  0 = map (λ stage. cost_at one (8 * side + stage) + cost_at two (8 * side + stage))
+      (range_with_len 0 8);
+}
+
+-- the sum of two costs of each action
+unfoldable pub sum_costs : ActionCosts → ActionCosts → ActionCosts
+sum_costs one two = record { 0 = map (side_sums one two) (range_with_len 0 24) }
 
 -- one place comes before another: by the cost, ties by number
 abbrev pub IsEarlier : ActionCosts → ℕ → ℕ → Type 0

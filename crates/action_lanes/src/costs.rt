@@ -4,8 +4,8 @@ ghost use Rattle.brake_base.specs.Actions.{IsActionAmong};
 ghost use Rattle.stage_lanes.specs.Lanes.{AreLanes};
 ghost use Rattle.stage_lanes.specs.Stages;
 ghost use Rattle.stage_lanes.specs.ActionSets.{side_of, place_of, has_place, has, ArePlaces, IsNone};
-ghost use Rattle.action_lanes.specs.Costs.{cost_at, AreCosts, is_of, IsLeastCost, IsCheapest};
-ghost use Rattle.action_lanes.specs.Cheapest.{IsLeastIn};
+ghost use Rattle.action_lanes.specs.Costs.{cost_at, sum_costs, AreCosts, is_of, IsLeastCost, IsCheapest};
+ghost use Rattle.action_lanes.specs.Cheapest.{IsLeastIn, AreCheapest};
 
 use brake_base::{Action, Back, Mask};
 use stage_lanes::{ActionSet, BLOCKED, StageCosts, StageSet};
@@ -81,6 +81,39 @@ impl ActionCosts {
         sums
     }
 
+    /// The least sum of both costs at the actions of these bends, [`BLOCKED`] where none is below that.
+    pub fn least_sum(&self, other: &ActionCosts, bends: Mask) -> u32
+        requires room { (place : ℕ) → place < 192 → IsTrue (is_of bends place)
+            → cost_at self.now place + cost_at other.now place < 2 ^ 32 }
+        ensures least { IsLeastCost (sum_costs self.now other.now) bends result }
+    {
+        let mut low = StageCosts::all(BLOCKED);
+        for side in 0..24u8 {
+            if bends.contains(side / 2 + 1) {
+                low = low.lesser(self.sums(other, side));
+            }
+        }
+        low.least()
+    }
+
+    /// The actions of these bends at which the sum of both costs is this one.
+    pub fn equal_sum(&self, other: &ActionCosts, bends: Mask, cost: u32) -> ActionSet
+        requires room { (place : ℕ) → place < 192 → IsTrue (is_of bends place)
+            → cost_at self.now place + cost_at other.now place < 2 ^ 32 }
+        ensures places { ArePlaces result (λ place. is_of bends place
+            && (cost_at (sum_costs self.now other.now) place == cost)) }
+    {
+        let mut set = ActionSet::empty();
+        for bend in 1..13u8 {
+            if bends.contains(bend) {
+                let parent = self.sums(other, side(bend, Back::Parent)).equal(cost);
+                let child = self.sums(other, side(bend, Back::Child)).equal(cost);
+                set = with_bend(set, bend, parent, child);
+            }
+        }
+        set
+    }
+
     /// The least cost of the actions of these bends, [`BLOCKED`] where none is below that.
     pub fn least(&self, bends: Mask) -> u32
         ensures least { IsLeastCost self.now bends result }
@@ -132,8 +165,21 @@ impl ActionCosts {
         ensures some { IfSome result (IsCheapest self.now set) }
         ensures none { IfNone result (IsNone set) }
     {
-        let least = self.least_in(set, set.first()?);
-        self.equal(Mask::full(12), least).intersection(set).first()
+        self.cheapest(set).first()
+    }
+
+    /// The actions of a set whose cost is the least. There are none only where the set is empty.
+    pub fn cheapest(&self, set: ActionSet) -> ActionSet
+        ensures cheapest { AreCheapest self.now set result }
+        ensures none { IsNone result → IsNone set }
+    {
+        match set.first() {
+            Some(one) => {
+                let least = self.least_in(set, one);
+                self.equal(Mask::full(12), least).intersection(set)
+            }
+            None => set,
+        }
     }
 
     /// The least cost of the set's actions, of which this is one.
@@ -160,6 +206,17 @@ impl ActionCosts {
         self.0[usize::from(side)]
     }
 
+    /// The sums of both costs at a side, by stage.
+    fn sums(&self, other: &ActionCosts, side: u8) -> StageCosts
+        requires side { side < 24 }
+        requires room { (stage : ℕ) → stage < 8
+            → cost_at self.now (8 * side + stage) + cost_at other.now (8 * side + stage) < 2 ^ 32 }
+        ensures lanes { AreLanes result.0
+            (λ stage. cost_at (sum_costs self.now other.now) (8 * side + stage)) }
+    {
+        self.lanes(side).plus(other.lanes(side))
+    }
+
     /// Sets the costs at a side, and leaves all else.
     fn set_lanes(&mut self, side: u8, costs: StageCosts)
         requires { side < 24 }
@@ -181,8 +238,31 @@ fn with_bend(set: ActionSet, bend: u8, parent: StageSet, child: StageSet) -> Act
     ensures rest { (place : ℕ) → place < 192 → place / 16 + 1 ≢ bend
         → has_place result place ≡ has_place set place }
 {
-    set.with_stages(bend, Back::Parent, parent)
-        .with_stages(bend, Back::Child, child)
+    let (word, own) = ((bend - 1) / 4, (bend - 1) % 4 + 1);
+    let both = ActionSet::empty()
+        .with_stages(own, Back::Parent, parent)
+        .with_stages(own, Back::Child, child);
+    set.union(in_word(both, word))
+}
+
+/// The actions of a set of the first four bends as those of the fours before which so many stand. The
+/// words of a set are moved here, since the compiler keeps in registers what isn't found by number.
+fn in_word(set: ActionSet, word: u8) -> ActionSet
+    requires word { word < 3 }
+    requires first { (place : ℕ) → place < 192 → 64 ≤ place → has_place set place ≡ false }
+    ensures places { ArePlaces result
+        (λ place. place / 64 == word && has_place set (place % 64)) }
+{
+    let [first, second, third] = set.words;
+    if word == 0 {
+        return set;
+    }
+    let words = if word == 1 {
+        [second, first, third]
+    } else {
+        [third, second, first]
+    };
+    ActionSet { words }
 }
 
 /// Where a bend with this side at the back stands among the 24.

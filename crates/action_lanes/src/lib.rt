@@ -8,4 +8,4 @@ mod tested;
 mod tests;
 
 pub use costs::ActionCosts;
-pub use tested::tested_actions;
+pub use tested::{tested_actions, tested_by};

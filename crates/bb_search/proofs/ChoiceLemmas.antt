@@ -1,6 +1,6 @@
 -- What a key's worth is by what is known, from the sums and the slacks by place.
-use Rattle.std.proofs.Common.{◌≡◌, inl, inr, ℕ, ◌+◌, ◌/◌, ◌%◌, ◌<◌, ◌≤◌, Bool}
-use Rattle.std.proofs.Common.{true, false, cond, arith, sym, ◌∙◌, ap, subst}
+use Rattle.std.proofs.Common.{◌≡◌, inl, inr, ℕ, ◌+◌, ◌/◌, ◌%◌, ◌^◌, ◌<◌, ◌≤◌}
+use Rattle.std.proofs.Common.{true, false, arith, sym, ◌∙◌, ap, subst}
 use Rattle.std.specs.Prelude.{◌↔◌, IsTrue}
 use Rattle.std.proofs.lemmas.Bool.{cases_lt}
 use Rattle.brake_base.specs.declared.mask.Mask.{Mask}
@@ -12,7 +12,7 @@ use Rattle.brake_base.specs.Masks.{has as has_bend}
 use Rattle.brake_base.specs.Actions.{back_number, number_of_action, IsActionAmong}
 use Rattle.stage_lanes.specs.ActionSets.{place_of, has_place}
 use Rattle.action_lanes.specs.declared.costs.ActionCosts.{ActionCosts}
-use Rattle.action_lanes.specs.Costs.{cost_at, AreCosts, is_of, IsLeastCost}
+use Rattle.action_lanes.specs.Costs.{cost_at, is_of, IsLeastCost}
 use Rattle.action_lanes.specs.Tested.{IsTested}
 use Rattle.job_setup.specs.Setup.{JobData, bend_count, stage_count}
 use Rattle.job_setup.specs.ValidJob.{IsJob}
@@ -23,7 +23,7 @@ use Rattle.row_pool.proofs.NumberLemmas.{action_at, action_among, number_is}
 use Rattle.bb_search.specs.declared.known.KnownActions.{KnownActions}
 use Rattle.bb_search.specs.declared.settle.Choice.{Choice}
 use Rattle.bb_search.specs.LaneSums.{AreSums}
-use Rattle.bb_search.specs.KnownActions.{slack_of, IsChoice}
+use Rattle.bb_search.specs.KnownActions.{slack_of, IsChoice, HasSmallSlack}
 use Rattle.bb_search.proofs.KnownLemmas.{among_lanes, place_in}
 
 back_low : (back : Back) → back_number back < 2
@@ -71,27 +71,13 @@ module _ (job : JobData) (is_job : IsJob job) (key : Key) (leads : Mask)
       )
 
   module _ (sums costs : ActionCosts) (at : KnownActions) (sums_are : AreSums job key leads sums)
-      (costs_are : AreCosts costs (λ place. cond (is_of leads place)
-      (cost_at sums place + cost_at at.slack place) 536870912)) where
-    -- the cost of a lead's place is its sum and its slack
-    cost_of_lead :
-        (place : ℕ) → place < 192 → is_of leads place ≡ true
-        → cost_at costs place ≡ cost_at sums place + cost_at at.slack place
-    cost_of_lead place within lead =
-        costs_are place within
-        ∙ ap (λ (b : Bool). cond b (cost_at sums place + cost_at at.slack place) 536870912) lead
-
-    -- no sum is above its cost
-    pub sums_below :
-        (place : ℕ) → place < 192 → IsTrue (is_of leads place)
-        → cost_at sums place ≤ cost_at costs place
-    sums_below place within lead = let cost = cost_of_lead place within lead in omega (arith, cost)
-
+      (cost_is : (place : ℕ) → place < 192
+      → cost_at costs place ≡ cost_at sums place + cost_at at.slack place) where
     cost_at_action :
         (action : Action) → IsActionAt job key action
         → cost_at costs (place_of action) ≡ sum_of job key action + slack_of at action
     cost_at_action action here =
-        cost_of_lead (place_of action) (place_in job is_job key action here) (of_lead action here)
+        cost_is (place_of action) (place_in job is_job key action here)
         ∙ ap (λ (n : ℕ). n + slack_of at action) (sums_are.each action here)
 
     -- a place whose sum leaves a way on is that of an action at the key
@@ -116,7 +102,7 @@ module _ (job : JobData) (is_job : IsJob job) (key : Key) (leads : Mask)
           → (action : Action) × IsActionAt job key action
           × (sum_of job key action + slack_of at action ≡ choice.best)
       attained_by_action place within lead is_best low =
-          let cost = cost_of_lead place within lead in
+          let cost = cost_is place within in
           let found = action_with place within lead (omega (arith, cost, is_best, low)) in (
             found.0,
             found.1,
@@ -146,3 +132,13 @@ module _ (job : JobData) (is_job : IsJob job) (key : Key) (leads : Mask)
             subst (λ (n : ℕ). choice.best ≤ n) (sums_are.each action here)
             (rest (place_of action) (place_in job is_job key action here) (of_lead action here) absent);
       }
+
+-- the sums and the slacks have room for their sums
+pub sums_fit :
+    (job : JobData) (key : Key) (leads : Mask) (sums : ActionCosts) (at : KnownActions)
+    → AreSums job key leads sums → HasSmallSlack at → (place : ℕ) → place < 192
+    → IsTrue (is_of leads place) → cost_at sums place + cost_at at.slack place < 2 ^ 32
+sums_fit job key leads sums at sums_are small place within lead =
+    let sum = sums_are.small place within in
+    let slack = small place within in
+    omega (arith, sum, slack)

@@ -13,20 +13,21 @@ use Rattle.stage_lanes.specs.ActionSets.{place_of, has, has_place, ArePlaces, Is
 use Rattle.job_setup.specs.Setup.{JobData, stage_count}
 use Rattle.job_setup.specs.ValidJob.{IsJob}
 use Rattle.handling_cost.specs.StepCost.{IsKeyOf, IsActionAt}
+use Rattle.handling_cost.specs.Reach.{IsNode}
 use Rattle.row_pool.specs.Rows.{Pool, PoolRow, keys, changed_at, with_row, with_worth, with_notes, new_row, noted_reasons, common_at, place_at, AreCommon}
 use Rattle.row_pool.proofs.PoolLemmas.{length-changed_at}
 use Rattle.row_pool.proofs.NumberLemmas.{action_at, action_among, number_is, place_of_number}
 use Rattle.bb_search.specs.declared.known.KnownActions.{KnownActions}
 use Rattle.bb_search.specs.declared.settle.Choice.{Choice}
 use Rattle.bb_search.specs.Table.{Extends}
-use Rattle.bb_search.specs.Settling.{IsKnownAfter}
+use Rattle.bb_search.specs.Settling.{IsSound, IsKnownAfter}
 use Rattle.bb_search.specs.KnownActions.{TableData, AreKnownAt, AreKnown, IsChoice, AreOpen, IsWorthOf}
-use Rattle.bb_search.specs.OpenRows.{IsSettlingAt}
+use Rattle.bb_search.specs.OpenRows.{IsSettlingAt, IsKnownSo}
 use Rattle.bb_search.proofs.RowLemmas.{push_kept}
 use Rattle.bb_search.proofs.TableLemmas.{settled_kept}
 use Rattle.bb_search.proofs.KnownLemmas.{place_small, at_set, among_lanes, place_in}
 use Rattle.bb_search.proofs.KnownTables.{known_moved}
-use Rattle.bb_search.proofs.OpenRowLemmas.{changed_twice, settling_done, extends_by}
+use Rattle.bb_search.proofs.OpenRowLemmas.{changed_twice, settling_starts, settling_done, extends_by}
 use Rattle.bb_search.proofs.SettledLemmas.{settled_is, source_is}
 use Rattle.bb_search.proofs.ExploreLemmas.{first_holds, second_holds, both_hold}
 
@@ -227,3 +228,48 @@ noted_within before now after number notes its longer is =
     let same = ap (λ (p : Pool). length p.rows) is in
     let counted : length (with_notes now number notes).rows ≡ length now.rows = length-changed_at number _ now.rows in
     omega (arith, same, counted, its, longer)
+
+-- a key whose tested actions are all known is settled at once
+module _ (job : JobData) (is_job : IsJob job) (before now : Pool) (key : Key) (table : TableData)
+    (found : KnownActions) (choice : Choice) (untested notes : ActionSet) (number : ℕ)
+    (added : now ≡ with_row before key) (its : number ≡ length before.rows)
+    (sound : IsSound job before.rows) (node : IsNode job key) (known : AreKnown job before table)
+    (here : slice_get table.known key.mask.0 ≡ Some found)
+    (chosen : IsKnownSo table key.mask (λ at. IsChoice table.job key at choice))
+    (untested_are : ArePlaces untested (λ place. has_place choice.tested place && not (has_place found.known place)))
+    (none : IsNone untested)
+    (notes_are : ArePlaces notes (λ place. has_place choice.tested place && has_place found.refused place)) where
+  chosen_here : IsChoice job key found choice
+  chosen_here = subst (λ (j : JobData). IsChoice j key found choice) known.its_job (chosen found here)
+
+  starts : IsSettlingAt job before now key found (new_row before.actions key)
+  starts = subst (λ (p : Pool). IsSettlingAt job before p key found (new_row before.actions key)) (sym added)
+      (settling_starts job before key found sound node)
+
+  known_now : AreKnown job now table
+  known_now = subst (λ (p : Pool). AreKnown job p table) (sym added) (known_started job before key table known)
+
+  all_here : (action : Action) → IsActionAt job key action → has choice.tested action ≡ true → has found.known action ≡ true
+  all_here = all_known job is_job key found choice chosen_here untested untested_are none
+
+  pub once_common :
+      (other : Key) → slice_get (keys now) number ≡ Some other
+      → AreCommon now.actions (common_at now other.mask) notes
+  once_common other stands =
+      let same = open_key job before now key found (new_row before.actions key) starts other
+      (subst (λ (n : ℕ). slice_get (keys now) n ≡ Some other) its stands) in
+      subst (λ (k : Key). AreCommon now.actions (common_at now k.mask) notes) (sym same)
+      (notes_common job is_job key found choice chosen_here now (known_now.each key.mask found here)
+      known_now.actions all_here notes notes_are)
+
+  pub once_within : (after : Pool) → after ≡ with_notes now number notes → number < length after.rows
+  once_within after is = noted_within before now after number notes its starts.longer is
+
+  pub once_ends :
+      IsKeyOf job key → (worth : Worth) → IsWorthOf choice.best worth → (mid after : Pool)
+      → mid ≡ with_notes now number notes → after ≡ with_worth mid number worth
+      → IsKnownAfter job before after key worth × AreKnown job after table
+  once_ends in_range worth worth_is mid after first second =
+      settling_ends_at job is_job before now found (new_row before.actions key) choice notes worth
+      key starts in_range table known_now here chosen_here all_here notes_are worth_is
+      number its mid after first second

@@ -15,6 +15,7 @@ use Rattle.stage_lanes.specs.declared.actions.ActionSet.{ActionSet}
 use Rattle.stage_lanes.specs.ActionSets.{place_of, has, has_place, ArePlaces, IsNone}
 use Rattle.action_lanes.specs.declared.costs.ActionCosts.{ActionCosts}
 use Rattle.action_lanes.specs.Costs.{cost_at, IsCheapest}
+use Rattle.action_lanes.specs.Cheapest.{AreCheapest}
 use Rattle.job_setup.specs.Setup.{JobData, bend_count}
 use Rattle.job_setup.specs.ValidJob.{IsJob}
 use Rattle.handling_cost.specs.StepCost.{IsActionAt}
@@ -188,6 +189,35 @@ module _ (job : JobData) (is_job : IsJob job) (key : Key) (action : Action)
             let was = least other at_other n low (omega (arith, under, below)) in
             omega (arith, was, same)
       ]
+
+-- an action is open no more: those that cost the least are still those that do, if there are any
+pub cheapest_later :
+    (costs : ActionCosts) (action : Action) (untested cheapest later rest : ActionSet)
+    → ArePlaces later (λ place. has_place untested place && not (place == place_of action))
+    → ArePlaces rest (λ place. has_place cheapest place && not (place == place_of action))
+    → AreCheapest costs untested cheapest → AreCheapest costs later rest
+cheapest_later costs action untested cheapest later rest later_are rest_are are = record {
+  among = λ place within member.
+      let both = sym (rest_are place within) ∙ member in
+      later_are place within
+      ∙ both_hold (has_place untested place) (not (place == place_of action))
+      (are.among place within (first_holds (has_place cheapest place) (not (place == place_of action)) both))
+      (second_holds (has_place cheapest place) (not (place == place_of action)) both);
+  least = λ place other within inside member its.
+      let both = sym (rest_are place within) ∙ member in
+      let was = sym (later_are other inside) ∙ its in
+      elim (are.least place other within inside
+      (first_holds (has_place cheapest place) (not (place == place_of action)) both)
+      (first_holds (has_place untested other) (not (other == place_of action)) was)) [
+        | inl less ↦ inl less
+        | inr same ↦ inr (
+          same.0,
+          rest_are other inside
+              ∙ both_hold (has_place cheapest other) (not (other == place_of action)) same.1
+              (second_holds (has_place untested other) (not (other == place_of action)) was),
+        )
+      ];
+}
 
 -- the slack that a table knows is small
 pub slack_small :

@@ -1,11 +1,10 @@
 //! What is known of the actions at a set of folded bends.
-ghost use Rattle.std.specs.Prelude.{◌≡◌, ℕ, ◌+◌, ◌<◌, ◌≤◌, false, if◌then◌else◌};
+ghost use Rattle.std.specs.Prelude.{◌≡◌, false};
 ghost use Rattle.brake_base.specs.Actions.{IsActionAmong};
-ghost use Rattle.action_lanes.specs.Costs.{cost_at, is_of, AreCosts};
-ghost use Rattle.bb_search.specs.KnownActions.{KnowsNothing, HasSmallSlack, IsRefusal, IsLearnt};
+ghost use Rattle.bb_search.specs.KnownActions.{KnowsNothing, IsRefusal, IsLearnt};
 
 use action_lanes::ActionCosts;
-use brake_base::{Action, Mask};
+use brake_base::Action;
 use stage_lanes::{ActionSet, BLOCKED};
 
 /// What is known of the actions at a set of folded bends. It grows: what is known of an action
@@ -50,16 +49,5 @@ impl KnownActions {
     {
         self.known = self.known.with(action);
         self.slack.set_cost(action, slack);
-    }
-
-    /// What a plan by each action of the leads costs at least, by what is known: the action's sum and
-    /// its slack.
-    pub fn weigh(&self, sums: &ActionCosts, leads: Mask) -> ActionCosts
-        requires sums { (place : ℕ) → place < 192 → cost_at sums.now place ≤ 1600000000 }
-        requires slack { HasSmallSlack self.now }
-        ensures costs { AreCosts result (λ place. if is_of leads place
-            then cost_at sums.now place + cost_at self.now.slack place else 536870912) }
-    {
-        sums.plus(&self.slack, leads)
     }
 }

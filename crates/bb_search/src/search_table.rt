@@ -12,6 +12,7 @@ ghost use Rattle.set_facts.specs.Facts.{AreLeads, HasNoneBeyond};
 ghost use Rattle.set_facts.specs.LaneFacts.{HasWays};
 ghost use Rattle.job_setup.specs.StrokeGroup.{is_lead};
 ghost use Rattle.bb_search.specs.KnownActions.{TableData, AreKnown, IsRefusal, IsLearnt, IsChangedAt};
+ghost use Rattle.action_lanes.specs.Costs.{AreCosts};
 ghost use Rattle.bb_search.specs.LaneSums.{AreSums, AreBendSums, AreStillSums, AreSideSums};
 ghost use Rattle.brake_base.specs.Actions.{IsActionAmong};
 
@@ -22,7 +23,7 @@ use bend_state::BendState;
 use brake_base::{Action, Back, Gauge, Key, Mask, Reason, Turn};
 use job_setup::{Job, group};
 use set_facts::{FactTable, LaneFacts, SetFacts};
-use stage_lanes::{ActionSet, BLOCKED, StageCosts};
+use stage_lanes::StageCosts;
 use std::alloc::{AllocError, Global};
 use std::marker::Model;
 use stroke_table::{StageStroke, StrokeTable};
@@ -125,23 +126,22 @@ impl SearchTable {
         self.lanes.bounds(key.mask).cost(key.stage)
     }
 
-    /// The sum of each action at a key, in tenths of a second; at the other stages of its leads
-    /// [`BLOCKED`] or more.
-    pub fn sums(&self, job: &Job, key: &Key, leads: Mask) -> ActionCosts
+    /// Puts the sum of each action at a key into costs that have no way on, in tenths of a second. At
+    /// the other stages of the key's leads there is no way on then either.
+    pub fn put_all_sums(&self, job: &Job, key: &Key, leads: Mask, sums: &mut ActionCosts)
         requires valid { IsJob job.now }
         requires job { job.now ≡ self.now.job }
         requires key { IsKeyOf job.now key.now }
         requires leads { AreLeads job.now key.now.mask leads }
-        ensures { AreSums job.now key.now leads result }
+        requires blocked { AreCosts sums.old (λ place. 536870912) }
+        ensures { AreSums job.now key.now leads sums.new }
     {
         let ways = self.lanes.ways(key.mask, key.stage);
-        let mut sums = ActionCosts::all(BLOCKED);
         for bend in 1..job.bends() + 1 {
             if leads.contains(bend) {
-                self.put_sums(job, key, bend, ways, &mut sums);
+                self.put_sums(job, key, bend, ways, sums);
             }
         }
-        sums
     }
 
     /// Puts the sums of a lead's actions at their places, by the ways to the stages.

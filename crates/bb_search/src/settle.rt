@@ -4,6 +4,7 @@ ghost use Rattle.brake_base.specs.Masks.{union};
 ghost use Rattle.fold_boxes.specs.Pose.{IsGroup};
 ghost use Rattle.stage_lanes.specs.ActionSets.{place_of, has, IsNone};
 ghost use Rattle.action_lanes.specs.Costs.{cost_at, IsCheapest};
+ghost use Rattle.action_lanes.specs.Cheapest.{AreCheapest};
 ghost use Rattle.brake_base.specs.Worths.{IsAtMost};
 ghost use Rattle.job_setup.specs.Setup.{shape_of, stage_count};
 ghost use Rattle.job_setup.specs.ValidJob.{IsJob};
@@ -12,13 +13,13 @@ ghost use Rattle.row_pool.specs.Rows.{Pool, keys};
 ghost use Rattle.handling_cost.specs.StepCost.{IsKeyOf, IsActionAt, IsFull, left};
 ghost use Rattle.handling_cost.specs.Bound.{bound_of, sum_of};
 ghost use Rattle.handling_cost.specs.Reach.{IsNode};
-ghost use Rattle.bb_search.specs.Settling.{IsSound, OpenAbove, IsSpent, IsFound};
+ghost use Rattle.bb_search.specs.Settling.{IsSound, OpenAbove, IsSpent, IsFound, IsKnownAfter};
 ghost use Rattle.bb_search.specs.KnownActions.{AreKnown, IsChoice, IsFloor, AreOpen, IsToldOf, IsSlack, HasLeast, HasSmallSlack, HasNoneBelow, IsWorthOf, slack_of};
 ghost use Rattle.bb_search.specs.LaneSums.{AreSums};
 ghost use Rattle.bb_search.specs.OpenRows.{IsSettlingBy, IsOpenFor, IsKnownSo, HasChanged, IsSameAbove, unknown_count};
 
 use crate::search_table::{SearchTable, Tested};
-use action_lanes::{ActionCosts, tested_actions};
+use action_lanes::{ActionCosts, tested_by};
 use bend_state::BendState;
 use brake_base::{Action, Key, Mask, Place, Turn, Worth, action_number};
 use handling_cost::is_full;
@@ -72,6 +73,9 @@ fn worth_of(
     if let Some(row) = pool.find(*next) {
         return pool.worth(row);
     }
+    if let Some(worth) = settle_known(job, pool, table, next) {
+        return Some(worth);
+    }
     state.fold(trail, group);
     let worth = settle(job, pool, table, state, trail, next);
     state.undo(trail);
@@ -107,7 +111,8 @@ pub(crate) fn settle(
 {
     let row = pool.add(*key)?;
     let leads = table.leads(key.mask);
-    let sums = table.sums(job, key, leads);
+    let mut sums = ActionCosts::all(BLOCKED);
+    table.put_all_sums(job, key, leads, &mut sums);
     let mut choice = choose(table, key, leads, &sums);
     let mut untested = choice.tested.without(table.known(key.mask).known);
     while !untested.is_empty() {
@@ -133,6 +138,35 @@ pub(crate) fn settle(
     Some(worth)
 }
 
+/// Settles a key that has no row by what is known, where that is enough: then none of its actions
+/// has to be tested. None where it isn't, or all rows are used.
+fn settle_known(job: &Job, pool: &mut RowPool, table: &SearchTable, key: &Key) -> Option<Worth>
+    requires job { IsJob job.now }
+    requires known { AreKnown job.now pool.old table.now }
+    requires sound { IsSound job.now pool.old.rows }
+    requires range { IsKeyOf job.now key.now }
+    requires node { IsNode job.now key.now }
+    requires new_key { Contains (keys pool.old) key.now → ⊥ }
+    ensures found { IfSome result (IsKnownAfter job.now pool.old pool.new key.now) }
+    ensures known { IfSome result (λ _. AreKnown job.now pool.new table.now) }
+    ensures same { IfNone result (pool.new ≡ pool.old) }
+{
+    let leads = table.leads(key.mask);
+    let mut sums = ActionCosts::all(BLOCKED);
+    table.put_all_sums(job, key, leads, &mut sums);
+    let choice = choose(table, key, leads, &sums);
+    let known = table.known(key.mask);
+    if !choice.tested.without(known.known).is_empty() {
+        return None;
+    }
+    let notes = choice.tested.intersection(known.refused);
+    let row = pool.add(*key)?;
+    pool.set_notes(row, notes);
+    let worth = worth_from(choice.best);
+    pool.set_worth(row, worth);
+    Some(worth)
+}
+
 /// What a key's worth is by what is known, and which of its actions have to be tested.
 fn choose(table: &SearchTable, key: &Key, leads: Mask, sums: &ActionCosts) -> Choice
     requires valid { IsJob table.now.job }
@@ -144,9 +178,9 @@ fn choose(table: &SearchTable, key: &Key, leads: Mask, sums: &ActionCosts) -> Ch
     requires small { IsKnownSo table.now key.now.mask HasSmallSlack }
     ensures { IsKnownSo table.now key.now.mask (λ at. IsChoice table.now.job key.now at result) }
 {
-    let costs = table.known(key.mask).weigh(sums, leads);
-    let best = costs.least(leads);
-    let tested = tested_actions(sums, &costs, leads, best);
+    let slack = &table.known(key.mask).slack;
+    let best = sums.least_sum(slack, leads);
+    let tested = tested_by(sums, slack, leads, best);
     Choice { best, tested }
 }
 
@@ -202,22 +236,35 @@ fn explore(
     ensures trail { trail.new ≡ trail.old }
 {
     let mut untested = untested;
+    let mut cheapest = ActionSet::empty();
     let mut limit = best + 1;
-    while let Some(action) = next_open(sums, untested, limit) {
+    while let Some(action) = next_open(sums, untested, &mut cheapest, limit) {
         let slack = try_action(job, pool, table, state, trail, key, action)?;
         limit = limit.min(sums.cost(action) + slack);
         untested = untested.except(action);
+        cheapest = cheapest.except(action);
     }
     Some(())
 }
 
-/// The first of some actions by their sums, if its sum is below the limit.
-fn next_open(sums: &ActionCosts, untested: ActionSet, limit: u32) -> Option<Action>
+/// The first of some actions by their sums, if its sum is below the limit. The cheapest of them are
+/// kept until each was the first, so that the sums are gone through once for all of these.
+fn next_open(
+    sums: &ActionCosts,
+    untested: ActionSet,
+    cheapest: &mut ActionSet,
+    limit: u32,
+) -> Option<Action>
+    requires cheapest { AreCheapest sums.now untested cheapest.old }
+    ensures cheapest { AreCheapest sums.now untested cheapest.new }
     ensures some { IfSome result (IsCheapest sums.now untested) }
     ensures below { IfSome result (λ action. cost_at sums.now (place_of action) < limit) }
     ensures none { IfNone result (HasNoneBelow sums.now untested limit) }
 {
-    let action = sums.first_of(untested)?;
+    if cheapest.is_empty() {
+        *cheapest = sums.cheapest(untested);
+    }
+    let action = cheapest.first()?;
     if sums.cost(action) < limit {
         Some(action)
     } else {

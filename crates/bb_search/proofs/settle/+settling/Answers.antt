@@ -1,12 +1,12 @@
 use Rattle.std.proofs.Common.{◌≡◌, inl, inr, ◌<◌, ◌*◌, ◌≤◌, ℕ, length, Some, arith, refl, sym, ◌∙◌, ap, subst}
-use Rattle.std.specs.Prelude.{slice_get}
+use Rattle.std.specs.Prelude.{slice_get, Contains}
 use Rattle.brake_base.specs.declared.space.Place.{Place}
 use Rattle.brake_base.specs.declared.stroke.Key.{Key}
 use Rattle.undo_region.specs.Room.{ListWithRoom}
 use Rattle.bend_state.specs.State.{StateData}
 use Rattle.job_setup.specs.Setup.{JobData}
 use Rattle.handling_cost.specs.StepCost.{left, IsKeyOf, IsFull}
-use Rattle.row_pool.specs.Rows.{new_row, keys, common_at, AreCommon}
+use Rattle.row_pool.specs.Rows.{Pool, new_row, keys, common_at, AreCommon}
 use Rattle.bb_search.specs.KnownActions.{IsChoice, TableData, AreKnown, IsRefusal, IsChangedAt}
 use Rattle.bb_search.proofs.OpenRowLemmas.{settling_starts}
 use Rattle.bb_search.proofs.CallLemmas.{spent_here, next_is, node_after}
@@ -19,9 +19,9 @@ use Rattle.handling_cost.proofs.ActionGroups.{action_groups}
 use Rattle.handling_cost.specs.Reach.{IsNode}
 use Rattle.handling_cost.proofs.Actions.{few_bends, fewer_left}
 use Rattle.handling_cost.proofs.Keys.{next_in_range}
-use Rattle.bb_search.specs.Settling.{OpenAbove}
+use Rattle.bb_search.specs.Settling.{IsSound, OpenAbove}
 use Rattle.bb_search.specs.OpenRows.{IsSameAbove}
-use Rattle.bb_search.proofs.ExploreLemmas.{cheapest_at, cheapest_unknown, cheapest_floor, later_gone, later_kept, open_later, least_later, slack_small, spent_since, fewer_since}
+use Rattle.bb_search.proofs.ExploreLemmas.{cheapest_later, cheapest_at, cheapest_unknown, cheapest_floor, later_gone, later_kept, open_later, least_later, slack_small, spent_since, fewer_since}
 use Rattle.bb_search.proofs.Measures.{fewer_places}
 use Rattle.stage_lanes.specs.ActionSets.{place_of}
 use Rattle.bb_search.proofs.FoldLemmas.{room_left}
@@ -91,7 +91,7 @@ settle-explore-requires t c =
                     (
                       subst (λ (r : ListWithRoom Place). 13 * left job key ≤ r.room) (sym invariant.trail) c.requires.room,
                       (
-                        c.sums-sums.ensures,
+                        c.put_all_sums.ensures,
                         (
                           (invariant.choice at here).capped,
                           (
@@ -320,6 +320,7 @@ explore-loop-action-preserved t c =
           (omega (arith, lower)) (omega (arith, lower, cost)) (invariant.least here.0 here.1);
       waiting = λ k is.
           open_later job is_job key action at here.0 k (c.in_ok-slack.ensures.told here.0 k here.1 is) best untested later later_are (invariant.waiting here.0 here.1);
+      cheapest = cheapest_later sums action untested c.next_open.new.cheapest later c.except-cheapest.result later_are c.except-cheapest.ensures.places c.next_open.ensures.cheapest;
       settling = λ before start. c.in_ok-slack.ensures.found before (invariant.settling before start);
       known = c.in_ok-slack.ensures.known;
       fewer = inr (fewer_since job is_job pool c.args.table.now table c.try_action.new.table key c.requires.range.mask invariant.known action cheapest.among
@@ -546,23 +547,24 @@ worth_of-settle-worth-requires t c =
     let job = c.args.job.now in
     let next = c.args.next.now in
     let state = c.args.state.now in
+    let same : c.settle_known.new.pool ≡ c.args.pool.now = c.in_default-settle_known.ensures.same in
     let faces = ap (λ (s : ShapeData). length s.part.faces) c.requires.shape in
     let few : length state.shape.part.faces ≤ 13 = omega (arith, faces, c.requires.job.part.few_faces) in (
       omega (arith, c.decreases),
       (
         c.requires.job,
         (
-          c.requires.known,
+          subst (λ (p : Pool). AreKnown job p c.args.table.now) (sym same) c.requires.known,
           (
-            c.requires.sound,
+            subst (λ (p : Pool). IsSound job p.rows) (sym same) c.requires.sound,
             (
               c.requires.range,
               (
                 c.requires.node (λ full. let yes = c.if-is_full.ensures.1 full in let no = c.if-is_full.false in cc),
                 (
-                  c.requires.open,
+                  subst (λ (p : Pool). OpenAbove job p.rows (left job next)) (sym same) c.requires.open,
                   (
-                    c.in_default.ensures.row,
+                    subst (λ (p : Pool). Contains (keys p) next → ⊥) (sym same) c.in_default.ensures.row,
                     (
                       c.fold.ensures.shape ∙ c.requires.shape,
                       (

@@ -1,7 +1,7 @@
 use Rattle.std.proofs.Common.{◌∙◌, sym, arith}
 use Rattle.bb_search.proofs.BendSumLemmas.{bend_summed, bend_skipped}
-use Rattle.bb_search.proofs.search_table.SearchTable.sums.Goals as goal
-use Rattle.bb_search.proofs.search_table.SearchTable.sums.Goals.{then-contains, else-contains}
+use Rattle.bb_search.proofs.search_table.SearchTable.put_all_sums.Goals as goal
+use Rattle.bb_search.proofs.search_table.SearchTable.put_all_sums.Goals.{then-contains, else-contains}
 
 pub loop-bend-preserved : goal.loop-bend-preserved
 loop-bend-preserved c =
