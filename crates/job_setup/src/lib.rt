@@ -24,7 +24,7 @@ pub use obstacle::{
 };
 pub use places::check_places;
 pub use setup::{Setup, Stage};
-pub use stage_reasons::{is_overloaded_at, is_uncovered_at, lacks_rest_at};
+pub use stage_reasons::{is_overloaded_at, is_uncovered_at, lacks_rest_at, lines_total};
 pub use stages::stages_of;
 pub use strokes::{group, meets_at};
 pub use valid::job_from;

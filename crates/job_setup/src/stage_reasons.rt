@@ -100,8 +100,8 @@ fn force_of(load: i64, length: i64) -> i64
     load * length
 }
 
-/// How long the lines of a group are together.
-fn lines_total(shape: &Shape, group: Mask) -> i64
+/// How long the bend lines of a group are together, in micrometres.
+pub fn lines_total(shape: &Shape, group: Mask) -> i64
     ensures value { result ≡ lines_total shape.now (has group) }
     ensures near { unsigned_abs result ≤ 2 ^ 31 }
 {

@@ -1,33 +1,16 @@
 //! The load that is too great, in words.
 ghost use Rattle.std.specs.Prelude.{◌≡◌, ◌^◌, ◌<◌, ◌≤◌, ◌++◌, ◌*ℤ◌, unsigned_abs, length, OnOk};
-ghost use Rattle.brake_base.specs.Masks.{has};
 ghost use Rattle.job_setup.specs.Setup.{stage_data};
 ghost use Rattle.job_setup.specs.ValidJob.{IsStageLoad};
-ghost use Rattle.job_setup.specs.Reasons.{lines_total};
 ghost use Rattle.sheet_words.specs.Reasons.{newtons, load_words, needed_force, given_force, force_words, is_over_limit, needed, need_words, overload_words};
 
 use crate::phrases::{BEND_NEEDS, MACHINE_GIVES, TOOLS_BEAR};
 use crate::tools::stage_at;
 use brake_base::Mask;
 use brake_text::{put_number, put_word};
-use fold_boxes::{Shape, line_length};
-use job_setup::{Job, Stage};
+use job_setup::{Job, Stage, lines_total};
 use std::alloc::AllocError;
 use svg_text::put_decimal;
-
-/// How long the lines of a group are together.
-fn lines_total(shape: &Shape, group: Mask) -> i64
-    ensures value { result ≡ lines_total shape.now (has group) }
-    ensures near { unsigned_abs result ≤ 2 ^ 31 }
-{
-    let mut total = 0;
-    for bend in 1..shape.faces() {
-        if group.contains(bend) {
-            total += line_length(shape, bend);
-        }
-    }
-    total
-}
 
 /// The force that a load takes over so much of a line, in thousandths of newtons.
 fn force_of(load: i64, length: i64) -> i64
