@@ -1,6 +1,6 @@
 -- What is kept of states, as one more state comes.
-use Rattle.std.proofs.Common.{◌≡◌, ◌∙◌, ℕ, ◌+◌, ◌<◌, ◌≤◌, List, [], ◌∷◌, ◌++◌, Bool, true, false, All, length, map, take, filter, flat_map, append-nil, refl, ap, sym, subst, arith}
-use Rattle.std.specs.Prelude.{◌==◌, cond, count_by, Option, Some, None, find, option_map}
+use Rattle.std.proofs.Common.{◌≡◌, ◌∙◌, ℕ, ◌+◌, ◌<◌, List, [], ◌∷◌, ◌++◌, Bool, true, false, All, length, map, take, flat_map, append-nil, ap, sym, subst, arith}
+use Rattle.std.specs.Prelude.{◌==◌, cond, count_by, Option, Some, None, find}
 use Rattle.std.specs.Option.{option_or}
 use Rattle.std.proofs.lemmas.Bool.{eqb-true}
 use Rattle.std.proofs.lemmas.List.{length_push}
@@ -9,12 +9,11 @@ use Rattle.std.proofs.lemmas.List.Elements.{All-push, All-nil, All-take, filter-
 use Rattle.std.proofs.lemmas.List.Folds.{find-append}
 use Rattle.std.proofs.lemmas.List.Sums.{sum_by-append}
 use Rattle.brake_base.specs.Masks.{bends_of}
-use Rattle.brake_base.specs.declared.mask.Mask.{Mask}
 use Rattle.job_setup.specs.Setup.{JobData}
 use Rattle.plan_cert.specs.declared.cert.Note.{Note}
 use Rattle.sheet_page.specs.declared.kept.State.{State}
 use Rattle.sheet_page.specs.declared.kept.DeadEnds.{DeadEnds}
-use Rattle.sheet_page.specs.Kept.{StateData, state_data, IsStateOf, IsFlatState, AreDeadEnds, flat_mask, most_folded, furthest, folded, dead_ends, refusal_count, is_of}
+use Rattle.sheet_page.specs.Kept.{StateData, state_data, IsStateOf, IsFlatState, AreDeadEnds, most_folded, furthest, folded, dead_ends, refusal_count, is_of}
 use Rattle.sheet_page.specs.Left.{strokes_left}
 use Rattle.sheet_page.proofs.Furthest.{furthest_further, furthest_as_far, furthest_less, most_further, most_kept, seen_more}
 

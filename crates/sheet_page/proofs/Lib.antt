@@ -1,6 +1,5 @@
 mod KeptLemmas
 mod KeptNotes
-mod Appending
 mod Joined
 mod Sizes
 mod Gauging
@@ -18,3 +17,5 @@ mod KeptStates
 mod Counted
 mod Refusals
 mod Told
+mod FlatBlank
+mod Sections

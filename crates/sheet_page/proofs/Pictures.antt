@@ -1,5 +1,5 @@
 -- The pictures of the refused strokes, note by note.
-use Rattle.std.proofs.Common.{◌≡◌, ℕ, ◌+◌, ◌<◌, ◌≤◌, ℤ, pos, ◌+ℤ◌, Bool, true, false, List, [], ◌∷◌, ◌++◌, length, get_or, take, drop, refl, sym, subst, arith}
+use Rattle.std.proofs.Common.{◌≡◌, ℕ, ◌+◌, ◌<◌, ◌≤◌, ℤ, pos, ◌+ℤ◌, Bool, true, false, List, length, get_or, take, drop, refl, sym, subst}
 use Rattle.std.specs.Prelude.{Result, Ok, Err, IfOk, int_lt, ◌&&◌}
 use Rattle.std.proofs.lemmas.List.{take_more, drop_more, drop_all}
 use Rattle.brake_base.specs.declared.mask.Mask.{Mask}

@@ -1,5 +1,5 @@
 -- The table of how often each bend is refused for each kind of reasons.
-use Rattle.std.specs.Prelude.{ℕ, nat_lt, Bool, pos, List, [], ◌∷◌, ◌++◌, codes, length, flat_map, if◌then◌else◌}
+use Rattle.std.specs.Prelude.{ℕ, nat_lt, Bool, pos, List, [], ◌∷◌, ◌++◌, codes, flat_map, if◌then◌else◌}
 use Rattle.std.specs.List.{list_any}
 use Rattle.std.specs.Fmt.{signed_decimal}
 use Rattle.brake_base.specs.Masks.{numbers_to}

@@ -3,6 +3,8 @@ pub mod Head
 pub mod Lists
 pub mod Warnings
 pub mod Stations
+pub mod BlankPart
+pub mod FaceTable
 pub mod Strokes
 pub mod Headings
 pub mod Facts

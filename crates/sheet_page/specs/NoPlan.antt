@@ -12,10 +12,10 @@ use Rattle.sheet_words.specs.Lists.{plural}
 use Rattle.sheet_page.specs.declared.dead_end.TheConstants.{NOTHING_FOLDED}
 use Rattle.sheet_page.specs.declared.forms.TheConstants.{CAPTION, DIV_END, H2, H3, PARAGRAPH}
 use Rattle.sheet_page.specs.declared.forms.TheConstants.{REFUSAL_HEAD, ROW, SECTION, SECTION_END}
-use Rattle.sheet_page.specs.declared.forms.TheConstants.{FLOW, TABLE, TABLE_END}
+use Rattle.sheet_page.specs.declared.forms.TheConstants.{FLOW, NEW_PAGE, TABLE, TABLE_END}
 use Rattle.sheet_page.specs.declared.no_plan.TheConstants.{AFTER_WHICH, AS_FAR, CAN_BE_FOLDED}
 use Rattle.sheet_page.specs.declared.no_plan.TheConstants.{FIRST_STROKE, FROM_FLAT, MEANING}
-use Rattle.sheet_page.specs.declared.no_plan.TheConstants.{NEW_PAGE, NOT_POSSIBLE, OF_THE_PART}
+use Rattle.sheet_page.specs.declared.no_plan.TheConstants.{NOT_POSSIBLE, OF_THE_PART}
 use Rattle.sheet_page.specs.declared.no_plan.TheConstants.{REFUSED_AT_ONCE, THEM_SHOWN}
 use Rattle.sheet_page.specs.Counts.{counts_text}
 use Rattle.sheet_page.specs.Kept.{StateData, dead_ends, flat_mask, flat_notes, furthest}

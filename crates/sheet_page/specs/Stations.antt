@@ -1,15 +1,20 @@
--- The table of a station's card. Lengths are in micrometres, forces in newtons per millimetre.
-use Rattle.std.specs.Prelude.{ℕ, ◌+◌, ◌==◌, nat_lt, ℤ, pos, ◌-ℤ◌, List, [], ◌∷◌, ◌++◌, codes}
+-- The stations of a page. Lengths are in micrometres, forces in newtons per millimetre.
+use Rattle.std.specs.Prelude.{◌≡◌, ℕ, zero, suc, ◌+◌, ◌==◌, nat_lt, ℤ, pos, ◌+ℤ◌, ◌-ℤ◌, List, [], ◌∷◌, ◌++◌, codes}
 use Rattle.std.specs.Prelude.{length, if◌then◌else◌}
 use Rattle.std.specs.Ordering.{int_eq}
 use Rattle.std.specs.Fmt.{signed_decimal}
 use Rattle.tool_library.specs.Tools.{PunchData, DieData}
-use Rattle.job_setup.specs.Setup.{StageData}
+use Rattle.job_setup.specs.Setup.{StageData, JobData, stage_count}
+use Rattle.job_setup.specs.StageOf.{stage_of}
 use Rattle.svg_text.specs.Escapes.{escaped}
 use Rattle.svg_text.specs.Forms.{line_of}
-use Rattle.sheet_words.specs.Lists.{mm}
-use Rattle.sheet_page.specs.declared.forms.TheConstants.{CARD_ROW, CARD_TABLE, TABLE_END}
-use Rattle.sheet_page.specs.declared.station_part.TheConstants.{TOOLS_BEAR}
+use Rattle.sheet_words.specs.Lists.{mm, plural}
+use Rattle.sheet_figures.specs.Beds.{IsBedFigure}
+use Rattle.sheet_figures.specs.Cards.{IsCardFigure}
+use Rattle.sheet_figures.specs.Fronts.{IsFrontFigure}
+use Rattle.sheet_page.specs.declared.forms.TheConstants.{CARD, CARD_ROW, CARD_TABLE, DIV_END, H2_WITH}
+use Rattle.sheet_page.specs.declared.forms.TheConstants.{NEW_PAGE, SECTION, SECTION_END, TABLE_END}
+use Rattle.sheet_page.specs.declared.station_part.TheConstants.{CARDS, TOOLS_BEAR}
 
 -- a row: what it tells, and the words
 abbrev pub card_row : (head words : List ℕ) → List ℕ
@@ -75,3 +80,47 @@ card_table number stage =
     ++ card_row (codes "Die") (die_cell stage.die)
     ++ card_row (codes "Least flange") (mm stage.die.least_flange ++ codes " mm")
     ++ use_rows stage ++ line_of TABLE_END.now []
+
+-- The text goes on with the card of a station: its figure and its table. Before the stations'
+-- figures are three: of the blank, of the bed, and of all stations.
+pub record IsCard (job : JobData) (number : ℕ) (before after : List ℕ) : Type 0 where
+  pub drawn : List ℕ
+  pub figure : IsCardFigure job number (pos number +ℤ pos 4) (before ++ line_of CARD.now []) drawn
+  pub text :
+      after ≡ drawn ++ card_table number (stage_of job number) ++ line_of DIV_END.now []
+
+-- the text goes on with a card for each of the first stations, so many, in order
+abbrev pub AreCards : JobData → (count : ℕ) → (before after : List ℕ) → Type 0
+AreCards job zero before after = after ≡ before
+AreCards job (suc count) before after =
+    (behind : List ℕ) × AreCards job count before behind × IsCard job count behind after
+
+-- how many stations there are, and the heading that says so
+unfoldable pub count_words : (count : ℕ) → List ℕ
+count_words count = plural count (codes "station") ++ codes " on the bed"
+
+abbrev pub station_heading : (count : ℕ) → List ℕ
+station_heading count =
+    line_of H2_WITH.now (escaped (codes "Stations") ∷ escaped (count_words count) ∷ [])
+
+-- The text goes on with the section of the bed: its heading, the figure of the bed, and that of the
+-- stations from the front.
+pub record HasBed (job : JobData) (before after : List ℕ) : Type 0 where
+  pub bed : List ℕ
+  pub bed_figure :
+      IsBedFigure job (pos 2)
+      (before ++ line_of SECTION.now (NEW_PAGE.now ∷ []) ++ station_heading (stage_count job)) bed
+  pub front : List ℕ
+  pub front_figure : IsFrontFigure job (pos 3) bed front
+  pub text : after ≡ front ++ line_of SECTION_END.now []
+
+-- the text goes on with the section of the cards, one for each station, in order
+pub record HasCards (job : JobData) (before after : List ℕ) : Type 0 where
+  pub told : List ℕ
+  pub cards : AreCards job (stage_count job) (before ++ line_of SECTION.now (CARDS.now ∷ [])) told
+  pub text : after ≡ told ++ line_of SECTION_END.now []
+
+-- the text goes on with the stations: the bed, and then the cards
+abbrev pub HasStations : JobData → (before after : List ℕ) → Type 0
+HasStations job before after =
+    (behind : List ℕ) × HasBed job before behind × HasCards job behind after

@@ -26,6 +26,9 @@ pub const SECTION: &[u8] = b"<section~>";
 /// The attribute of a section that may be broken.
 pub const FLOW: &[u8] = b" class=\"flow\"";
 
+/// The attribute of a section that begins a page.
+pub const NEW_PAGE: &[u8] = b" class=\"newpage\"";
+
 pub const SECTION_END: &[u8] = b"</section>";
 
 pub const H2: &[u8] = b"<h2>~</h2>";

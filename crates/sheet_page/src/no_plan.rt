@@ -1,19 +1,19 @@
 //! The page of a job without a plan.
-ghost use Rattle.std.specs.Prelude.{◌≡◌, ◌<◌, ◌≤◌, ◌^◌, ◌++◌, pos, ◌+ℤ◌, int_le, unsigned_abs, IsTrue, All, length, map, option_map, IfOk, IfSome, OnOk};
+ghost use Rattle.std.specs.Prelude.{◌≡◌, ◌<◌, ◌≤◌, ◌^◌, [], ◌++◌, pos, ◌+ℤ◌, int_le, unsigned_abs, IsTrue, All, length, map, option_map, IfOk, IfSome, OnOk};
 ghost use Rattle.brake_base.specs.declared.stroke.Worth.TheVariants.{Blocked};
 ghost use Rattle.plan_cert.specs.Cert.{cert_data};
 ghost use Rattle.plan_cert.specs.GoodCert.{IsGoodCert};
-ghost use Rattle.sheet_figures.specs.Extending.{Extends};
 ghost use Rattle.sheet_page.specs.Kept.{AreNotesAt, IsStateOf, state_data, states_of, flat_mask, notes_if_any, IsKept, HasFew};
 ghost use Rattle.sheet_page.specs.NoPlan.{verdict_text, first_caption, first_table, first_text, shown_words, far_words, far_text, AreDeadEnds, HasRefusals, IsPictureAt, IsPictureCount};
-ghost use Rattle.sheet_page.specs.Page.{IsNoPlanPage};
+ghost use Rattle.sheet_page.specs.Page.{HasParts, IsNoPlanPage};
 ghost use Rattle.sheet_page.specs.Refused.{AreRefusals};
 
 use crate::blank_part::{put_blank_section, put_face_section};
 use crate::counts::put_counts;
 use crate::dead_end::put_dead_end;
 use crate::forms::{
-    CAPTION, FLOW, H2, PAGE_END, PARAGRAPH, REFUSAL_HEAD, SECTION, SECTION_END, TABLE, TABLE_END,
+    CAPTION, FLOW, H2, NEW_PAGE, PAGE_END, PARAGRAPH, REFUSAL_HEAD, SECTION, SECTION_END, TABLE,
+    TABLE_END,
 };
 use crate::head::put_head;
 use crate::kept::{DeadEnds, Kept, State, collect};
@@ -34,9 +34,6 @@ use svg_text::{Hole, put_line};
 const NO_PLAN: &[u8] = b"no plan";
 
 const NO_ORDER: &[u8] = b"no order of bends is possible";
-
-/// The attribute of a section that begins a page.
-const NEW_PAGE: &[u8] = b" class=\"newpage\"";
 
 const NOT_POSSIBLE: &[u8] = b"No order of bends is possible";
 
@@ -243,7 +240,7 @@ fn put_refusals(
 
 /// The blank, the faces and the stations, where nothing is bent.
 fn put_parts(out: &mut Vec<u8>, job: &Job) -> Result<(), AllocError>
-    ensures { OnOk result (Extends out.old.items out.new.items) }
+    ensures { OnOk result (HasParts job.now 0 [] out.old.items out.new.items) }
 {
     let flat = flat_blank(job);
     put_blank_section(out, job, &flat, 0)?;

@@ -83,7 +83,8 @@ fn put_parts(out: &mut Vec<u8>, job: &Job, steps: &[Step], cost: u64) -> Result<
     requires steps { AreSteps job.now start steps.now }
     requires few { length steps.now ≤ 12 }
     requires cost { cost < 2 ^ 63 }
-    ensures { OnOk result (HasParts job.now steps.now cost out.old.items out.new.items) }
+    ensures { OnOk result (HasParts job.now (length steps.now) (order_part job.now steps.now cost)
+        out.old.items out.new.items) }
 {
     let flat = flat_blank(job);
     put_blank_section(out, job, &flat, steps.len() as i64)?;

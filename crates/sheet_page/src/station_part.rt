@@ -4,10 +4,11 @@ ghost use Rattle.job_setup.specs.Near.{IsNearStage};
 ghost use Rattle.job_setup.specs.Setup.{stage_data};
 ghost use Rattle.tool_library.specs.Tools.{punch_data, die_data};
 ghost use Rattle.sheet_words.specs.Lists.{mm};
-ghost use Rattle.sheet_figures.specs.Extending.{Extends};
-ghost use Rattle.sheet_page.specs.Stations.{card_row, punch_cell, die_cell, place_cell, added_piece, piece_words, sum_words, pieces_cell, limit_words, force_cell, force_row, use_rows, card_table};
+ghost use Rattle.sheet_page.specs.Stations.{card_row, punch_cell, die_cell, place_cell, added_piece, piece_words, sum_words, pieces_cell, limit_words, force_cell, force_row, use_rows, card_table, IsCard, HasCards, count_words, station_heading, HasBed, HasStations};
 
-use crate::forms::{CARD, CARD_ROW, CARD_TABLE, DIV_END, H2_WITH, SECTION, SECTION_END, TABLE_END};
+use crate::forms::{
+    CARD, CARD_ROW, CARD_TABLE, DIV_END, H2_WITH, NEW_PAGE, SECTION, SECTION_END, TABLE_END,
+};
 use crate::holes::text;
 use crate::job_parts::stage_at;
 use brake_text::{put_number, put_word};
@@ -17,6 +18,9 @@ use sheet_words::{put_mm, put_plural};
 use std::alloc::AllocError;
 use svg_text::{Hole, put_line};
 use tool_library::{Die, Punch};
+
+/// The attribute of the section of the cards.
+const CARDS: &[u8] = b" class=\"cards flow\"";
 
 const TOOLS_BEAR: &[u8] = b", the tools bear ";
 
@@ -224,7 +228,7 @@ fn put_table(out: &mut Vec<u8>, number: u8, stage: &Stage) -> Result<(), AllocEr
 /// The card of a station, with its figure.
 fn put_station(out: &mut Vec<u8>, job: &Job, number: u8) -> Result<(), AllocError>
     requires { number < length job.now.setup.stages }
-    ensures { OnOk result (Extends out.old.items out.new.items) }
+    ensures { OnOk result (IsCard job.now number out.old.items out.new.items) }
 {
     put_line(out, CARD, &[])?;
     put_card(out, job, number, i64::from(number) + 4)?;
@@ -233,10 +237,11 @@ fn put_station(out: &mut Vec<u8>, job: &Job, number: u8) -> Result<(), AllocErro
 }
 
 /// A card for each station.
+#[tactic(auto, using(sheet_paper::proofs::Texts::pieces))]
 fn put_cards(out: &mut Vec<u8>, job: &Job) -> Result<(), AllocError>
-    ensures { OnOk result (Extends out.old.items out.new.items) }
+    ensures { OnOk result (HasCards job.now out.old.items out.new.items) }
 {
-    put_line(out, SECTION, &[Hole::Word(b" class=\"cards flow\"")])?;
+    put_line(out, SECTION, &[Hole::Word(CARDS)])?;
     for number in 0..job.stages() {
         put_station(out, job, number)?;
     }
@@ -244,12 +249,21 @@ fn put_cards(out: &mut Vec<u8>, job: &Job) -> Result<(), AllocError>
 }
 
 /// How many stations there are.
+#[tactic(auto, using(sheet_paper::proofs::Texts::pieces), unfolding(crate::specs::Stations::count_words))]
+fn put_count_words(out: &mut Vec<u8>, count: u8) -> Result<(), AllocError>
+    ensures { OnOk result (out.new.items ≡ out.old.items ++ count_words count) }
+{
+    put_plural(out, usize::from(count), b"station")?;
+    put_word(out, b" on the bed")
+}
+
+/// The heading of so many stations.
+#[tactic(auto, using(sheet_paper::proofs::Texts::pieces))]
 fn put_heading(out: &mut Vec<u8>, count: u8) -> Result<(), AllocError>
-    ensures { OnOk result (Extends out.old.items out.new.items) }
+    ensures { OnOk result (out.new.items ≡ out.old.items ++ station_heading count) }
 {
     let mut words = Vec::new(*out.allocator());
-    put_plural(&mut words, usize::from(count), b"station")?;
-    put_word(&mut words, b" on the bed")?;
+    put_count_words(&mut words, count)?;
     put_line(
         out,
         H2_WITH,
@@ -257,14 +271,22 @@ fn put_heading(out: &mut Vec<u8>, count: u8) -> Result<(), AllocError>
     )
 }
 
-/// The stations on the bed, and a card for each.
-pub fn put_stations(out: &mut Vec<u8>, job: &Job) -> Result<(), AllocError>
-    ensures { OnOk result (Extends out.old.items out.new.items) }
+/// The bed and all stations from the front.
+#[tactic(auto, using(sheet_paper::proofs::Texts::pieces))]
+fn put_bed_section(out: &mut Vec<u8>, job: &Job) -> Result<(), AllocError>
+    ensures { OnOk result (HasBed job.now out.old.items out.new.items) }
 {
-    put_line(out, SECTION, &[Hole::Word(b" class=\"newpage\"")])?;
+    put_line(out, SECTION, &[Hole::Word(NEW_PAGE)])?;
     put_heading(out, job.stages())?;
     put_bed(out, job, 2)?;
     put_front(out, job, 3)?;
-    put_line(out, SECTION_END, &[])?;
+    put_line(out, SECTION_END, &[])
+}
+
+/// The stations on the bed, and a card for each.
+pub fn put_stations(out: &mut Vec<u8>, job: &Job) -> Result<(), AllocError>
+    ensures { OnOk result (HasStations job.now out.old.items out.new.items) }
+{
+    put_bed_section(out, job)?;
     put_cards(out, job)
 }

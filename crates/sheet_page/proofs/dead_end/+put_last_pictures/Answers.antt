@@ -1,4 +1,4 @@
-use Rattle.std.proofs.Common.{◌+◌, ◌^◌, pos, get_or, take, drop, FitsSigned, to_z-of_z, w64, arith}
+use Rattle.std.proofs.Common.{◌^◌, pos, get_or, take, FitsSigned, to_z-of_z, w64, arith}
 use Rattle.std.specs.Prelude.{int_lt, ◌&&◌}
 use Rattle.std.proofs.lemmas.Int.{ints}
 use Rattle.algebra.proofs.Widths.{fits_64}

@@ -1,4 +1,4 @@
-use Rattle.std.proofs.Common.{◌≡◌, ◌∙◌, ◌+◌, ◌≤◌, true, false, not, get_or, take, ap, sym, arith}
+use Rattle.std.proofs.Common.{◌≡◌, ◌∙◌, ◌+◌, not, get_or, take, ap, sym, arith}
 use Rattle.std.specs.List.{list_any}
 use Rattle.plan_cert.specs.declared.cert.Note.{Note}
 use Rattle.sheet_page.specs.Pictured.{is_one_hit}

@@ -1,4 +1,4 @@
-use Rattle.std.proofs.Common.{◌≡◌, ◌∙◌, ◌++◌, [], ℕ, List, pos, ◌^◌, FitsSigned, to_z-of_z, w64, ap, subst, arith}
+use Rattle.std.proofs.Common.{◌∙◌, ◌++◌, [], ℕ, List, pos, ◌^◌, FitsSigned, to_z-of_z, w64, ap, subst, arith}
 use Rattle.std.proofs.lemmas.Int.{ints}
 use Rattle.algebra.proofs.Widths.{fits_64}
 use Rattle.brake_base.specs.declared.mask.Mask.{Mask}

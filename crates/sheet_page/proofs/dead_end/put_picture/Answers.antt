@@ -1,4 +1,4 @@
-use Rattle.std.proofs.Common.{◌≡◌, ◌∙◌, get_or, FitsSigned, to_z-of_z, w64, sym, subst, ap}
+use Rattle.std.proofs.Common.{◌∙◌, get_or, FitsSigned, to_z-of_z, w64, sym, subst, ap}
 use Rattle.std.specs.Prelude.{IfOk}
 use Rattle.plan_cert.specs.declared.cert.Note.{Note}
 use Rattle.sheet_views.specs.Swept.{swept_by}

@@ -1,4 +1,4 @@
-use Rattle.std.proofs.Common.{◌≡◌, ◌∙◌, ℕ, ℤ, List, ◌+ℤ◌, ◌^◌, get_or, FitsSigned, to_z-of_z, w64, pos, refl, sym, arith}
+use Rattle.std.proofs.Common.{◌≡◌, ◌∙◌, ◌+ℤ◌, ◌^◌, get_or, FitsSigned, to_z-of_z, w64, pos, refl, sym, arith}
 use Rattle.std.specs.Prelude.{int_lt, ◌&&◌, take}
 use Rattle.std.proofs.lemmas.Int.{ints}
 use Rattle.algebra.proofs.Widths.{fits_64}

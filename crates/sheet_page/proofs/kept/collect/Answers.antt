@@ -1,8 +1,7 @@
-use Rattle.std.proofs.Common.{◌≡◌, List, length, All, sym, subst}
+use Rattle.std.proofs.Common.{◌≡◌, List, All, sym, subst}
 use Rattle.std.specs.Prelude.{AllPairs}
 use Rattle.handling_cost.proofs.Actions.{few_bends}
 use Rattle.job_setup.specs.Setup.{JobData}
-use Rattle.plan_cert.specs.Cert.{cert_data}
 use Rattle.plan_cert.specs.declared.cert.Note.{Note}
 use Rattle.plan_cert.specs.declared.cert.RowHead.{RowHead}
 use Rattle.plan_cert.specs.WellFormed.{IsNote, NoteIsBefore}

@@ -1,4 +1,4 @@
-use Rattle.std.proofs.Common.{◌≡◌, ◌∙◌, sym, subst}
+use Rattle.std.proofs.Common.{◌∙◌, sym, subst}
 use Rattle.std.specs.Prelude.{Option}
 use Rattle.sheet_page.specs.declared.kept.State.{State}
 use Rattle.sheet_page.specs.Kept.{IsFlatState}

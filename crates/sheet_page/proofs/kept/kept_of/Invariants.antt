@@ -1,4 +1,4 @@
-use Rattle.std.proofs.Common.{◌≡◌, ℕ, ◌≤◌, ◌<◌, ◌+◌, ◌++◌, List, length, get_or, drop}
+use Rattle.std.proofs.Common.{◌≡◌, ℕ, ◌≤◌, ◌<◌, ◌++◌, List, length, get_or, drop}
 use Rattle.std.specs.Prelude.{None}
 use Rattle.plan_cert.specs.declared.cert.Note.{Note}
 use Rattle.sheet_page.specs.Kept.{StateData, last_states, IsKept, HasFew}

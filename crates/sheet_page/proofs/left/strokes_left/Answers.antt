@@ -1,4 +1,4 @@
-use Rattle.std.proofs.Common.{◌≡◌, ◌∙◌, ◌+◌, ◌-◌, ◌≤◌, ℕ, ap, arith}
+use Rattle.std.proofs.Common.{arith}
 use Rattle.sheet_page.specs.Left.{left_of}
 use Rattle.sheet_page.proofs.Numbered.{sum_next}
 use Rattle.sheet_page.proofs.left.strokes_left.Goals as goal

@@ -1,11 +1,9 @@
-use Rattle.sheet_page.proofs.Appending.{grown, grows_on, last_grown}
+use Rattle.std.proofs.Common.{◌≡◌, arith}
+use Rattle.job_setup.specs.Setup.{stage_count}
+use Rattle.sheet_page.proofs.Sections.{cards_put}
 use Rattle.sheet_page.proofs.station_part.put_cards.Goals as goal
 
-pub loop-number-init : goal.loop-number-init
-loop-number-init c = grown _ _ c.in_ok-put_line.ensures
-
-pub loop-number-preserved : goal.loop-number-preserved
-loop-number-preserved c = grows_on _ c.loop-number.invariant c.in_ok-put_station.ensures
-
 pub returns : goal.returns
-returns c = last_grown _ _ _ c.loop-number.invariant c.put_line-2.result c.put_line-2.ensures
+returns c =
+    let all : c.loop-number.number ≡ stage_count c.args.job.now = omega (arith, c.loop-number.auto.number-end, c.loop-number-test.false, c.stages-number-end.ensures.value) in
+    cards_put c.args.job.now c.loop-number.number c.args.out.now.items c.loop-number.out.items c.put_line-2.new.out.items c.put_line-2.result all c.loop-number.invariant c.put_line-2.ensures

@@ -1,5 +1,4 @@
-use Rattle.std.proofs.Common.{rules, ◌≡◌, ◌∙◌, ◌+◌, ◌-◌, ◌*◌, ◌<◌, ◌≤◌, ℕ, length, ap, sym, subst, arith}
-use Rattle.std.specs.Prelude.{◌==◌, ◌&&◌, cond}
+use Rattle.std.proofs.Common.{rules, ◌≡◌, ◌∙◌, ◌+◌, ◌-◌, ◌*◌, ℕ, length, ap, arith}
 use Rattle.brake_base.specs.Reasons.{kind_of}
 use Rattle.sheet_page.proofs.Counted.{counted, count_is}
 use Rattle.sheet_page.proofs.KeptLemmas.{kind_some, kind_low}

@@ -1,4 +1,4 @@
-use Rattle.std.proofs.Common.{◌≡◌, ◌<◌, length, sym, arith}
+use Rattle.std.proofs.Common.{◌≡◌, ◌<◌, length, arith}
 use Rattle.brake_base.specs.Masks.{bends_of}
 use Rattle.sheet_page.proofs.KeptStates.{only_kept, push_kept, less_kept}
 use Rattle.sheet_page.proofs.kept.DeadEnds.add.Goals as goal

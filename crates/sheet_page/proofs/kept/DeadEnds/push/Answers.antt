@@ -1,4 +1,4 @@
-use Rattle.std.proofs.Common.{◌≡◌, ◌∙◌, ◌≤◌, [], ◌∷◌, length, sym, arith}
+use Rattle.std.proofs.Common.{◌∙◌, ◌≤◌, [], ◌∷◌, length, sym, arith}
 use Rattle.std.proofs.lemmas.List.{take_all, take-append-le}
 use Rattle.sheet_page.proofs.kept.DeadEnds.push.Goals as goal
 

@@ -1,4 +1,4 @@
-use Rattle.std.proofs.Common.{◌≡◌, ◌∙◌, get_or, ap}
+use Rattle.std.proofs.Common.{◌∙◌, get_or, ap}
 use Rattle.sheet_page.specs.Refused.{note_words}
 use Rattle.sheet_page.proofs.Told.{told_at}
 use Rattle.sheet_page.proofs.refusal_table.Refusals.words.Goals as goal
