@@ -18,3 +18,8 @@ returns-else-is_drawing-clause-ends g c =
 
 pub returns-else-is_drawing-clause-outcome : goal.returns-else-is_drawing-clause-outcome
 returns-else-is_drawing-clause-outcome g c = outcome_of _ _ _ _ _ _ _ (returns-else-is_drawing-clause-ends g c)
+
+pub returns-then-is_drawing-clause-cause : goal.returns-then-is_drawing-clause-cause
+returns-then-is_drawing-clause-cause g c =
+    let drawing : is_drawing (map string_bytes c.args.words.now) ≡ true = sym c.is_drawing.ensures.value ∙ c.if-is_drawing.true in
+    rw drawing c.run.ensures.cause
