@@ -198,12 +198,26 @@ impl<'a> NoteLines<'a> {
     }
 
     /// Keeps the first note of the text, where it is of this number and says this.
-    fn keep_first(&mut self, text: &'a [u8], number: u8, reason: Reason)
+    fn keep_told(&mut self, text: &'a [u8], number: u8, reason: Reason)
         ensures { KnowsAtMost self.old number reason self.new }
     {
         if let Some(note) = told_note(text, &self.facts, number, reason) {
             self.notes[usize::from(number)] = Some(note);
             self.block = no_block();
+        }
+    }
+
+    /// Whether no note is known at a number. A second reason of an action isn't worth a reading.
+    fn is_free(&self, number: u8) -> bool {
+        matches!(self.notes.get(usize::from(number)), Some(None))
+    }
+
+    /// The same where none is known at the number.
+    fn keep_first(&mut self, text: &'a [u8], number: u8, reason: Reason)
+        ensures { KnowsAtMost self.old number reason self.new }
+    {
+        if self.is_free(number) {
+            self.keep_told(text, number, reason);
         }
     }
 

@@ -1,7 +1,7 @@
 use Rattle.std.proofs.Common.{ℕ, Some, set, sym, subst}
 use Rattle.plan_cert.specs.NoteLines.{KnownReasons, KnowsAtMost, known_reasons, IsHeld}
 use Rattle.plan_cert.proofs.NoteAnswers.{held_more, learned}
-use Rattle.plan_cert.proofs.note_lines.NoteLines.keep_first.Goals as goal
+use Rattle.plan_cert.proofs.note_lines.NoteLines.keep_told.Goals as goal
 
 pub invariant_of-self : goal.invariant_of-self
 invariant_of-self c =
