@@ -1,17 +1,19 @@
 -- Texts that are read and stored in pieces.
-use Rattle.std.proofs.Common.{◌≡◌, ℕ, ◌+◌, ◌<◌, ◌≤◌, List, [], ◌++◌, Bool, true, false, if◌then◌else◌, Option, Some, None, length, take, drop, min, refl, sym, ap, ◌∙◌, subst, append_assoc, append-nil, take-append-drop, arith}
-use Rattle.std.specs.Prelude.{IfSome, slice_range}
+use Rattle.std.proofs.Common.{◌≡◌, ◌⊎◌, inl, inr, ℕ, suc, ◌+◌, ◌*◌, ◌-◌, ◌<◌, ◌≤◌, List, [], ◌∷◌, ◌++◌, get_or, drop-cons, Bool, true, false, if◌then◌else◌, Option, Some, None, length, take, drop, min, refl, sym, ap, ◌∙◌, subst, append_assoc, append-nil, take-append-drop, arith}
+use Rattle.std.specs.Prelude.{IfSome, ◌==◌, position, slice_range}
 use Rattle.std.specs.Io.KnownBytes.{Appends, Consumes, IsAtEnd}
 use Rattle.std.proofs.KnownBytes.{Appends-trans, Consumes-nil, Consumes-trans}
-use Rattle.std.proofs.lemmas.List.{drop-append-le, drop-drop, length-append, length-take-le, take-append-le, take-take, take_min}
+use Rattle.std.proofs.lemmas.List.{drop-append-le, drop-drop, length-append, length-drop, length-take-le, take-append-le, take-take, take_all, take_min}
+use Rattle.std.proofs.lemmas.Grind.{common_steps}
 use Rattle.std.proofs.lemmas.List.Edits.{length-between}
+use Rattle.std.proofs.lemmas.List.Quantifiers.{position-Some}
 use Rattle.std.proofs.lemmas.Slice.{between_is}
 use Rattle.std.proofs.Math.Seq.{take-append-add, take-append_seam}
 use borrow.Rule.Slice.PartMut.{put_mid, post_of}
 use Rattle.brake_io.specs.Meanings.{AppendsPart}
 use Rattle.brake_io.specs.declared.progress.Progress.{Progress}
 use Rattle.brake_io.specs.declared.progress.Progress.TheVariants.{Reading, Ended, Failed, TooLong}
-use Rattle.brake_io.specs.Pieces.{WindowState, IsOver, GoesOn, IsWhole, IsTooLong, IsReadSoFar, reads_left}
+use Rattle.brake_io.specs.Pieces.{WindowState, IsOver, HasMore, GoesOn, IsWhole, IsTooLong, IsReadSoFar, reads_left}
 use Rattle.brake_io.proofs.Fronts.{take-done}
 
 -- how many bytes a part of a list has
@@ -115,6 +117,28 @@ goes_further a b c first next = record {
   left = Consumes-trans a.left b.left c.left first.piece next.piece first.left next.left;
 }
 
+-- the first line feed, and a byte behind it
+pub line_at : (xs : List ℕ) (i : ℕ) → position (λ byte. byte == 10) xs ≡ Some i → i + 1 < length xs
+    → (line : List ℕ) × (next : ℕ) × (behind : List ℕ) × (xs ≡ line ++ 10 ∷ next ∷ behind)
+line_at xs i found more =
+    let at = position-Some (λ byte. byte == 10) xs i 0 found in
+    let feed : get_or xs i 0 ≡ 10 = let is = at.1 in grind (arith, common_steps) in
+    let split : drop i xs ≡ 10 ∷ get_or xs (suc i) 0 ∷ drop (suc (suc i)) xs =
+    drop-cons xs i 0 at.0 ∙ ap (λ (byte : ℕ). byte ∷ drop (suc i) xs) feed ∙ ap (λ (l : List ℕ). 10 ∷ l) (drop-cons xs (suc i) 0 (omega (arith, more))) in
+    (take i xs, get_or xs (suc i) 0, drop (suc (suc i)) xs, sym (take-append-drop i xs) ∙ ap (λ l. take i xs ++ l) split)
+
+-- the same where it is found from a place on
+pub line_behind : (xs : List ℕ) (from i : ℕ) → position (λ byte. byte == 10) (take (length xs - from) (drop from xs)) ≡ Some i → i + 1 < length (take (length xs - from) (drop from xs))
+    → (line : List ℕ) × (next : ℕ) × (behind : List ℕ) × (xs ≡ line ++ 10 ∷ next ∷ behind)
+line_behind xs from i found more =
+    let tail : take (length xs - from) (drop from xs) ≡ drop from xs = take_all (length xs - from) (drop from xs) (rw length-drop (omega arith)) in
+    let (line, next, behind, is) = line_at (take (length xs - from) (drop from xs)) i found more in (
+      take from xs ++ line,
+      next,
+      behind,
+      sym (take-append-drop from xs) ∙ ap (λ l. take from xs ++ l) (sym tail ∙ is) ∙ sym (append_assoc (take from xs) line (10 ∷ next ∷ behind)),
+    )
+
 -- a window that has read on, whatever was passed of it
 pub record ReadsOn (before now : WindowState) : Type 0 where
   pub last : List ℕ
@@ -136,6 +160,39 @@ reads_more before now passed next reading so_far same goes =
       left = Consumes-trans before.left now.left next.left so_far.last on.piece so_far.left on.left;
       over = λ over. absurd (over (sym (so_far.over over).1 ∙ reading));
     }
+
+-- the window has gone on, and stands where it stood or has fewer reads to come
+pub record IsNearer (before now : WindowState) : Type 0 where
+  pub goes : GoesOn before now
+  pub nearer : (now ≡ before) ⊎ (reads_left now < reads_left before)
+
+pub stays : (w : WindowState) → IsNearer w w
+stays w = record { goes = goes_nowhere w; nearer = inl refl }
+
+pub has_read : (a b c : WindowState) → IsNearer a b → GoesOn b c → reads_left c < reads_left b → IsNearer a c
+has_read a b c first next fewer = record {
+  goes = goes_further a b c first.goes next;
+  nearer = inr (elim first.nearer [
+    | inl same ↦ subst (λ (w : WindowState). reads_left c < reads_left w) same fewer
+    | inr nearer ↦ omega (arith, fewer, nearer)
+  ]);
+}
+
+-- a window that isn't over and has more at hand, or now is over, is nearer
+pub nearer_by : (a b : WindowState) (count : ℕ) → count ≡ 2 * length a.unread + 1 → IsNearer a b → (count ≤ length b.unread) ⊎ IsOver b → (IsOver a → ⊥) → reads_left b < reads_left a
+nearer_by a b count twice is enough more = elim is.nearer [
+  | inl same ↦ absurd (elim enough [
+    | inl long ↦ (let at : length b.unread ≡ length a.unread = ap (λ (w : WindowState). length w.unread) same in omega (arith, long, at, twice))
+    | inr over ↦ more (subst IsOver same over)
+  ])
+  | inr nearer ↦ nearer
+]
+
+pub has_more : (a b : WindowState) (count : ℕ) → count ≡ 2 * length a.unread + 1 → (count ≤ length b.unread) ⊎ IsOver b → HasMore a b
+has_more a b count twice enough = elim enough [
+  | inl long ↦ inl (omega (arith, long, twice))
+  | inr over ↦ inr over
+]
 
 pub nearer_end : (now passed next : WindowState) → passed ≡ record now { unread = [] } → reads_left next < reads_left passed → reads_left next < reads_left now
 nearer_end now passed next same nearer = rw same at nearer

@@ -1,5 +1,6 @@
 -- Texts that are read and stored in pieces.
-use Rattle.std.specs.Prelude.{◌≡◌, ◌≢◌, ◌⊎◌, ℕ, ◌+◌, ◌-◌, ◌<◌, ◌≤◌, List, [], ◌++◌, length, Option}
+use Rattle.std.specs.Prelude.{◌≡◌, ◌≢◌, ◌⊎◌, ℕ, ◌+◌, ◌-◌, ◌<◌, ◌≤◌, List, [], ◌∷◌, ◌++◌, length}
+use Rattle.std.specs.Prelude.{Option}
 use Rattle.std.specs.Prelude.{IfSome, IsSomeAnd, None, Some}
 use Rattle.std.specs.Io.KnownBytes.{Consumes, IsAtEnd}
 use Rattle.brake_io.specs.declared.progress.Progress.{Progress}
@@ -49,6 +50,29 @@ pub record GoesOn (before now : WindowState) : Type 0 where
   pub taken : now.taken ≡ before.taken + length piece
   pub limit : now.limit ≡ before.limit
   pub left : Consumes before.left now.left piece
+
+-- a line feed, whose byte is 10, and a byte behind it are at hand, or all that comes
+abbrev pub HasLine : WindowState → Type 0
+HasLine window =
+    ((line : List ℕ) × (next : ℕ) × (behind : List ℕ)
+    × (window.unread ≡ line ++ 10 ∷ next ∷ behind)) ⊎ IsOver window
+
+-- more is at hand than was, or all that comes
+abbrev pub HasMore : WindowState → WindowState → Type 0
+HasMore before now = (length before.unread < length now.unread) ⊎ IsOver now
+
+-- The window has gone on, and these bytes were passed: they and what is at hand now are what was
+-- at hand and the piece that came to hand.
+pub record HasPassed (before now : WindowState) (passed : List ℕ) : Type 0 where
+  pub piece : List ℕ
+  pub bytes : before.unread ++ piece ≡ passed ++ now.unread
+  pub taken : now.taken ≡ before.taken + length piece
+  pub limit : now.limit ≡ before.limit
+  pub left : Consumes before.left now.left piece
+
+-- these bytes may come behind what is at hand: none where the window is over
+abbrev pub MayFollow : WindowState → List ℕ → Type 0
+MayFollow window last = IsOver window → last ≡ []
 
 -- What was passed, what is at hand and these last bytes are the whole text, which is within its
 -- limit. Where the window was over there are none.

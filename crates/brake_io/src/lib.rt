@@ -29,6 +29,3 @@ pub use shelf::{FetchFault, Shelf, StoreFault};
 pub use sink::{PutFault, Sink};
 pub use std_sink::StdSink;
 pub use window::{Window, close_window, open_window};
-
-#[cfg(test)]
-mod tests;

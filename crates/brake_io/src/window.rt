@@ -1,9 +1,10 @@
 //! A window on a text that is read in pieces.
-ghost use Rattle.std.specs.Prelude.{◌≡◌, ◌↔◌, ◌+◌, ◌^◌, ◌<◌, ◌≤◌, [], None, length, drop, slice_range, IfOk, IsTrue, IsFalse, OnOk, IsErrOf};
+ghost use Rattle.std.specs.Prelude.{◌≡◌, ◌⊎◌, ◌↔◌, ◌+◌, ◌^◌, ◌==◌, ◌<◌, ◌≤◌, [], Some, None, length, drop, slice_range, position, IfOk, IfSome, IsNone, IsTrue, IsFalse, OnOk, IsErrOf};
+ghost use Rattle.std.specs.Io.KnownBytes.{IsAtEnd};
 ghost use Rattle.brake_io.specs.Rose.{raised, Rose};
 ghost use Rattle.brake_io.specs.Meanings.{NoCountFalls, IsLonger, MayFailAt};
 ghost use Rattle.brake_io.specs.declared.progress.Progress.TheVariants.{Reading};
-ghost use Rattle.brake_io.specs.Pieces.{WindowState, opened, IsOpened, IsOver, HasEnough, GoesOn, IsWhole, IsTooLong, IsReadSoFar, reads_left};
+ghost use Rattle.brake_io.specs.Pieces.{WindowState, opened, IsOpened, IsOver, HasEnough, HasLine, HasMore, GoesOn, IsWhole, IsTooLong, IsReadSoFar, reads_left};
 
 use crate::buffer::{Buffer, CAPACITY};
 use crate::progress::Progress;
@@ -54,6 +55,13 @@ fn wanted(room: u64) -> usize
     }
 }
 
+/// Where the first line feed stands.
+fn first_line_feed(bytes: &[u8]) -> Option<usize>
+    ensures { result ≡ position (λ byte. byte == 10) bytes.now }
+{
+    bytes.iter().position(|byte| *byte == b'\n')
+}
+
 impl<R: Reader + Drop> Window<R> {
     /// A window on all that the reader gives, of which nothing is read yet. The text may have so many
     /// bytes.
@@ -92,14 +100,14 @@ impl<R: Reader + Drop> Window<R> {
         !matches!(self.progress(), Progress::Reading)
     }
 
-    /// Whether less is at hand than is wanted, and more may come.
-    fn wants_more(&self) -> bool
+    /// Whether fewer bytes are at hand than these, and more may come.
+    fn wants_more(&self, count: usize) -> bool
         ensures reading { IsTrue result → self.now.progress ≡ Reading }
-        ensures few { IsTrue result → length self.now.unread < 8192 }
-        ensures enough { IsFalse result → HasEnough self.now }
+        ensures few { IsTrue result → length self.now.unread < count }
+        ensures enough { IsFalse result → (count ≤ length self.now.unread) ⊎ IsOver self.now }
     {
         match self.progress() {
-            Progress::Reading => self.unread().len() < AT_HAND,
+            Progress::Reading => self.unread().len() < count,
             _ => false,
         }
     }
@@ -119,15 +127,23 @@ impl<R: Reader + Drop> Window<R> {
         self.buffer.clear();
     }
 
-    /// Reads once, at most one byte more than the limit.
-    fn read_once(&mut self)
+    /// Notes what a read gave, whose bytes are at hand.
+    fn note(&mut self, came: Option<usize>)
         requires reading { self.old.progress ≡ Reading }
-        requires room { length self.old.unread < 262144 }
-        ensures goes_on { GoesOn self.old self.new }
+        requires end { came ≡ Some 0 → IsAtEnd self.old.left }
+        requires failed { IsNone came → self.old.left ≡ None }
+        requires few { IfSome came (λ n. self.old.taken + n ≤ self.old.limit + 1) }
+        ensures unread { self.new.unread ≡ self.old.unread }
+        ensures limit { self.new.limit ≡ self.old.limit }
+        ensures left { self.new.left ≡ self.old.left }
+        ensures taken { IfSome came (λ n. self.new.taken ≡ self.old.taken + n) }
+        ensures same { IsNone came → self.new.taken ≡ self.old.taken }
         ensures nearer { reads_left self.new < reads_left self.old }
+        ensures over { IsNone came → IsOver self.new }
+        ensures ended { came ≡ Some 0 → IsOver self.new }
     {
         let room = self.limit - self.taken;
-        match self.buffer.append_from(&mut self.from, wanted(room)) {
+        match came {
             Some(0) => self.progress = Progress::Ended,
             Some(count) if count as u64 <= room => self.taken += count as u64,
             Some(count) => {
@@ -138,14 +154,92 @@ impl<R: Reader + Drop> Window<R> {
         }
     }
 
+    /// Reads once, at most one byte more than the limit.
+    fn read_once(&mut self)
+        requires reading { self.old.progress ≡ Reading }
+        requires room { length self.old.unread < 262144 }
+        ensures goes_on { GoesOn self.old self.new }
+        ensures nearer { reads_left self.new < reads_left self.old }
+    {
+        let most = wanted(self.limit - self.taken);
+        let came = self.buffer.append_from(&mut self.from, most);
+        self.note(came);
+    }
+
+    /// Reads once, at most one byte more than the limit, into more memory where the buffer is full.
+    fn read_more(&mut self, alloc: Global) -> Result<(), AllocError>
+        requires reading { self.old.progress ≡ Reading }
+        ensures goes_on { GoesOn self.old self.new }
+        ensures nearer { OnOk result (reads_left self.new < reads_left self.old) }
+        ensures more { OnOk result (HasMore self.old self.new) }
+    {
+        self.buffer.make_room(alloc)?;
+        let most = wanted(self.limit - self.taken);
+        let came = self.buffer.append_from(&mut self.from, most);
+        self.note(came);
+        Ok(())
+    }
+
     /// Reads on until enough of the text is at hand.
     pub fn fill(&mut self)
         ensures goes_on { GoesOn self.old self.new }
         ensures enough { HasEnough self.new }
     {
-        while self.wants_more() {
+        while self.wants_more(AT_HAND) {
             self.read_once();
         }
+    }
+
+    /// Whether a line feed and a byte behind it are at hand, from a place on.
+    fn is_line_at_hand(&self, from: usize) -> bool
+        ensures { IsTrue result → HasLine self.now }
+    {
+        let unread = self.unread();
+        let tail = &unread[from.min(unread.len())..];
+        match first_line_feed(tail) {
+            Some(at) => at + 1 < tail.len(),
+            None => false,
+        }
+    }
+
+    /// Whether no line feed with a byte behind it is at hand from a place on, and more may come.
+    fn wants_line(&self, from: usize) -> bool
+        ensures reading { IsTrue result → self.now.progress ≡ Reading }
+        ensures line { IsFalse result → HasLine self.now }
+    {
+        match self.progress() {
+            Progress::Reading => !self.is_line_at_hand(from),
+            _ => false,
+        }
+    }
+
+    /// Reads on until a whole line and a byte behind it are at hand, or all that comes. A line that is
+    /// longer than the buffer takes more memory; each byte is looked at once.
+    pub fn fill_line(&mut self, alloc: Global) -> Result<(), AllocError>
+        ensures goes_on { GoesOn self.old self.new }
+        ensures line { OnOk result (HasLine self.new) }
+    {
+        let mut from = 0;
+        while self.wants_line(from) {
+            from = self.unread().len().saturating_sub(1);
+            self.read_more(alloc)?;
+        }
+        Ok(())
+    }
+
+    /// Reads on until more than twice as much is at hand as was, or all that comes. Where the buffer is
+    /// full that takes more memory.
+    pub fn fill_more(&mut self, alloc: Global) -> Result<(), AllocError>
+        ensures goes_on { GoesOn self.old self.new }
+        ensures more { OnOk result (HasMore self.old self.new) }
+        ensures nearer { OnOk result (¬ IsOver self.old →
+            reads_left self.new < reads_left self.old) }
+    {
+        let count = 2 * self.unread().len() + 1;
+        while self.wants_more(count) {
+            self.read_more(alloc)?;
+        }
+        Ok(())
     }
 
     /// Reads on to the end, and says whether the whole text is within its limit.

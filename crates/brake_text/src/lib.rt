@@ -8,6 +8,3 @@ mod writing;
 pub use line_reader::{Line, Lines};
 pub use reading::{number, signed};
 pub use writing::{put_number, put_word};
-
-#[cfg(test)]
-mod tests;

@@ -6,3 +6,4 @@ pub mod Forms
 pub mod Told
 pub mod Outcomes
 pub mod Rests
+pub mod Readings

@@ -4,4 +4,5 @@ pub mod Fetching
 pub mod Stops
 pub mod Delivery
 pub mod Ends
+pub mod Reading
 pub mod Program

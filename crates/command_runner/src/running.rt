@@ -1,5 +1,5 @@
 //! The run of a command.
-ghost use Rattle.std.specs.Prelude.{◌≡◌, ◌⊎◌, ◌≤◌, List, length, map, string_bytes, IsTrue, IfOk, IfErr, OnErr, IsErrOf};
+ghost use Rattle.std.specs.Prelude.{◌≡◌, ◌⊎◌, ◌≤◌, List, ℕ, length, map, string_bytes, IsTrue, IfOk, IfErr, OnErr, IsErrOf};
 ghost use Rattle.std.specs.Vec.{vec_items};
 ghost use Rattle.brake_io.specs.Rose.{Rose};
 ghost use Rattle.brake_io.specs.Meanings.{NoCountFalls};
@@ -74,6 +74,25 @@ fn long_refused(alloc: Global, number: u8) -> Result<Answer, AllocError>
     )
 }
 
+/// The answer where the files aren't fetched for this. A refusal is the status of a run that is cut
+/// short.
+pub fn answer_to_stop(alloc: Global, stop: FetchStop) -> Result<Answer, Status>
+    ensures answer { IfOk result (λ answer. (number : ℕ) × (stop ≡ FetchStop.TooLong number)
+        × (answer_data answer ≡ long_refused number)) }
+    ensures status { IfOk result (λ answer. ¬ IsCutShort answer.status) }
+    ensures err { IfErr result IsCutShort }
+    ensures fault { IsErrOf result Status.Fault → stop ≡ FetchStop.Fault }
+{
+    match stop {
+        FetchStop::TooLong(number) => match long_refused(alloc, number) {
+            Ok(answer) => Ok(answer),
+            Err(_) => Err(Status::NoMemory),
+        },
+        FetchStop::Fault => Err(Status::Fault),
+        FetchStop::NoMemory => Err(Status::NoMemory),
+    }
+}
+
 /// Fetches the files of a command and has it answer. What is given back of the answer is left to
 /// store and to put. A refusal is the status of a run that is cut short.
 fn answer_of<C: Command, H: Shelf>(
@@ -110,12 +129,7 @@ fn answer_of<C: Command, H: Shelf>(
             Err(StoreFault::Failed) => Err(Status::Fault),
             Err(StoreFault::NoMemory) => Err(Status::NoMemory),
         },
-        Err(FetchStop::TooLong(number)) => match long_refused(alloc, number) {
-            Ok(answer) => Ok(answer),
-            Err(_) => Err(Status::NoMemory),
-        },
-        Err(FetchStop::Fault) => Err(Status::Fault),
-        Err(FetchStop::NoMemory) => Err(Status::NoMemory),
+        Err(stop) => answer_to_stop(alloc, stop),
     }
 }
 

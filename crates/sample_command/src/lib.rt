@@ -97,6 +97,3 @@ pub fn run_sample<H: Shelf, K: Sink>(
 {
     run(alloc, &sample, words, shelf, out)
 }
-
-#[cfg(test)]
-mod tests;

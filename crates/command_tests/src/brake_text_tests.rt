@@ -1,6 +1,6 @@
 //! Each call once, on texts from outside.
 
-use crate::*;
+use brake_text::{Lines, number, put_number, put_word, signed};
 use std::test::Fail;
 
 #[test]

@@ -1,8 +1,8 @@
 //! Both answers, and a run that fails at its store or in its text.
 
-use crate::{Sample, run_sample};
 use brake_io::{MemShelf, MemSink};
 use command_runner::{Command, Status, is_form};
+use sample_command::{Sample, run_sample};
 use std::test::Fail;
 
 #[test]

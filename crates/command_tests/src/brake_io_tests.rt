@@ -1,33 +1,44 @@
 //! The shelves and sinks, once each.
 ghost use Rattle.std.specs.Prelude.{◌+◌, ◌^◌, ◌<◌, None};
 
-use crate::whole::write_whole;
-use crate::*;
+use brake_io::{
+    DirShelf, FetchFault, MemShelf, MemSink, PutFault, Reader, Shelf, Sink, StdSink, StoreFault,
+    Window, close_window, open_window,
+};
 use std::alloc::{AllocError, Global};
+use std::cell::RefCell;
+use std::fmt::Display;
 use std::fs::{self, Permissions};
-use std::io::{self, Write};
+use std::io::{self, ErrorKind};
 use std::os::unix::fs::{PermissionsExt, symlink};
 use std::test::Fail;
 
-/// A writer that takes at most two bytes at a time, and no more than so many.
+/// An output that takes at most two bytes at a time, and no more than so many.
 #[derive(Drop)]
 struct Narrow {
-    taken: Vec<u8>,
+    taken: RefCell<Vec<u8>>,
     room: usize,
 }
 
-impl Write for Narrow {
-    fn write(&mut self, bytes: &[u8]) -> std::io::Result<usize> {
-        let count = bytes
-            .len()
-            .min(2)
-            .min(self.room.saturating_sub(self.taken.len()));
-        self.taken.extend_from_slice(&bytes[..count])?;
-        Ok(count)
+impl Print for Narrow {
+    fn print<D: Display + Drop>(&self, _: D) -> io::Result<()> {
+        Err(ErrorKind::Unsupported.into())
     }
 
-    fn flush(&mut self) -> std::io::Result<()> {
-        Ok(())
+    fn println<D: Display + Drop>(&self, _: D) -> io::Result<()> {
+        Err(ErrorKind::Unsupported.into())
+    }
+
+    fn write_all(&self, _: &[u8]) -> io::Result<()> {
+        Err(ErrorKind::Unsupported.into())
+    }
+
+    fn write_some(&self, bytes: &[u8]) -> io::Result<usize> {
+        let mut taken = self.taken.try_borrow_mut()?;
+        let room = self.room.saturating_sub(taken.len());
+        let count = bytes.len().min(2).min(room);
+        taken.extend_from_slice(&bytes[..count])?;
+        Ok(count)
     }
 }
 
@@ -108,13 +119,17 @@ fn links_and_devices_are_written_in_place(rt: HostRuntime) -> Result<(), Fail> {
 
 #[test]
 fn an_output_that_takes_part_of_a_piece(rt: HostRuntime) {
-    for (room, is_whole, text) in [(5, true, "hello"), (4, false, "hell"), (3, false, "hel")] {
-        let mut out = Narrow {
-            taken: Vec::new(rt.alloc()),
+    for (room, outcome, text) in [
+        (5, Ok(()), "hello"),
+        (4, Err(PutFault::Failed), "hell"),
+        (3, Err(PutFault::Failed), "hel"),
+    ] {
+        let out = Narrow {
+            taken: RefCell::new(Vec::new(rt.alloc())),
             room,
         };
-        assert_eq!(rt; write_whole(&mut out, b"hello"), is_whole);
-        assert_eq!(rt; out.taken.as_slice(), text.as_bytes());
+        assert_eq!(rt; StdSink::new(&out).put(b"hello"), outcome);
+        assert_eq!(rt; out.taken.into_inner().as_slice(), text.as_bytes());
     }
 }
 
@@ -256,6 +271,41 @@ fn a_text_that_ends_otherwise_than_it_began(rt: HostRuntime) -> Result<(), Fail>
         assert_eq!(rt; window.unread().len(), (parts * 5_000).min(10_000));
         assert_eq!(rt; window.finish(), outcome);
     }
+    Ok(())
+}
+
+/// A line that is longer than the buffer, and the next one behind it.
+#[test]
+fn a_line_longer_than_the_buffer(rt: HostRuntime) -> Result<(), Fail> {
+    let alloc = rt.alloc();
+    let mut shelf = MemShelf::new(alloc);
+    let mut text = varied(alloc, 700_000)?;
+    for byte in text.iter_mut() {
+        if *byte == b'\n' {
+            *byte = b'x';
+        }
+    }
+    if let Some(byte) = text.get_mut(600_000) {
+        *byte = b'\n';
+    }
+    shelf.add("note", &text)?;
+    let window = open_window(alloc, &mut shelf, "note", 700_000);
+    let mut window = window.ok().ok_or("a file")?;
+    window.fill();
+    let begun = window.unread().len().min(5);
+    window.pass(begun);
+    window.fill_line(alloc)?;
+    let count = window.unread().len().min(700_000);
+    assert!(rt; 600_000 - 5 + 1 < count);
+    assert_eq!(rt; Some(window.unread()), text.get(5..5 + count));
+    let line = window.unread().len().min(600_000 - 5 + 1);
+    window.pass(line);
+    window.fill_more(alloc)?;
+    window.fill_more(alloc)?;
+    assert_eq!(rt; Some(window.unread()), text.get(600_001..));
+    window.fill_line(alloc)?;
+    assert!(rt; window.is_over());
+    assert_eq!(rt; close_window(&mut shelf, window), Ok(()));
     Ok(())
 }
 
