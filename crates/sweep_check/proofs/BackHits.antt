@@ -1,5 +1,5 @@
 -- The first hit of the boxes of the back half, box by box.
-use Rattle.std.proofs.Common.{◌≡◌, ◌⊎◌, ◌∙◌, inl, inr, ℕ, ◌<◌, ◌≤◌, List, [], ◌∷◌, length, get_or, Option, Some, None, refl, sym, ap, subst, arith}
+use Rattle.std.proofs.Common.{◌≡◌, ◌⊎◌, ◌∙◌, inl, inr, ℕ, ◌<◌, ◌≤◌, List, [], ◌∷◌, length, get_or, Option, Some, None, refl, sym, ap, subst, arith, true≢false}
 use Rattle.std.proofs.Math.Nat.{eq-or-lt_of_le}
 use Rattle.std.proofs.lemmas.Bool.{cases_lt}
 use Rattle.std.proofs.lemmas.List.{get_or_default}
@@ -13,6 +13,7 @@ use Rattle.job_setup.proofs.BoxByBox.{all_flat_map}
 use Rattle.sweep_check.specs.declared.pieces.Piece.{Piece}
 use Rattle.sweep_check.specs.declared.hits.Hit.{Hit}
 use Rattle.sweep_check.specs.Pieces.{box_pieces, if_back, back_pieces}
+use Rattle.sweep_check.specs.Along.{AreApart}
 use Rattle.sweep_check.specs.Hits.{IsPieceMet, IsFirstHit, hit_place}
 use Rattle.sweep_check.proofs.Some.{any_flat_from}
 use Rattle.sweep_check.proofs.FirstHits.{EachBefore}
@@ -28,6 +29,10 @@ IsUnmet obstacles piece = All (λ obstacle. IsPieceMet piece obstacle → ⊥) o
 -- none of them meets an obstacle
 abbrev pub AreUnmet : JobData → List Obstacle → PoseBox → Type 0
 AreUnmet job obstacles box = All (IsUnmet obstacles) (pieces_at job box)
+
+-- a box that lies apart from all obstacles has no piece that meets one
+pub apart_unmet : (job : JobData) (box : PoseBox) (obstacles : List Obstacle) → AreApart box obstacles → All (IsUnmet obstacles) (box_pieces job Fourth box)
+apart_unmet job box obstacles apart = all_of_box (IsUnmet obstacles) job Fourth box (λ quarter rect is. λ k d inside met. true≢false (sym met.near.along ∙ apart k d inside))
 
 pub none_met : (job : JobData) (obstacles : List Obstacle) (box : PoseBox) (found : Option Hit) → found ≡ None → IsFirstHit (λ o. o.index) IsPieceMet (pieces_at job box) obstacles found → AreUnmet job obstacles box
 none_met job obstacles box found is first = subst (λ (o : Option Hit). IsFirstHit (λ x. x.index) IsPieceMet (pieces_at job box) obstacles o) is first

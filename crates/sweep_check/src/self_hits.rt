@@ -1,12 +1,14 @@
 //! The two halves of the part against each other.
-ghost use Rattle.std.specs.Prelude.{◌≡◌, ◌+◌, ◌<◌, ◌≤◌, ◌++◌, [], ◌∷◌, length, All, AllPairs};
+ghost use Rattle.std.specs.Prelude.{◌≡◌, ◌↔◌, ◌+◌, ◌<◌, ◌≤◌, ◌++◌, [], ◌∷◌, length, IsTrue, All, AllPairs};
 ghost use Rattle.sector_geom.specs.declared.sector.Sweep.TheVariants.{Fourth};
 ghost use Rattle.job_setup.specs.ValidJob.{IsJob};
+ghost use Rattle.sweep_check.specs.Along.{is_along, AreApart};
 ghost use Rattle.sweep_check.specs.Hits.{IsPieceMet, IsFirstHit, IsSolidObstacle};
 ghost use Rattle.sweep_check.specs.Pieces.{IsSolidBox, AreSolidBoxes, box_pieces, if_back, if_front, back_pieces, front_obstacle, front_obstacles};
 
 use crate::hits::{Hit, first_hit};
 use crate::pieces::{Piece, across, box_pieces, put_pieces, widening};
+use crate::ranges::is_overlap;
 use arrayvec::ArrayVec;
 use brake_base::Half;
 use fold_boxes::PoseBox;
@@ -66,9 +68,42 @@ fn first_of_back(job: &Job, body: &PoseBox, obstacles: &[Obstacle]) -> Option<Hi
         (if_back body.now.half (box_pieces job.now Fourth body.now)) obstacles.now result }
 {
     match body.half {
-        Half::Back => first_hit(box_pieces(job, Sweep::Fourth, body).as_slice(), obstacles),
+        Half::Back => first_box_hit(job, body, obstacles),
         Half::Front => None,
     }
+}
+
+/// The first piece of a box, swept by a fourth, that meets an obstacle. The cheap test comes first.
+fn first_box_hit(job: &Job, body: &PoseBox, obstacles: &[Obstacle]) -> Option<Hit>
+    requires body { IsSolidBox body.now }
+    requires solid { All IsSolidObstacle obstacles.now }
+    requires ascend { AllPairs (λ a b. a.index < b.index) obstacles.now }
+    ensures { IsFirstHit (λ obstacle. obstacle.index) IsPieceMet
+        (box_pieces job.now Fourth body.now) obstacles.now result }
+{
+    if is_apart(body, obstacles) {
+        return None;
+    }
+    first_hit(box_pieces(job, Sweep::Fourth, body).as_slice(), obstacles)
+}
+
+/// Whether no obstacle lies where the box does along the bed.
+fn is_apart(body: &PoseBox, obstacles: &[Obstacle]) -> bool
+    ensures { IsTrue result ↔ AreApart body.now obstacles.now }
+{
+    for obstacle in obstacles {
+        if is_along(body, obstacle) {
+            return false;
+        }
+    }
+    true
+}
+
+/// Whether the ranges of the box and the obstacle along the bed share an interior point.
+fn is_along(body: &PoseBox, obstacle: &Obstacle) -> bool
+    ensures { result ≡ is_along body.now obstacle.now }
+{
+    is_overlap((body.body.lo.x, body.body.hi.x), (obstacle.x0, obstacle.x1))
 }
 
 /// The boxes of the front half as obstacles of the back half.

@@ -1,23 +1,12 @@
-use Rattle.std.proofs.Common.{◌∙◌, sym, subst, List}
-use Rattle.std.specs.Prelude.{All, AllPairs}
+use Rattle.std.proofs.Common.{sym, subst}
 use Rattle.brake_base.specs.declared.stroke.Half.{Half}
 use Rattle.sector_geom.specs.declared.sector.Sweep.TheVariants.{Fourth}
 use Rattle.job_setup.specs.declared.obstacle.Obstacle.{Obstacle}
-use Rattle.sweep_check.specs.declared.pieces.Piece.{Piece}
 use Rattle.sweep_check.specs.Pieces.{box_pieces, if_back}
-use Rattle.sweep_check.specs.Hits.{IsCovered, PieceIsBefore, IsPieceMet, IsFirstHit}
-use Rattle.sweep_check.proofs.PieceLists.{box_kept, box_ascends}
+use Rattle.sweep_check.specs.Hits.{IsPieceMet, IsFirstHit}
 use Rattle.sweep_check.proofs.self_hits.first_of_back.Goals as goal
-
-pub first_hit-requires-clause-covered : goal.first_hit-requires-clause-covered
-first_hit-requires-clause-covered c =
-    subst (All IsCovered) (sym (c.as_slice.ensures.value ∙ c.box_pieces.ensures.value)) (box_kept c.args.job.now Fourth c.args.body.now c.box_pieces.ensures.valid c.requires.body)
-
-pub first_hit-requires-clause-pieces_ascend : goal.first_hit-requires-clause-pieces_ascend
-first_hit-requires-clause-pieces_ascend c = subst (AllPairs PieceIsBefore) (sym (c.as_slice.ensures.value ∙ c.box_pieces.ensures.value)) (box_ascends c.args.job.now Fourth c.args.body.now)
 
 pub returns-in-Back : goal.returns-in-Back
 returns-in-Back c =
     let box = c.args.body.now in
-    subst (λ (half : Half). IsFirstHit (λ (o : Obstacle). o.index) IsPieceMet (if_back half (box_pieces c.args.job.now Fourth box)) c.args.obstacles.now c.first_hit.result) (sym c.in-Back.is)
-    (subst (λ (ps : List Piece). IsFirstHit (λ (o : Obstacle). o.index) IsPieceMet ps c.args.obstacles.now c.first_hit.result) (c.as_slice.ensures.value ∙ c.box_pieces.ensures.value) c.first_hit.ensures)
+    subst (λ (half : Half). IsFirstHit (λ (o : Obstacle). o.index) IsPieceMet (if_back half (box_pieces c.args.job.now Fourth box)) c.args.obstacles.now c.first_box_hit.result) (sym c.in-Back.is) c.first_box_hit.ensures
