@@ -6,6 +6,3 @@ mod projection;
 
 pub use order::{Order, must_precede, painting_order};
 pub use projection::{Face, FaceKind, drawn, faces_of};
-
-#[cfg(test)]
-mod tests;

@@ -3,8 +3,6 @@
 #![tactic(auto)]
 
 mod choice;
-#[cfg(test)]
-mod choice_tests;
 mod dead_states;
 mod divisor;
 mod grid;

@@ -4,20 +4,14 @@
 
 pub mod bounds;
 mod cheapest;
-#[cfg(test)]
-mod cheapest_tests;
 mod checks;
 mod fault;
 mod fault_numbers;
 mod fitting;
-#[cfg(test)]
-mod fitting_tests;
 mod made;
 mod outcome;
 mod reader;
 mod setups;
-#[cfg(test)]
-mod setups_file_tests;
 mod stages;
 mod wants;
 

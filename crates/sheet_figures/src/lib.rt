@@ -39,8 +39,3 @@ pub use card::put_card;
 pub use front::put_front;
 pub use refusal::put_refusal;
 pub use sides::put_sides;
-
-#[cfg(test)]
-mod tests;
-#[cfg(test)]
-mod worked;

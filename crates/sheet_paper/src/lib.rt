@@ -9,8 +9,6 @@ mod marks;
 mod scale;
 mod shapes;
 mod spreading;
-#[cfg(test)]
-mod tests;
 mod window;
 
 pub use dimension::put_dimension;

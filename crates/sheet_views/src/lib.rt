@@ -18,6 +18,3 @@ pub use part_views::{DrawnBox, DrawnBoxes};
 pub use side_view::{Point, across, side_area};
 pub use stations::{Tool, Tools, die_boxes, lower_tools, upper_tools};
 pub use swept::{Struck, Swept, swept_by};
-
-#[cfg(test)]
-mod tests;

@@ -16,6 +16,3 @@ pub use lists::{mm, put_mm, put_plural, put_seconds, separator};
 pub use reasons::{kind_words, put_reason};
 pub use tools::{put_die, put_lower, put_punch, put_upper};
 pub use turns::{Movement, Movements, looks, movements_of, put_turn};
-
-#[cfg(test)]
-mod tests;

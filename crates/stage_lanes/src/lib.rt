@@ -7,8 +7,6 @@ mod codes;
 mod costs;
 mod reasons;
 mod stages;
-#[cfg(test)]
-mod tests;
 
 pub use actions::ActionSet;
 pub use codes::StageCodes;

@@ -9,6 +9,3 @@ mod form;
 pub use decimal::put_decimal;
 pub use escape::put_escaped;
 pub use form::{Hole, put_line};
-
-#[cfg(test)]
-mod tests;

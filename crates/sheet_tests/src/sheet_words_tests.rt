@@ -1,7 +1,7 @@
 //! Words, as a worked page has them.
 
-use crate::*;
 use brake_base::Turn;
+use sheet_words::{looks, movements_of, put_mm, put_plural, put_seconds, put_turn, separator};
 use std::test::Fail;
 
 #[test]

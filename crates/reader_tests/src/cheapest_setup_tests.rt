@@ -1,7 +1,7 @@
 //! The cheapest of tried setups.
 
-use crate::{Tried, best};
 use brake_base::Worth;
+use setup_choice::{Tried, best};
 use std::test::Fail;
 
 const NONE: Tried = Tried::Planned(Worth::Blocked);

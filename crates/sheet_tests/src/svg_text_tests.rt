@@ -1,7 +1,7 @@
 //! Each call, on texts from outside.
 
-use crate::*;
 use std::test::Fail;
+use svg_text::{Hole, put_decimal, put_line};
 
 #[test]
 fn decimals(rt: HostRuntime) -> Result<(), Fail> {

@@ -1,41 +1,15 @@
 //! The first stroke of the U channel, whose numbers stand on its drawn sheet.
 
-use crate::{
+use crate::first_stroke::{south, start, u_channel};
+use brake_base::{Box3, Gauge, Half, Quarter, Reason, Rect, V3};
+use handling_cost::is_action_at;
+use machine_file::Fixed;
+use sector_geom::{Sector, Sweep};
+use sheet_views::{
     DrawnBox, Finger, Fingers, Hazard, Struck, Swept, Tool, Warning, die_boxes, drawing_of,
     fingers_at, lower_tools, side_area, swept_by, upper_tools, warnings,
 };
-use brake_base::{Action, Back, Box3, Gauge, Half, Key, Mask, Quarter, Reason, Rect, Turn, V3};
-use common_files::{MACHINE, STAGE, TOOLS, U_CHANNEL};
-use handling_cost::is_action_at;
-use job_setup::Job;
-use machine_file::Fixed;
-use sector_geom::{Sector, Sweep};
-use std::alloc::Global;
 use std::test::Fail;
-use test_jobs::job_of;
-
-fn u_channel(alloc: Global) -> Result<Job, Fail> {
-    let machine = format!(in alloc; "{MACHINE}{STAGE}")?;
-    job_of(alloc, U_CHANNEL, TOOLS, &machine)
-}
-
-/// The start, where no bend is folded.
-fn start() -> Key {
-    Key {
-        mask: Mask(0),
-        attitude: Turn::from_number(0),
-        stage: 0,
-    }
-}
-
-/// The south flange, with the web at the back.
-fn south() -> Action {
-    Action {
-        bend: 2,
-        back: Back::Parent,
-        stage: 0,
-    }
-}
 
 fn rect(y0: i64, y1: i64, z0: i64, z1: i64) -> Rect {
     Rect { y0, y1, z0, z1 }

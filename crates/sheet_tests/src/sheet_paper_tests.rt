@@ -3,7 +3,11 @@
 ghost use Rattle.sheet_paper.specs.Windows.{IsWindow};
 ghost use Rattle.sheet_paper.specs.FigureLines.{IsLabel, label_data};
 
-use crate::*;
+use sheet_paper::{
+    Area, Dashes, Label, Paper, Window, least_scale, put_circle, put_dimension, put_figure,
+    put_figure_end, put_frame, put_label, put_label_upright, put_leader, put_line_between,
+    put_noted, put_noted_upright, put_shapes_end, put_triangle, spread,
+};
 use std::test::Fail;
 
 #[test]

@@ -3,7 +3,7 @@ ghost use Rattle.std.specs.Prelude.{◌↔◌, IsTrue, All};
 ghost use Rattle.tool_library.specs.Tools.{tools_data};
 ghost use Rattle.piece_pick.specs.Choice.{IsWant};
 
-use crate::{Picked, Want, pick};
+use piece_pick::{Picked, Want, pick};
 use std::alloc::Global;
 use std::test::Fail;
 use tool_library::{Tools, read_tools};

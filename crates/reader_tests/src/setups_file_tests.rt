@@ -1,6 +1,6 @@
 //! A whole setups file, and what becomes of it when a line is changed.
 
-use crate::{OneSetup, SetupFault, read_setups};
+use setup_choice::{OneSetup, SetupFault, read_setups};
 use std::alloc::{AllocError, Global};
 use std::test::Fail;
 

@@ -1,6 +1,6 @@
 //! The drawn places of a few points.
 
-use crate::*;
+use box_paint::drawn;
 use brake_base::V3;
 use std::test::Fail;
 

@@ -1,5 +1,7 @@
-use crate::{ActionSet, BLOCKED, FREE, StageCodes, StageCosts, StageSet, code_of, reason_of};
+//! The lanes past the last stage, costs, sets and codes worked out by hand.
+
 use brake_base::{Action, Back, Mask, Quarter, Reason};
+use stage_lanes::{ActionSet, BLOCKED, FREE, StageCodes, StageCosts, StageSet, code_of, reason_of};
 
 fn costs() -> StageCosts {
     StageCosts::of(&[50, 20, 20, 70, 90, 60])

@@ -3,7 +3,7 @@ use Rattle.std.proofs.lemmas.List.{length-map}
 use Rattle.job_setup.proofs.Lists.{all_at}
 use Rattle.setup_choice.specs.declared.setups.OneSetup.{OneSetup}
 use Rattle.setup_choice.specs.Setups.{one_setup_data, IsOneSetup}
-use Rattle.setup_choice.proofs.fitting_tests.fitted.Goals as goal
+use Rattle.reader_tests.proofs.setup_fitting_tests.fitted.Goals as goal
 
 pub fit-requires-clause-setup : goal.fit-requires-clause-setup
 fit-requires-clause-setup c =

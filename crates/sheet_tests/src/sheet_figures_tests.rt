@@ -1,38 +1,14 @@
 //! The first stroke of the U channel, as its worked page has it.
 
+use crate::first_stroke::{south, start, u_channel};
 use crate::worked::{ABOVE, AFTER, BED, BEFORE, BLANK, CARD, FRONT, PART_AFTER, PART_BEFORE};
-use crate::*;
-use brake_base::{Action, Back, Gauge, Key, Mask, Turn};
-use common_files::{MACHINE, STAGE, TOOLS, U_CHANNEL};
+use brake_base::Gauge;
 use handling_cost::is_action_at;
-use job_setup::Job;
+use sheet_figures::{
+    flat_blank, put_above, put_bed, put_blank, put_bodies, put_card, put_front, put_sides,
+};
 use sheet_views::{drawing_of, fingers_at};
-use std::alloc::Global;
 use std::test::Fail;
-use test_jobs::job_of;
-
-fn u_channel(alloc: Global) -> Result<Job, Fail> {
-    let machine = format!(in alloc; "{MACHINE}{STAGE}")?;
-    job_of(alloc, U_CHANNEL, TOOLS, &machine)
-}
-
-/// The start, where no bend is folded.
-fn start() -> Key {
-    Key {
-        mask: Mask(0),
-        attitude: Turn::from_number(0),
-        stage: 0,
-    }
-}
-
-/// The south flange, with the web at the back.
-fn south() -> Action {
-    Action {
-        bend: 2,
-        back: Back::Parent,
-        stage: 0,
-    }
-}
 
 #[test]
 fn flat(rt: HostRuntime) -> Result<(), Fail> {
