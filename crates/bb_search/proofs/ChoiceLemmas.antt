@@ -1,5 +1,5 @@
 -- What a key's worth is by what is known, from the sums and the slacks by place.
-use Rattle.std.proofs.Common.{◌≡◌, inl, inr, ℕ, ◌+◌, ◌/◌, ◌%◌, ◌^◌, ◌<◌, ◌≤◌}
+use Rattle.std.proofs.Common.{◌≡◌, inl, inr, ℕ, ◌+◌, ◌/◌, ◌%◌, ◌<◌, ◌≤◌}
 use Rattle.std.proofs.Common.{true, false, arith, sym, ◌∙◌, ap, subst}
 use Rattle.std.specs.Prelude.{◌↔◌, IsTrue}
 use Rattle.std.proofs.lemmas.Bool.{cases_lt}
@@ -23,6 +23,7 @@ use Rattle.row_pool.proofs.NumberLemmas.{action_at, action_among, number_is}
 use Rattle.bb_search.specs.declared.known.KnownActions.{KnownActions}
 use Rattle.bb_search.specs.declared.settle.Choice.{Choice}
 use Rattle.bb_search.specs.LaneSums.{AreSums}
+use Rattle.bb_search.specs.Totals.{HaveRoom}
 use Rattle.bb_search.specs.KnownActions.{slack_of, IsChoice, HasSmallSlack}
 use Rattle.bb_search.proofs.KnownLemmas.{among_lanes, place_in}
 
@@ -133,12 +134,11 @@ module _ (job : JobData) (is_job : IsJob job) (key : Key) (leads : Mask)
             (rest (place_of action) (place_in job is_job key action here) (of_lead action here) absent);
       }
 
--- the sums and the slacks have room for their sums
-pub sums_fit :
+-- the sums and the slacks have room for their totals
+pub totals_fit :
     (job : JobData) (key : Key) (leads : Mask) (sums : ActionCosts) (at : KnownActions)
-    → AreSums job key leads sums → HasSmallSlack at → (place : ℕ) → place < 192
-    → IsTrue (is_of leads place) → cost_at sums place + cost_at at.slack place < 2 ^ 32
-sums_fit job key leads sums at sums_are small place within lead =
+    → AreSums job key leads sums → HasSmallSlack at → HaveRoom sums at.slack
+totals_fit job key leads sums at sums_are small place within =
     let sum = sums_are.small place within in
     let slack = small place within in
     omega (arith, sum, slack)

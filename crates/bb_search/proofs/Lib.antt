@@ -8,7 +8,9 @@ pub mod ToldLemmas
 pub mod SetPlaces
 pub mod KnownTables
 pub mod ChoiceLemmas
+pub mod GroupLemmas
 pub mod LaneSumLemmas
+pub mod TotalLemmas
 pub mod BendSumLemmas
 pub mod Measures
 pub mod OpenRowLemmas

@@ -3,6 +3,8 @@ pub mod Orders
 pub mod Tested
 pub mod Settling
 pub mod LaneSums
+pub mod Totals
+pub mod Groups
 pub mod KnownActions
 pub mod KnownSets
 pub mod OpenRows

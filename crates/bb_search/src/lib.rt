@@ -13,6 +13,7 @@ mod reach;
 mod search;
 mod search_table;
 mod settle;
+mod totals;
 mod written;
 
 pub use outcome::Outcome;

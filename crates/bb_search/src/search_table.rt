@@ -1,7 +1,8 @@
 //! What is kept of each set of folded bends, and what a test of an action tells.
 ghost use Rattle.std.specs.Prelude.{◌≡◌, ◌≢◌, ℕ, ◌*◌, ◌<◌, ◌≤◌, ◌^◌, IfOk, IsTrue, None, Some, length, slice_get, slice_index};
 ghost use Rattle.row_pool.specs.Rows.{empty_pool};
-ghost use Rattle.job_setup.specs.Setup.{shape_of, bend_count, stage_count};
+ghost use Rattle.brake_base.specs.Masks.{union};
+ghost use Rattle.job_setup.specs.Setup.{JobData, shape_of, bend_count, stage_count};
 ghost use Rattle.job_setup.specs.ValidJob.{IsJob};
 ghost use Rattle.brake_base.specs.declared.stroke.Gauge.{Gauge};
 ghost use Rattle.handling_cost.specs.StepCost.{IsKeyOf, IsActionAt};
@@ -10,7 +11,8 @@ ghost use Rattle.handling_cost.specs.Bound.{bound_of};
 ghost use Rattle.bb_search.specs.Tested.{IsTested};
 ghost use Rattle.set_facts.specs.Facts.{AreLeads, HasNoneBeyond};
 ghost use Rattle.set_facts.specs.LaneFacts.{HasWays};
-ghost use Rattle.job_setup.specs.StrokeGroup.{is_lead};
+ghost use Rattle.job_setup.specs.StrokeGroup.{group_of, is_lead};
+ghost use Rattle.bb_search.specs.Groups.{AreGroups};
 ghost use Rattle.bb_search.specs.KnownActions.{TableData, AreKnown, IsRefusal, IsLearnt, IsChangedAt};
 ghost use Rattle.action_lanes.specs.Costs.{AreCosts};
 ghost use Rattle.bb_search.specs.LaneSums.{AreSums, AreBendSums, AreStillSums, AreSideSums};
@@ -42,18 +44,21 @@ pub struct SearchTable {
     strokes: StrokeTable,
     facts: FactTable,
     lanes: LaneFacts,
+    /// The bends of the stroke of each bend where none is folded.
+    groups: [Mask; 12],
     known: KnownSets,
 }
 
 impl Model for SearchTable {
     ghost use Rattle.std.specs.Prelude.{◌≡◌};
     ghost use Rattle.bb_search.specs.KnownActions.{TableData};
+    ghost use Rattle.bb_search.specs.Groups.{AreGroups};
 
     ghost Value = { TableData };
 
     ghost view = { λ t. record { job = t.strokes; known = t.known } };
 
-    ghost invariant = { λ t. (t.facts ≡ t.strokes) × (t.lanes ≡ t.strokes) };
+    ghost invariant = { λ t. (t.facts ≡ t.strokes) × (t.lanes ≡ t.strokes) × AreGroups t.strokes t.groups };
 }
 
 /// The number of the sets of a job's bends.
@@ -63,6 +68,29 @@ fn set_count(job: &Job) -> usize
     ensures valid { IsJob job.now }
 {
     1 << job.bends()
+}
+
+/// The bends of the stroke of each bend of a job where none is folded.
+fn groups_of(job: &Job) -> [Mask; 12]
+    ensures groups { AreGroups job.now result }
+    ensures valid { IsJob job.now }
+{
+    job.recall_valid();
+    let mut groups = [Mask::empty(); 12];
+    for bend in 1..job.bends() + 1 {
+        groups[usize::from(bend - 1)] = group(job, Mask::empty(), bend);
+    }
+    groups
+}
+
+/// The set after the stroke of a bend, by the groups of the job's bends where none is folded.
+fn folded_after(groups: &[Mask; 12], mask: Mask, bend: u8) -> Mask
+    requires first { 1 ≤ bend }
+    requires last { bend ≤ 12 }
+    ensures { (job : JobData) → AreGroups job groups.now → bend ≤ bend_count job
+        → result ≡ union mask (group_of job mask bend) }
+{
+    mask.union(groups[usize::from(bend - 1)])
 }
 
 /// How the part is held and gauged in a stroke that no reason refuses.
@@ -95,6 +123,7 @@ impl SearchTable {
             strokes,
             facts,
             lanes,
+            groups: groups_of(job),
             known,
         })
     }
@@ -158,8 +187,8 @@ impl SearchTable {
     {
         let onward = self.onward(job, key, bend, ways);
         let parent = self.turned(job, key, bend, Back::Parent, onward);
-        sums.set_side(bend, Back::Parent, parent);
         let child = self.turned(job, key, bend, Back::Child, onward);
+        sums.set_side(bend, Back::Parent, parent);
         sums.set_side(bend, Back::Child, child);
     }
 
@@ -179,7 +208,7 @@ impl SearchTable {
         job.recall_valid();
         let after = self
             .lanes
-            .bounds(key.mask.union(group(job, key.mask, bend)));
+            .bounds(folded_after(&self.groups, key.mask, bend));
         let stroke = StageCosts::all(job.setup().cost.stroke as u32);
         after.plus(ways).plus(stroke)
     }

@@ -19,7 +19,8 @@ ghost use Rattle.bb_search.specs.LaneSums.{AreSums};
 ghost use Rattle.bb_search.specs.OpenRows.{IsSettlingBy, IsOpenFor, IsKnownSo, HasChanged, IsSameAbove, unknown_count};
 
 use crate::search_table::{SearchTable, Tested};
-use action_lanes::{ActionCosts, tested_by};
+use crate::totals::{least_total, tested_for};
+use action_lanes::ActionCosts;
 use bend_state::BendState;
 use brake_base::{Action, Key, Mask, Place, Turn, Worth, action_number};
 use handling_cost::is_full;
@@ -179,8 +180,8 @@ fn choose(table: &SearchTable, key: &Key, leads: Mask, sums: &ActionCosts) -> Ch
     ensures { IsKnownSo table.now key.now.mask (λ at. IsChoice table.now.job key.now at result) }
 {
     let slack = &table.known(key.mask).slack;
-    let best = sums.least_sum(slack, leads);
-    let tested = tested_by(sums, slack, leads, best);
+    let best = least_total(sums, slack, leads);
+    let tested = tested_for(sums, slack, leads, best);
     Choice { best, tested }
 }
 
