@@ -4,8 +4,6 @@
 
 mod costs;
 mod tested;
-#[cfg(test)]
-mod tests;
 
 pub use costs::ActionCosts;
 pub use tested::{tested_actions, tested_by};

@@ -1,32 +1,38 @@
 -- From what the calls on tables say to what the commands answer.
-use Rattle.std.proofs.Common.{◌≡◌, ◌⊎◌, inl, inr, ℕ, List, [], ◌∷◌, ◌∙◌, Result, Ok, Err, refl, sym, subst}
+use Rattle.std.proofs.Common.{◌≡◌, ◌⊎◌, inl, inr, ℕ, List, [], ◌∷◌, ◌++◌, ◌∙◌, Result, Ok, Err, refl, sym, subst}
 use Rattle.std.specs.Prelude.{codes, IfOk, OnOk, OnErr}
 use Rattle.job_setup.specs.Setup.{JobData}
 use Rattle.plan_cert.specs.declared.item.CertFault.{CertFault}
 use Rattle.plan_cert.specs.declared.item.CertFault.TheVariants as cert
 use Rattle.cert_merge.specs.declared.checked.TableFault.{TableFault}
 use Rattle.cert_merge.specs.Table.{TableData, TableFileData, IsTable, IsClosedTable}
+use Rattle.cert_merge.specs.declared.proved.ProveFault.{ProveFault}
+use Rattle.cert_merge.specs.declared.proved.ProveFault.TheVariants as prove
+use Rattle.cert_merge.specs.declared.proved.ProvedTable.{ProvedTable}
+use Rattle.cert_merge.specs.ProvedTable.{IsCheckedTable, IsProvedText, ProvesText}
 use Rattle.cert_merge.specs.TableTexts.{table_file_of, empty_table, IsTextOfTable}
 use Rattle.cert_merge.specs.TableChecks.{IsTableFault}
 use Rattle.cert_merge.specs.Merged.{IsMerged, KeepsForm, KeepsClosed}
 use Rattle.cert_merge.specs.declared.settled_text.SettledText.{SettledText}
 use Rattle.cert_merge.specs.Settled.{IsSettled, StaysClosed, ProvesLeast}
 use Rattle.cert_merge.specs.SettledText.{IsSettledText}
+use Rattle.cert_merge.proofs.TableExact.{one_table}
 use Rattle.cert_merge.proofs.SettledLaws.{empty_closed}
 use Rattle.cert_merge.proofs.TableChecking.{closed_is_true}
 use Rattle.command_runner.specs.declared.status.Status.TheVariants as status
 use Rattle.brake_io.specs.declared.shelf.StoreFault.{StoreFault}
 use Rattle.brake_io.specs.Meanings.{ShelfState}
 use Rattle.command_runner.specs.declared.answer.Answer.{Answer}
-use Rattle.command_runner.specs.Answers.{AnswerData, answer_data, one_text, one_stored, refusal, after_storing}
+use Rattle.command_runner.specs.Answers.{StoredData, AnswerData, answer_data, one_text, one_stored, refusal, after_storing}
 use Rattle.command_runner.specs.Delivery.{AreStored, AreStoredUpTo}
 use Rattle.command_runner.specs.Ends.{StoresFirst, StoresBeginning}
 use Rattle.brake_cli.specs.PlanAnswer.{IsStoredOf}
 use Rattle.brake_cli.specs.declared.table_check.TableStop.{TableStop}
 use Rattle.brake_cli.specs.declared.table_check.TableStop.TheVariants as stop
 use Rattle.brake_cli.specs.TableCheck.{TableChecksTo, table_refused_line, AnswersTable}
-use Rattle.brake_cli.specs.TableStops.{of_cert_fault, of_table_fault, ChecksTable, IsTableRefusalAnd}
+use Rattle.brake_cli.specs.TableStops.{of_cert_fault, of_table_fault, of_prove_fault, ChecksTable, IsTableRefusalAnd}
 use Rattle.brake_cli.specs.TableAnswer.{IsTrueTable, told_answer, stored_table_answer, AnswersOneJob}
+use Rattle.brake_cli.specs.ProveAnswer.{IsProved}
 use Rattle.brake_cli.specs.MergeAnswer.{IsMergedAnswer}
 use Rattle.brake_cli.specs.SettleAnswer.{IsRange, AnswersRange, IsSettledAnswer}
 
@@ -54,6 +60,19 @@ text_stopped text cert.NoMemory none first = tt
 pub rows_stopped : (file : TableFileData) (text : List ℕ) (fault : TableFault) → IsTextOfTable file text → IsTableFault file.job file.table fault → (IsClosedTable file.job file.table → ⊥) → ChecksTable text (Err (of_table_fault fault))
 rows_stopped file text fault written first not_closed = record { file = file; written = written; not_closed = not_closed; first = first }
 
+-- the stop at a text of which nothing is proved
+pub prove_stopped : (text : List ℕ) (fault : ProveFault) → ProvesText text (Err fault) → ChecksTable text (Err (of_prove_fault fault))
+prove_stopped text (prove.Text fault) (inl memory) = text_stopped text fault (inl memory) (inl memory)
+prove_stopped text (prove.Text fault) (inr refused) = text_stopped text fault (inr refused.none) (inr refused.first)
+prove_stopped text (prove.Rows fault) is = is
+
+-- a text of which something is proved is that of a closed table
+pub proved_checked : (text : List ℕ) (proved : ProvedTable) (file : TableFileData) → IsProvedText text proved → IsTextOfTable file text → IsCheckedTable text file
+proved_checked text proved file of written = record {
+  written = written;
+  closed = subst (λ (f : TableFileData). IsClosedTable f.job f.table) (one_table text of.file file of.checked.written written) of.checked.closed;
+}
+
 -- the answer to a table that is accepted
 pub table_accepted : (place : ℕ) (P : TableFileData → AnswerData → Type 0) (text : List ℕ) (file : TableFileData) (answer : AnswerData) → TableChecksTo text (Ok file) → P file answer → AnswersTable place P text answer
 table_accepted place P text file answer checks is = (Ok file, checks, is)
@@ -67,6 +86,14 @@ table_refused place P text stop.NoMemory answer checks told = absurd told
 -- what is told of a closed table is true
 pub true_table : (job : JobData) (table : TableData) → IsTable job table → IsClosedTable job table → IsTrueTable job table
 true_table job table form closed = record { form = form; closed = closed; truth = closed_is_true job table form closed }
+
+-- the answer to a table of which only what it proves is at hand
+pub proved_answers : (text : List ℕ) (proved : ProvedTable) (answer : AnswerData) → IsProvedText text proved → answer ≡ told_answer [] proved.rows proved.at_start → AnswersTable 1 IsProved text answer
+proved_answers text proved answer of is =
+    let file = of.file in
+    let checked = of.checked in
+    let tells = true_table file.job file.table (table_of_text file text checked.written) checked.closed in
+    table_accepted 1 IsProved text file answer checked (tells, is ∙ (λ i. told_answer [] (of.rows i) (of.at_start i)))
 
 -- the answer to two tables of one job
 pub one_job_answers : (job other : JobData) (P : AnswerData → Type 0) (answer : AnswerData) → job ≡ other → P answer → AnswersOneJob job other P answer
@@ -109,31 +136,24 @@ settled_text_answers name low high job told answer of is =
     settled_answers name low high empty_table job of.table answer (empty_closed job) of.settled of.form of.closed of.least
     (is ∙ (λ i. told_answer (one_stored name (of.tells.text_is i)) (of.tells.rows_are i) (of.tells.start_is i)))
 
--- ---- an answer of which that text is stored, and the lines are left
-module _ (name : List ℕ) (low high : ℕ) (job : JobData) (told : SettledText) (of : IsSettledText job low high told) where
-  abbrev IsIt : AnswerData → Type 0
-  IsIt = IsSettledAnswer name low high empty_table job
-
-  whole : IsIt (told_answer (one_stored name told.text) told.rows told.at_start)
-  whole = settled_text_answers name low high job told (told_answer (one_stored name told.text) told.rows told.at_start) of refl
-
-  pub settled_first : (r : Result Answer StoreFault) (a b : ShelfState) → IfOk r (λ answer. answer_data answer ≡ told_answer [] told.rows told.at_start) → OnOk r (AreStored (one_stored name told.text) a b) → OnOk r (b.faults ≡ a.faults)
-      → IfOk r (λ answer. StoresFirst IsIt (answer_data answer) a b)
-  settled_first (Ok answer) a b is stored same = record {
-    first = one_stored name told.text;
-    are_stored = stored;
-    is_one = subst (λ (rest : AnswerData). IsIt (after_storing (one_stored name told.text) rest)) (sym is) whole;
+-- ---- an answer of which these texts are stored, and this is left
+module _ (IsIt : AnswerData → Type 0) (stored : List StoredData) (rest : AnswerData) (whole : IsIt (after_storing stored rest)) (all : stored ≡ stored ++ rest.stored) where
+  pub stored_first : (r : Result Answer StoreFault) (a b : ShelfState) → IfOk r (λ answer. answer_data answer ≡ rest) → OnOk r (AreStored stored a b) → OnOk r (b.faults ≡ a.faults) → IfOk r (λ answer. StoresFirst IsIt (answer_data answer) a b)
+  stored_first (Ok answer) a b is are_stored same = record {
+    first = stored;
+    are_stored = are_stored;
+    is_one = subst (λ (left : AnswerData). IsIt (after_storing stored left)) (sym is) whole;
     faults = same;
   }
-  settled_first (Err fault) a b is stored same = tt
+  stored_first (Err fault) a b is are_stored same = tt
 
-  begun_in_part : (a b : ShelfState) → (b ≡ a) ⊎ AreStoredUpTo (one_stored name told.text) a b → (b ≡ a) ⊎ StoresBeginning (IsStoredOf IsIt) a b
+  begun_in_part : (a b : ShelfState) → (b ≡ a) ⊎ AreStoredUpTo stored a b → (b ≡ a) ⊎ StoresBeginning (IsStoredOf IsIt) a b
   begun_in_part a b (inl same) = inl same
-  begun_in_part a b (inr part) = inr (record { stored = one_stored name told.text; is_beginning = (told_answer (one_stored name told.text) told.rows told.at_start, whole, refl); are_stored = inr part })
+  begun_in_part a b (inr part) = inr (record { stored = stored; is_beginning = (after_storing stored rest, whole, all); are_stored = inr part })
 
-  pub settled_begun : (r : Result Answer StoreFault) (a b : ShelfState) → OnErr r ((b ≡ a) ⊎ AreStoredUpTo (one_stored name told.text) a b) → OnErr r ((b ≡ a) ⊎ StoresBeginning (IsStoredOf IsIt) a b)
-  settled_begun (Ok answer) a b on = tt
-  settled_begun (Err fault) a b on = begun_in_part a b on
+  pub stored_begun : (r : Result Answer StoreFault) (a b : ShelfState) → OnErr r ((b ≡ a) ⊎ AreStoredUpTo stored a b) → OnErr r ((b ≡ a) ⊎ StoresBeginning (IsStoredOf IsIt) a b)
+  stored_begun (Ok answer) a b on = tt
+  stored_begun (Err fault) a b on = begun_in_part a b on
 
 -- the answer to a range of the job's sets
 pub range_answers : (low high : ℕ) (P : JobData → AnswerData → Type 0) (job : JobData) (answer : AnswerData) → IsRange low high job → P job answer → AnswersRange low high P job answer

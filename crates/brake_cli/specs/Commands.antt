@@ -6,10 +6,15 @@ use Rattle.command_runner.specs.declared.status.Status.TheVariants as status
 use Rattle.command_runner.specs.Answers.{AnswerData, one_text}
 use Rattle.command_runner.specs.Fetching.{word_at}
 use Rattle.command_runner.specs.Ends.{Meaning, Beginning}
+use Rattle.command_runner.specs.declared.word_kind.WordKind.{WordKind}
 use Rattle.brake_cli.specs.declared.command.Command.{Command}
 use Rattle.brake_cli.specs.declared.command.Command.TheVariants.{Blank, Plan, Check, CheckFiles}
 use Rattle.brake_cli.specs.declared.command.Command.TheVariants.{Trial, Why, Setups, Settle, Merge}
 use Rattle.brake_cli.specs.declared.command.Command.TheVariants.{Prove}
+use Rattle.brake_cli.specs.declared.in_pieces.PieceCommand.{PieceCommand}
+use Rattle.brake_cli.specs.declared.in_pieces.PieceCommand.TheVariants as piece
+use Rattle.brake_cli.specs.declared.form.Form.TheVariants as form
+use Rattle.brake_cli.specs.Forms.{kinds_of}
 use Rattle.brake_cli.specs.BlankAnswer.{blank_answer}
 use Rattle.brake_cli.specs.PlanAnswer.{IsStoredOf, IsPlanAnswer}
 use Rattle.brake_cli.specs.CheckAnswer.{IsCheckAnswer, IsCheckFilesAnswer}
@@ -65,15 +70,36 @@ meaning_of (Settle part tools machine out low high (Some base)) words contents a
 meaning_of (Merge a b out) words contents answer = IsMergeAnswer (word_at words out) contents answer
 meaning_of (Prove table) words contents answer = IsProveAnswer contents answer
 
+-- the command reads its first file itself, in pieces
+abbrev pub reads_in_pieces : Command → Bool
+reads_in_pieces (Check cert) = true
+reads_in_pieces (CheckFiles cert part tools machine) = true
+reads_in_pieces (Prove table) = true
+reads_in_pieces _ = false
+
+-- the kinds of the words of such a command
+abbrev pub piece_kinds : PieceCommand → List WordKind
+piece_kinds piece.Check = kinds_of form.Check
+piece_kinds piece.CheckFiles = kinds_of form.CheckFiles
+piece_kinds piece.Prove = kinds_of form.Prove
+
+-- what it answers to the contents of its files
+abbrev pub piece_meaning : PieceCommand → Meaning
+piece_meaning piece.Check words contents answer = IsCheckAnswer contents answer
+piece_meaning piece.CheckFiles words contents answer = IsCheckFilesAnswer contents answer
+piece_meaning piece.Prove words contents answer = IsProveAnswer contents answer
+
 -- the command stores texts before its answer is given back
 abbrev pub stores_in_turn : Command → Bool
 stores_in_turn (Plan part tools machine cert budget) = true
 stores_in_turn (Setups part tools machine setups cert) = true
-stores_in_turn (Settle part tools machine out low high None) = true
+stores_in_turn (Settle part tools machine out low high base) = true
+stores_in_turn (Merge a b out) = true
 stores_in_turn _ = false
 
 -- what each command may have stored while it has given no answer: nothing, but `plan` the certificate
--- of one of its answers, `setups` those of the first setups, and `settle` over no base its table
+-- of one of its answers, `setups` those of the first setups, `settle` and `merge` the table of one of
+-- their answers
 abbrev pub begins_of : Command → Beginning
 begins_of (Plan part tools machine cert budget) words contents stored =
     IsStoredOf (IsPlanAnswer (word_at words cert) budget contents) stored
@@ -81,4 +107,8 @@ begins_of (Setups part tools machine setups cert) words contents stored =
     IsSetupsBeginning (word_at words cert) contents stored
 begins_of (Settle part tools machine out low high None) words contents stored =
     IsStoredOf (IsSettleAnswer (word_at words out) low high contents) stored
+begins_of (Settle part tools machine out low high (Some base)) words contents stored =
+    IsStoredOf (IsSettleOverAnswer (word_at words out) low high contents) stored
+begins_of (Merge a b out) words contents stored =
+    IsStoredOf (IsMergeAnswer (word_at words out) contents) stored
 begins_of _ words contents stored = ⊥

@@ -9,7 +9,7 @@ use Rattle.plan_cert.specs.CertText.{table_text}
 use Rattle.cert_merge.specs.Table.{TableData, IsTable, IsClosedTable}
 use Rattle.cert_merge.specs.TableChecks.{CostsAtLeast, proved_by}
 use Rattle.command_runner.specs.declared.status.Status.TheVariants as status
-use Rattle.command_runner.specs.Answers.{StoredData, AnswerData, refusal}
+use Rattle.command_runner.specs.Answers.{StoredData, AnswerData, one_stored, refusal}
 use Rattle.brake_cli.specs.PlanAnswer.{claim_status, no_plan_line}
 
 -- what the rows of a table prove of the start key
@@ -45,10 +45,13 @@ abbrev pub table_answer : List StoredData → JobData → TableData → AnswerDa
 table_answer stored job table =
     told_answer stored (length table.rows) (proved_at_start job table)
 
+-- a table's text is stored under a name
+abbrev pub stored_table : List ℕ → JobData → TableData → List StoredData
+stored_table name job table = one_stored name (table_text job table.rows table.notes)
+
 -- the answer that also stores the table's text under a name
 abbrev pub stored_table_answer : List ℕ → JobData → TableData → AnswerData
-stored_table_answer name job table = table_answer
-    (record { name = name; text = table_text job table.rows table.notes } ∷ []) job table
+stored_table_answer name job table = table_answer (stored_table name job table) job table
 
 -- what is told of a table is true: it is a table of the job, and closed; every plan costs at least
 -- what it proves of the start, and there is none where that is Blocked

@@ -1,35 +1,14 @@
 -- What the check of a table file comes to, and how a refusal of it is told.
 use Rattle.std.specs.Prelude.{◌≡◌, ℕ, List, [], ◌∷◌, codes, Result, Ok, Err}
 use Rattle.plan_cert.specs.Lines.{number, text_line}
-use Rattle.plan_cert.specs.declared.item.CertFault.{CertFault}
 use Rattle.cert_check.specs.FaultWords.{cert_fault_words}
-use Rattle.cert_merge.specs.declared.checked.TableFault.{TableFault}
 use Rattle.cert_merge.specs.declared.checked.TableFault.TheVariants.{BadReason, NotClosed}
-use Rattle.cert_merge.specs.Table.{TableFileData, IsClosedTable}
-use Rattle.cert_merge.specs.TableTexts.{table_file_of, IsTextOfTable}
-use Rattle.cert_merge.specs.TableChecks.{IsTableFault}
+use Rattle.cert_merge.specs.Table.{TableFileData}
+use Rattle.cert_merge.specs.ProvedTable.{IsCheckedTable, IsNoTable, IsOpenTable}
 use Rattle.command_runner.specs.declared.status.Status.TheVariants as status
 use Rattle.command_runner.specs.Answers.{AnswerData, one_text}
 use Rattle.brake_cli.specs.declared.table_check.TableRefusal.{TableRefusal}
 use Rattle.brake_cli.specs.declared.table_check.TableRefusal.TheVariants.{Text, Rows}
-
--- the text is that of a table of a valid job, and the table is closed
-pub record IsCheckedTable (text : List ℕ) (file : TableFileData) : Type 0 where
-  pub written : IsTextOfTable file text
-  pub closed : IsClosedTable file.job file.table
-
--- the text is no table's, and this is where that first shows
-pub record IsNoTable (text : List ℕ) (fault : CertFault) : Type 0 where
-  pub none : (file : TableFileData) → IsTextOfTable file text → ⊥
-  pub first : table_file_of text ≡ Err fault
-
--- the text is that of a table that isn't closed, and this is the first action that isn't accounted
--- for
-pub record IsOpenTable (text : List ℕ) (fault : TableFault) : Type 0 where
-  pub file : TableFileData
-  pub written : IsTextOfTable file text
-  pub not_closed : IsClosedTable file.job file.table → ⊥
-  pub first : IsTableFault file.job file.table fault
 
 -- what the check of a table's text comes to: its job and its table, or the first refusal
 abbrev pub TableChecksTo : List ℕ → Result TableFileData TableRefusal → Type 0

@@ -3,6 +3,8 @@ use Rattle.std.specs.Prelude.{ℕ, List, Result, Ok, Err}
 use Rattle.plan_cert.specs.declared.item.CertFault.{CertFault}
 use Rattle.plan_cert.specs.declared.item.CertFault.TheVariants as cert
 use Rattle.cert_merge.specs.declared.checked.TableFault.{TableFault}
+use Rattle.cert_merge.specs.declared.proved.ProveFault.{ProveFault}
+use Rattle.cert_merge.specs.declared.proved.ProveFault.TheVariants as prove
 use Rattle.cert_merge.specs.declared.table.TableFile.{TableFile}
 use Rattle.cert_merge.specs.Table.{table_file_data}
 use Rattle.brake_cli.specs.declared.table_check.TableRefusal.{TableRefusal}
@@ -18,6 +20,10 @@ of_cert_fault fault = Refused (Text fault)
 
 abbrev pub of_table_fault : TableFault → TableStop
 of_table_fault fault = Refused (Rows fault)
+
+abbrev pub of_prove_fault : ProveFault → TableStop
+of_prove_fault (prove.Text fault) = of_cert_fault fault
+of_prove_fault (prove.Rows fault) = of_table_fault fault
 
 -- a job and its table, or a refusal, is what the check of the text comes to, unless memory ran out
 abbrev pub ChecksTable : List ℕ → Result TableFile TableStop → Type 0

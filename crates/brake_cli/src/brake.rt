@@ -8,10 +8,10 @@ ghost use Rattle.brake_cli.specs.Headline.{HasHeadline};
 ghost use Rattle.brake_cli.specs.Complete.{IsComplete};
 ghost use Rattle.brake_cli.specs.Confirmed.{ConfirmsHeld};
 
-use crate::command::read_words;
+use crate::command::{read_words, run_command};
 use crate::usage::usage;
 use brake_io::{Shelf, Sink};
-use command_runner::{Status, deliver, run};
+use command_runner::{Status, deliver};
 use std::alloc::Global;
 
 /// Puts the usage text.
@@ -81,7 +81,7 @@ pub fn brake<H: Shelf, K: Sink>(
         (record { shelf = H.state shelf.new; sink = K.state out.new }) result }
 {
     match read_words(words) {
-        Some(command) => run(alloc, &command, words, shelf, out),
+        Some(command) => run_command(alloc, command, words, shelf, out),
         None => put_usage(alloc, shelf, out),
     }
 }

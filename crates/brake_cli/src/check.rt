@@ -1,17 +1,20 @@
 //! What `check` answers.
-ghost use Rattle.std.specs.Prelude.{◌≡◌, ◌≤◌, length, map, codes, Ok, IfOk};
+ghost use Rattle.std.specs.Prelude.{◌≡◌, ◌≤◌, [], length, map, codes, Ok, IfOk};
 ghost use Rattle.std.specs.Vec.{vec_items};
 ghost use Rattle.plan_cert.specs.Lines.{text_line};
 ghost use Rattle.cert_check.specs.FaultWords.{check_fault_words};
 ghost use Rattle.cert_check.specs.Checking.{checked_data};
 ghost use Rattle.command_runner.specs.Answers.{answer_data};
 ghost use Rattle.command_runner.specs.Delivery.{IsCutShort};
-ghost use Rattle.brake_cli.specs.CheckAnswer.{optimal_line, IsClaim, verdict_answer, IsCertRefusal, other_job, other_job_line, IsAnswerOf, IsTextAnswer, IsCheckAnswer, IsAnswerFor, IsCheckFilesAnswer};
+ghost use Rattle.command_runner.specs.Fetching.{word_at};
+ghost use Rattle.command_runner.specs.Reading.{AnswersText};
+ghost use Rattle.brake_cli.specs.CheckAnswer.{optimal_line, IsClaim, verdict_answer, IsCertRefusal, other_job, other_job_line, IsAnswerOf, IsCheckAnswer, IsAnswerFor, IsCheckFilesAnswer};
 
-use crate::job_files::{content_at, is_one_job, job_at};
+use crate::job_files::{is_one_job, job_at};
 use crate::refusal::stopped;
+use brake_io::{Reader, Window};
 use brake_text::put_word;
-use cert_check::{CheckFault, Checked, Verdict, check};
+use cert_check::{CheckFault, Checked, Verdict, check_from};
 use command_runner::{Answer, Status};
 use job_setup::Job;
 use plan_cert::put_count;
@@ -81,25 +84,19 @@ fn other_job(alloc: Global) -> Result<Answer, AllocError>
     Answer::one_text(alloc, Status::CertRefused, line)
 }
 
-/// The answer to a certificate's text.
-fn answer_of_text(alloc: Global, text: &[u8]) -> Result<Answer, AllocError>
-    ensures answer { IfOk result (λ answer. IsTextAnswer text.now (answer_data answer)) }
+/// The answer to the text of a certificate.
+pub fn answer_alone<R: Reader + Drop>(
+    alloc: Global,
+    window: &mut Window<R>,
+) -> Result<Answer, AllocError>
+    ensures answer { IfOk result (λ answer.
+        AnswersText IsCheckAnswer window.old window.new [] (answer_data answer)) }
     ensures status { IfOk result (λ answer. ¬ IsCutShort answer.status) }
 {
-    match check(alloc, text) {
+    match check_from(alloc, window) {
         Ok(checked) => verdict_answer(alloc, checked.verdict),
         Err(fault) => cert_refused(alloc, fault),
     }
-}
-
-/// The answer to the content of the certificate's file.
-pub fn answer(alloc: Global, contents: &[Vec<u8>]) -> Result<Answer, AllocError>
-    requires { length contents.now ≡ 1 }
-    ensures answer { IfOk result (λ answer.
-        IsCheckAnswer (map vec_items contents.now) (answer_data answer)) }
-    ensures status { IfOk result (λ answer. ¬ IsCutShort answer.status) }
-{
-    answer_of_text(alloc, content_at(contents, 0))
 }
 
 /// The answer of an accepted certificate, which is to be of this job.
@@ -117,26 +114,37 @@ fn accepted(alloc: Global, checked: &Checked, job: &Job) -> Result<Answer, Alloc
     }
 }
 
-/// The answer to a certificate's text, which is to be of this job.
-fn answer_of_job(alloc: Global, text: &[u8], job: &Job) -> Result<Answer, AllocError>
-    ensures answer { IfOk result (λ answer. IsAnswerFor text.now job.now (answer_data answer)) }
+/// The answer to the text of a certificate, which is to be of this job.
+fn answer_of_job<R: Reader + Drop>(
+    alloc: Global,
+    window: &mut Window<R>,
+    job: &Job,
+) -> Result<Answer, AllocError>
+    ensures answer { IfOk result (λ answer.
+        AnswersText (λ contents. IsAnswerFor (word_at contents 0) job.now) window.old window.new []
+        (answer_data answer)) }
     ensures status { IfOk result (λ answer. ¬ IsCutShort answer.status) }
 {
-    match check(alloc, text) {
+    match check_from(alloc, window) {
         Ok(checked) => accepted(alloc, &checked, job),
         Err(fault) => cert_refused(alloc, fault),
     }
 }
 
-/// The answer to the contents of the certificate's file and of the three files of a job.
-pub fn answer_with_files(alloc: Global, contents: &[Vec<u8>]) -> Result<Answer, AllocError>
-    requires { length contents.now ≡ 4 }
-    ensures answer { IfOk result (λ answer.
-        IsCheckFilesAnswer (map vec_items contents.now) (answer_data answer)) }
+/// The answer to the text of a certificate and the contents of the three files of a job. Where those
+/// are refused the text isn't read.
+pub fn answer_with_files<R: Reader + Drop>(
+    alloc: Global,
+    window: &mut Window<R>,
+    contents: &[Vec<u8>],
+) -> Result<Answer, AllocError>
+    requires { length contents.now ≡ 3 }
+    ensures answer { IfOk result (λ answer. AnswersText IsCheckFilesAnswer window.old window.new
+        (map vec_items contents.now) (answer_data answer)) }
     ensures status { IfOk result (λ answer. ¬ IsCutShort answer.status) }
 {
-    match job_at(alloc, contents, 1) {
-        Ok(job) => answer_of_job(alloc, content_at(contents, 0), &job),
+    match job_at(alloc, contents, 0) {
+        Ok(job) => answer_of_job(alloc, window, &job),
         Err(stop) => stopped(alloc, stop),
     }
 }

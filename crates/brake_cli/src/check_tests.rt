@@ -94,12 +94,34 @@ fn refused_certificates(rt: HostRuntime) -> Result<(), Fail> {
 #[test]
 fn each_proper_prefix_of_a_certificate(rt: HostRuntime) -> Result<(), Fail> {
     let alloc = rt.alloc();
-    for job in [VERSION_1_JOB.as_slice(), VERSION_2_JOB.as_slice()] {
+    // The versions differ in three lines alone, so each eighth prefix of the first is enough.
+    for (job, is_each) in [
+        (VERSION_1_JOB.as_slice(), false),
+        (VERSION_2_JOB.as_slice(), true),
+    ] {
         let cert = certificate(alloc, job)?;
         for length in 0..cert.len() {
-            let cut = &cert.as_bytes()[..length];
-            assert!(rt; is_refused(alloc, cut, "1 2")?, "at {length}");
+            if is_each || length % 8 == 0 {
+                let cut = &cert.as_bytes()[..length];
+                assert!(rt; is_refused(alloc, cut, "1 2")?, "at {length}");
+            }
         }
+    }
+    Ok(())
+}
+
+#[test]
+fn texts_of_several_pieces(rt: HostRuntime) -> Result<(), Fail> {
+    let alloc = rt.alloc();
+    let cert = certificate(alloc, &VERSION_2_JOB)?;
+    let long = "x".repeat(alloc, 300_000)?;
+    for (before, behind, numbers) in [
+        (cert.as_str(), "", "1 3"),
+        ("", "\n", "1 1 1"),
+        ("", "", "1 2"),
+    ] {
+        let text = format!(in alloc; "{before}{long}{behind}")?;
+        assert!(rt; is_refused(alloc, text.as_bytes(), numbers)?, "{numbers}");
     }
     Ok(())
 }

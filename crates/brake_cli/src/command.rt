@@ -2,19 +2,21 @@
 ghost use Rattle.std.specs.Prelude.{◌≡◌, ◌↔◌, IfOk, IfSome, IsTrue, Some, length, map, string_bytes, false};
 ghost use Rattle.std.specs.Vec.{vec_items};
 ghost use Rattle.command_runner.specs.Answers.{answer_data};
-ghost use Rattle.command_runner.specs.Delivery.{IsCutShort};
+ghost use Rattle.command_runner.specs.Delivery.{IsCutShort, Outside};
+ghost use Rattle.command_runner.specs.Ends.{Ends, CountsFault, MayFault};
 ghost use Rattle.command_runner.specs.Fetching.{file_words};
 ghost use Rattle.command_runner.specs.Kinds.{is_form};
 ghost use Rattle.brake_cli.specs.Forms.{kinds_of, form_of, read_by, command_of};
-ghost use Rattle.brake_cli.specs.Commands.{meaning_of, stores_in_turn};
+ghost use Rattle.brake_cli.specs.Commands.{meaning_of, begins_of, reads_in_pieces, stores_in_turn};
 ghost use Rattle.brake_cli.specs.SetupsWords.{AreSetupsWords};
 ghost use Rattle.brake_cli.specs.declared.command.Command.TheVariants.{Setups};
 
 use crate::form::{FORMS, Form};
+use crate::in_pieces::PieceCommand;
 use crate::settle::Range;
-use crate::{blank, check, merge, plan, prove, settle, setups, trial, why};
-use brake_io::{Shelf, StoreFault};
-use command_runner::{Answer, WordKind, is_form, word_at};
+use crate::{blank, merge, plan, settle, setups, trial, why};
+use brake_io::{Shelf, Sink, StoreFault};
+use command_runner::{Answer, Status, WordKind, is_form, run, run_reading, word_at};
 use std::alloc::{AllocError, Global};
 
 /// A command, with the places of its words among all words, and its numbers.
@@ -99,7 +101,7 @@ impl Command {
         }
     }
 
-    /// The answer of a command that stores nothing before it is given.
+    /// The answer of a command whose files are fetched and that stores nothing before it is given.
     fn answer_at_once(
         self,
         alloc: Global,
@@ -107,6 +109,7 @@ impl Command {
         contents: &[Vec<u8>],
     ) -> Result<Answer, AllocError>
         requires count { length contents.now ≡ length (file_words (kinds_of (form_of self))) }
+        requires fetched { reads_in_pieces self ≡ false }
         requires at_once { stores_in_turn self ≡ false }
         ensures answer { IfOk result (λ answer. meaning_of self (map string_bytes words.now)
             (map vec_items contents.now) (answer_data answer)) }
@@ -115,42 +118,37 @@ impl Command {
         match self {
             Command::Blank { .. } => blank::answer(alloc, contents),
             Command::Plan { .. } => unreachable!(),
-            Command::Check { .. } => check::answer(alloc, contents),
-            Command::CheckFiles { .. } => check::answer_with_files(alloc, contents),
+            Command::Check { .. } => unreachable!(),
+            Command::CheckFiles { .. } => unreachable!(),
             Command::Trial { n } => trial::answer(alloc, n),
             Command::Why { .. } => why::answer(alloc, contents),
             Command::Setups { .. } => unreachable!(),
-            Command::Settle { base: None, .. } => unreachable!(),
-            Command::Settle {
-                out,
-                low,
-                high,
-                base: Some(_),
-                ..
-            } => settle::answer_with_base(
-                alloc,
-                word_at(words, out),
-                Range { low, high },
-                contents,
-            ),
-            Command::Merge { out, .. } => merge::answer(alloc, word_at(words, out), contents),
-            Command::Prove { .. } => prove::answer(alloc, contents),
+            Command::Settle { .. } => unreachable!(),
+            Command::Merge { .. } => unreachable!(),
+            Command::Prove { .. } => unreachable!(),
         }
     }
 }
 
-impl command_runner::Command for Command {
+/// A command whose files are fetched before it answers.
+#[derive(Clone, Copy)]
+struct FetchedCommand {
+    command: Command,
+    ghost fetched: { reads_in_pieces command ≡ false },
+}
+
+impl command_runner::Command for FetchedCommand {
     ghost use Rattle.brake_cli.specs.Forms.{kinds_of, form_of};
     ghost use Rattle.brake_cli.specs.Commands.{meaning_of, begins_of};
 
-    ghost form = { λ command. kinds_of (form_of command) };
+    ghost form = { λ fetched. kinds_of (form_of fetched.command) };
 
-    ghost meaning = { meaning_of };
+    ghost meaning = { λ fetched. meaning_of fetched.command };
 
-    ghost begins = { begins_of };
+    ghost begins = { λ fetched. begins_of fetched.command };
 
     fn kinds(&self) -> &'static [WordKind] {
-        self.form().kinds()
+        self.command.form().kinds()
     }
 
     fn answer<H: Shelf>(
@@ -160,7 +158,7 @@ impl command_runner::Command for Command {
         contents: &[Vec<u8>],
         shelf: &mut H,
     ) -> Result<Answer, StoreFault> {
-        match *self {
+        match self.command {
             Command::Plan { cert, budget, .. } => {
                 plan::answer(alloc, word_at(words, cert), budget, contents, shelf)
             }
@@ -177,8 +175,52 @@ impl command_runner::Command for Command {
                 let range = Range { low, high };
                 settle::answer(alloc, word_at(words, out), range, contents, shelf)
             }
-            _ => Ok(self.answer_at_once(alloc, words, contents)?),
+            Command::Settle {
+                out,
+                low,
+                high,
+                base: Some(_),
+                ..
+            } => {
+                let range = Range { low, high };
+                settle::answer_with_base(alloc, word_at(words, out), range, contents, shelf)
+            }
+            Command::Merge { out, .. } => {
+                merge::answer(alloc, word_at(words, out), contents, shelf)
+            }
+            _ => Ok(self.command.answer_at_once(alloc, words, contents)?),
         }
+    }
+}
+
+/// Runs a command: some read their first file themselves, and of any other all files are fetched.
+pub fn run_command<H: Shelf, K: Sink>(
+    alloc: Global,
+    command: Command,
+    words: &[String],
+    shelf: &mut H,
+    out: &mut K,
+) -> Status
+    requires { IsTrue (is_form (kinds_of (form_of command)) (map string_bytes words.now)) }
+    ensures ends { Ends (kinds_of (form_of command)) (meaning_of command) (begins_of command)
+        (map string_bytes words.now)
+        (record { shelf = H.state shelf.old; sink = K.state out.old })
+        (record { shelf = H.state shelf.new; sink = K.state out.new }) result }
+    ensures fault { result ≡ Status.Fault → CountsFault
+        (record { shelf = H.state shelf.old; sink = K.state out.old })
+        (record { shelf = H.state shelf.new; sink = K.state out.new }) }
+    ensures cause { result ≡ Status.Fault → MayFault (kinds_of (form_of command))
+        (map string_bytes words.now)
+        (record { shelf = H.state shelf.old; sink = K.state out.old })
+        (record { shelf = H.state shelf.new; sink = K.state out.new }) }
+{
+    match command {
+        Command::Check { .. } => run_reading(alloc, &PieceCommand::Check, words, shelf, out),
+        Command::CheckFiles { .. } => {
+            run_reading(alloc, &PieceCommand::CheckFiles, words, shelf, out)
+        }
+        Command::Prove { .. } => run_reading(alloc, &PieceCommand::Prove, words, shelf, out),
+        _ => run(alloc, &FetchedCommand { command }, words, shelf, out),
     }
 }
 

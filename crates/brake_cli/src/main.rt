@@ -11,6 +11,7 @@ mod check;
 mod check_tests;
 mod command;
 mod form;
+mod in_pieces;
 mod job_files;
 mod merge;
 mod plan;

@@ -52,62 +52,95 @@ fn range_refused(alloc: Global) -> Result<Answer, AllocError>
 }
 
 /// The answer to a range of a job over a closed base.
-fn settled_answer(
+fn settled_answer<H: Shelf>(
     alloc: Global,
     name: &str,
     range: Range,
     base: &Table,
     job: &Job,
-) -> Result<Answer, AllocError>
+    shelf: &mut H,
+) -> Result<Answer, StoreFault>
     requires range { IsRange range.low range.high job.now }
     requires base { IsTable job.now (table_data base.now) }
     requires closed { IsClosedTable job.now (table_data base.now) }
-    ensures answer { IfOk result (λ answer. IsSettledAnswer name.now range.low range.high
-        (table_data base.now) job.now (answer_data answer)) }
+    ensures answer { IfOk result (λ answer. StoresFirst (IsSettledAnswer name.now range.low range.high
+        (table_data base.now) job.now)
+        (answer_data answer) (H.state shelf.old) (H.state shelf.new)) }
     ensures status { IfOk result (λ answer. ¬ IsCutShort answer.status) }
+    ensures begins { OnErr result ((H.state shelf.new ≡ H.state shelf.old) ⊎ StoresBeginning
+        (IsStoredOf (IsSettledAnswer name.now range.low range.high
+        (table_data base.now) job.now))
+        (H.state shelf.old) (H.state shelf.new)) }
+    ensures never_falls { NoCountFalls (H.state shelf.old) (H.state shelf.new) }
+    ensures failed { IsErrOf result StoreFault.Failed →
+        Rose (H.state shelf.old).faults (H.state shelf.new).faults }
+    ensures cause { IsErrOf result StoreFault.Failed →
+        HasDueCall (H.state shelf.old) (H.state shelf.new) }
 {
     let settled = settle(alloc, job, base, range.low, range.high)?;
-    stored_table_answer(alloc, name, job, &settled)
+    stored_table_answer(alloc, name, job, settled, shelf)
 }
 
 /// The answer to a range of a job over a closed table, which is to be of this job.
-fn answer_to_base(
+fn answer_to_base<H: Shelf>(
     alloc: Global,
     name: &str,
     range: Range,
     job: &Job,
     base: &TableFile,
-) -> Result<Answer, AllocError>
+    shelf: &mut H,
+) -> Result<Answer, StoreFault>
     requires range { IsRange range.low range.high job.now }
     requires base { IsTrueTable base.now.job (table_data base.now.table) }
-    ensures answer { IfOk result (λ answer. AnswersBase name.now range.low range.high job.now
-        (table_file_data base.now) (answer_data answer)) }
+    ensures answer { IfOk result (λ answer. StoresFirst (AnswersBase name.now range.low range.high job.now
+        (table_file_data base.now))
+        (answer_data answer) (H.state shelf.old) (H.state shelf.new)) }
     ensures status { IfOk result (λ answer. ¬ IsCutShort answer.status) }
+    ensures begins { OnErr result ((H.state shelf.new ≡ H.state shelf.old) ⊎ StoresBeginning
+        (IsStoredOf (AnswersBase name.now range.low range.high job.now
+        (table_file_data base.now)))
+        (H.state shelf.old) (H.state shelf.new)) }
+    ensures never_falls { NoCountFalls (H.state shelf.old) (H.state shelf.new) }
+    ensures failed { IsErrOf result StoreFault.Failed →
+        Rose (H.state shelf.old).faults (H.state shelf.new).faults }
+    ensures cause { IsErrOf result StoreFault.Failed →
+        HasDueCall (H.state shelf.old) (H.state shelf.new) }
 {
     let same = is_one_job(alloc, &base.job, job)?;
     if same {
-        settled_answer(alloc, name, range, &base.table, job)
+        settled_answer(alloc, name, range, &base.table, job, shelf)
     } else {
-        other_job(alloc)
+        Ok(other_job(alloc)?)
     }
 }
 
 /// The answer to a range of a job over the table of a text.
-fn answer_over(
+fn answer_over<H: Shelf>(
     alloc: Global,
     name: &str,
     range: Range,
     text: &[u8],
     job: &Job,
-) -> Result<Answer, AllocError>
+    shelf: &mut H,
+) -> Result<Answer, StoreFault>
     requires { IsRange range.low range.high job.now }
-    ensures answer { IfOk result (λ answer. AnswersTable 5
-        (AnswersBase name.now range.low range.high job.now) text.now (answer_data answer)) }
+    ensures answer { IfOk result (λ answer. StoresFirst (AnswersTable 5
+        (AnswersBase name.now range.low range.high job.now) text.now)
+        (answer_data answer) (H.state shelf.old) (H.state shelf.new)) }
     ensures status { IfOk result (λ answer. ¬ IsCutShort answer.status) }
+    ensures begins { OnErr result ((H.state shelf.new ≡ H.state shelf.old) ⊎ StoresBeginning
+        (IsStoredOf (AnswersTable 5
+        (AnswersBase name.now range.low range.high job.now) text.now))
+        (H.state shelf.old) (H.state shelf.new)) }
+    ensures never_falls { NoCountFalls (H.state shelf.old) (H.state shelf.new) }
+    ensures failed { IsErrOf result StoreFault.Failed →
+        Rose (H.state shelf.old).faults (H.state shelf.new).faults }
+    ensures cause { IsErrOf result StoreFault.Failed →
+        HasDueCall (H.state shelf.old) (H.state shelf.new) }
 {
     match checked_table(alloc, text) {
-        Ok(base) => answer_to_base(alloc, name, range, job, &base),
-        Err(stop) => table_stopped(alloc, 5, stop),
+        Ok(base) => answer_to_base(alloc, name, range, job, &base, shelf),
+        Err(stop) => Ok(table_stopped(alloc, 5, stop)?),
     }
 }
 
@@ -198,39 +231,64 @@ pub fn answer<H: Shelf>(
 }
 
 /// The answer to a job and the text of the base's file.
-fn answer_to_job_over(
+fn answer_to_job_over<H: Shelf>(
     alloc: Global,
     name: &str,
     range: Range,
     text: &[u8],
     job: &Job,
-) -> Result<Answer, AllocError>
-    ensures answer { IfOk result (λ answer. AnswersRange range.low range.high
-        (λ job. AnswersTable 5 (AnswersBase name.now range.low range.high job) text.now) job.now
-        (answer_data answer)) }
+    shelf: &mut H,
+) -> Result<Answer, StoreFault>
+    ensures answer { IfOk result (λ answer. StoresFirst (AnswersRange range.low range.high
+        (λ job. AnswersTable 5 (AnswersBase name.now range.low range.high job) text.now) job.now)
+        (answer_data answer) (H.state shelf.old) (H.state shelf.new)) }
     ensures status { IfOk result (λ answer. ¬ IsCutShort answer.status) }
+    ensures begins { OnErr result ((H.state shelf.new ≡ H.state shelf.old) ⊎ StoresBeginning
+        (IsStoredOf (AnswersRange range.low range.high
+        (λ job. AnswersTable 5 (AnswersBase name.now range.low range.high job) text.now) job.now))
+        (H.state shelf.old) (H.state shelf.new)) }
+    ensures never_falls { NoCountFalls (H.state shelf.old) (H.state shelf.new) }
+    ensures failed { IsErrOf result StoreFault.Failed →
+        Rose (H.state shelf.old).faults (H.state shelf.new).faults }
+    ensures cause { IsErrOf result StoreFault.Failed →
+        HasDueCall (H.state shelf.old) (H.state shelf.new) }
 {
     if range.is_of(job) {
-        answer_over(alloc, name, range, text, job)
+        answer_over(alloc, name, range, text, job, shelf)
     } else {
-        range_refused(alloc)
+        Ok(range_refused(alloc)?)
     }
 }
 
-/// The answer to these and to the content of the base's file.
-pub fn answer_with_base(
+/// The answer to these and to the content of the base's file. The text of its table is stored here, in
+/// pieces; what is given back is left to put.
+pub fn answer_with_base<H: Shelf>(
     alloc: Global,
     name: &str,
     range: Range,
     contents: &[Vec<u8>],
-) -> Result<Answer, AllocError>
+    shelf: &mut H,
+) -> Result<Answer, StoreFault>
     requires { length contents.now ≡ 4 }
-    ensures answer { IfOk result (λ answer. IsSettleOverAnswer name.now range.low range.high
-        (map vec_items contents.now) (answer_data answer)) }
+    ensures answer { IfOk result (λ answer. StoresFirst (IsSettleOverAnswer name.now range.low range.high
+        (map vec_items contents.now))
+        (answer_data answer) (H.state shelf.old) (H.state shelf.new)) }
     ensures status { IfOk result (λ answer. ¬ IsCutShort answer.status) }
+    ensures begins { OnErr result ((H.state shelf.new ≡ H.state shelf.old) ⊎ StoresBeginning
+        (IsStoredOf (IsSettleOverAnswer name.now range.low range.high
+        (map vec_items contents.now)))
+        (H.state shelf.old) (H.state shelf.new)) }
+    ensures never_falls { NoCountFalls (H.state shelf.old) (H.state shelf.new) }
+    ensures failed { IsErrOf result StoreFault.Failed →
+        Rose (H.state shelf.old).faults (H.state shelf.new).faults }
+    ensures cause { IsErrOf result StoreFault.Failed →
+        HasDueCall (H.state shelf.old) (H.state shelf.new) }
 {
     match job_at(alloc, contents, 0) {
-        Ok(job) => answer_to_job_over(alloc, name, range, content_at(contents, 3), &job),
-        Err(stop) => stopped(alloc, stop),
+        Ok(job) => {
+            let text = content_at(contents, 3);
+            answer_to_job_over(alloc, name, range, text, &job, shelf)
+        }
+        Err(stop) => Ok(stopped(alloc, stop)?),
     }
 }

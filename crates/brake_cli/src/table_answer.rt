@@ -1,21 +1,21 @@
 //! What is told of a table.
-ghost use Rattle.std.specs.Prelude.{◌≡◌, ◌⊎◌, ◌<◌, ◌≤◌, ◌^◌, [], ◌∷◌, codes, map, IfOk, OnOk, OnErr, IsErrOf};
+ghost use Rattle.std.specs.Prelude.{◌≡◌, ◌⊎◌, ◌<◌, ◌≤◌, ◌^◌, [], codes, IfOk, OnOk, OnErr, IsErrOf};
 ghost use Rattle.plan_cert.specs.WellFormed.{IsWorth};
 ghost use Rattle.cert_merge.specs.Table.{table_data, IsTable};
 ghost use Rattle.brake_io.specs.Rose.{Rose};
 ghost use Rattle.brake_io.specs.Meanings.{NoCountFalls};
 ghost use Rattle.command_runner.specs.declared.status.Status.TheVariants as status;
-ghost use Rattle.command_runner.specs.Answers.{answer_data, stored_data, one_stored, refusal};
+ghost use Rattle.command_runner.specs.Answers.{answer_data, one_stored, refusal};
 ghost use Rattle.command_runner.specs.Fetching.{HasDueCall};
 ghost use Rattle.command_runner.specs.Delivery.{IsCutShort, AreStored, AreStoredUpTo};
-ghost use Rattle.brake_cli.specs.TableAnswer.{rows_line, at_least_line, proved_line, told_answer, table_answer, stored_table_answer};
+ghost use Rattle.brake_cli.specs.TableAnswer.{rows_line, at_least_line, proved_line, told_answer, table_answer, stored_table};
 
 use crate::plan::claim_status;
 use brake_base::Worth;
 use brake_io::{Shelf, StoreFault};
 use brake_text::put_word;
-use cert_merge::{SettledText, Table, proved_at_start, write_table};
-use command_runner::{Answer, Status, StoredText, refusal, store_pieces};
+use cert_merge::{SettledText, Table, TablePieces, proved_at_start};
+use command_runner::{Answer, Status, refusal, store_pieces};
 use job_setup::Job;
 use plan_cert::put_count;
 use std::alloc::{AllocError, Global};
@@ -58,73 +58,53 @@ fn proved_line(alloc: Global, worth: Worth) -> Result<Vec<u8>, AllocError>
     }
 }
 
-/// The answer that tells so many rows and a worth that they prove of the start, and stores these
-/// texts.
-fn told_answer(
-    alloc: Global,
-    stored: Vec<StoredText>,
-    rows: usize,
-    worth: Worth,
-) -> Result<Answer, AllocError>
+/// The answer that tells so many rows and a worth that they prove of the start, without a text to
+/// store.
+pub fn told_answer(alloc: Global, rows: usize, worth: Worth) -> Result<Answer, AllocError>
     requires rows { rows < 2 ^ 63 }
     requires worth { IsWorth worth }
-    ensures answer { IfOk result (λ answer. answer_data answer
-        ≡ told_answer (map stored_data stored.items) rows worth) }
+    ensures answer { IfOk result (λ answer. answer_data answer ≡ told_answer [] rows worth) }
     ensures status { IfOk result (λ answer. ¬ IsCutShort answer.status) }
 {
     let mut texts = Vec::new(alloc);
     texts.push(rows_line(alloc, rows)?)?;
     texts.push(proved_line(alloc, worth)?)?;
     Ok(Answer {
-        stored,
+        stored: Vec::new(alloc),
         status: claim_status(worth),
         texts,
     })
 }
 
-/// The answer that tells a table's number of rows and what they prove of the start, and stores these
-/// texts.
-pub fn table_answer(
-    alloc: Global,
-    stored: Vec<StoredText>,
-    job: &Job,
-    table: &Table,
-) -> Result<Answer, AllocError>
-    requires { IsTable job.now (table_data table.now) }
-    ensures answer { IfOk result (λ answer. answer_data answer
-        ≡ table_answer (map stored_data stored.items) job.now (table_data table.now)) }
-    ensures status { IfOk result (λ answer. ¬ IsCutShort answer.status) }
-{
-    told_answer(alloc, stored, table.rows.len(), proved_at_start(job, table))
-}
-
-/// A text to be stored under this name.
-fn one_stored(alloc: Global, name: &str, text: Vec<u8>) -> Result<Vec<StoredText>, AllocError>
-    ensures { IfOk result (λ stored. map stored_data stored.items
-        ≡ record { name = name.now; text = text.items } ∷ []) }
-{
-    let mut stored = Vec::new(alloc);
-    stored.push(StoredText {
-        name: String::from_str(alloc, name)?,
-        text,
-    })?;
-    Ok(stored)
-}
-
-/// The answer that also stores the table's text under this name.
-pub fn stored_table_answer(
+/// What is left of the answer to a table once its text is stored under this name. The text is stored
+/// here, in pieces.
+pub fn stored_table_answer<H: Shelf>(
     alloc: Global,
     name: &str,
     job: &Job,
-    table: &Table,
-) -> Result<Answer, AllocError>
-    requires { IsTable job.now (table_data table.now) }
+    table: Table,
+    shelf: &mut H,
+) -> Result<Answer, StoreFault>
+    requires { IsTable job.now (table_data table) }
     ensures answer { IfOk result (λ answer. answer_data answer
-        ≡ stored_table_answer name.now job.now (table_data table.now)) }
+        ≡ table_answer [] job.now (table_data table)) }
     ensures status { IfOk result (λ answer. ¬ IsCutShort answer.status) }
+    ensures ok { OnOk result (AreStored (stored_table name.now job.now (table_data table))
+        (H.state shelf.old) (H.state shelf.new)) }
+    ensures err { OnErr result ((H.state shelf.new ≡ H.state shelf.old)
+        ⊎ AreStoredUpTo (stored_table name.now job.now (table_data table))
+        (H.state shelf.old) (H.state shelf.new)) }
+    ensures never_falls { NoCountFalls (H.state shelf.old) (H.state shelf.new) }
+    ensures faults { OnOk result ((H.state shelf.new).faults ≡ (H.state shelf.old).faults) }
+    ensures failed { IsErrOf result StoreFault.Failed →
+        Rose (H.state shelf.old).faults (H.state shelf.new).faults }
+    ensures cause { IsErrOf result StoreFault.Failed →
+        HasDueCall (H.state shelf.old) (H.state shelf.new) }
 {
-    let stored = one_stored(alloc, name, write_table(alloc, job, table)?)?;
-    table_answer(alloc, stored, job, table)
+    let answer = told_answer(alloc, table.rows.len(), proved_at_start(job, &table))?;
+    let mut text = TablePieces::open(alloc, job, table)?;
+    store_pieces(alloc, name, &mut text, shelf)?;
+    Ok(answer)
 }
 
 /// What is left of the answer to a table that is given as its text, with what is told of it, once the
@@ -152,12 +132,7 @@ pub fn settled_text_answer<H: Shelf>(
     ensures cause { IsErrOf result StoreFault.Failed →
         HasDueCall (H.state shelf.old) (H.state shelf.new) }
 {
-    let answer = told_answer(
-        alloc,
-        Vec::new(alloc),
-        settled.rows as usize,
-        settled.at_start,
-    )?;
+    let answer = told_answer(alloc, settled.rows as usize, settled.at_start)?;
     let mut text = settled.text;
     store_pieces(alloc, name, &mut text, shelf)?;
     Ok(answer)

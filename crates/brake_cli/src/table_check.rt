@@ -12,7 +12,7 @@ ghost use Rattle.brake_cli.specs.TableStops.{ChecksTable, IsTableRefusalAnd};
 
 use brake_text::put_word;
 use cert_check::CheckFault;
-use cert_merge::{TableFault, TableFile, check_table, read_table};
+use cert_merge::{ProveFault, TableFault, TableFile, prove_text, read_table};
 use command_runner::{Answer, Status};
 use plan_cert::{CertFault, put_count};
 use std::alloc::{AllocError, AllocFailed, Global};
@@ -60,14 +60,28 @@ impl From<TableFault> for TableStop {
     }
 }
 
+impl From<ProveFault> for TableStop {
+    ghost use Rattle.std.specs.Prelude.{◌≡◌};
+    ghost use Rattle.brake_cli.specs.TableStops.{of_prove_fault};
+
+    ghost from_gives = { λ fault stop. stop ≡ of_prove_fault fault };
+
+    fn from(fault: ProveFault) -> Self {
+        match fault {
+            ProveFault::Text(fault) => TableStop::from(fault),
+            ProveFault::Rows(fault) => TableStop::from(fault),
+        }
+    }
+}
+
 /// The job and the table of a table's text, whose rows all meet their condition, or the first
 /// refusal.
 pub fn checked_table(alloc: Global, text: &[u8]) -> Result<TableFile, TableStop>
     ensures value { ChecksTable text.now result }
     ensures truth { IfOk result (λ file. IsTrueTable file.job (table_data file.table)) }
 {
+    prove_text(alloc, text)?;
     let file = read_table(alloc, text)?;
-    check_table(&file.job, &file.table)?;
     Ok(file)
 }
 

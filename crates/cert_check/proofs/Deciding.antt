@@ -8,6 +8,7 @@ use Rattle.job_setup.specs.ValidJob.{IsJob}
 use Rattle.handling_cost.specs.Plan.{start}
 use Rattle.handling_cost.specs.Good.{AreClaimed}
 use Rattle.plan_cert.specs.declared.cert.RowHead.{RowHead}
+use Rattle.plan_cert.specs.declared.format.TextKind.TheVariants.{Certificate}
 use Rattle.plan_cert.specs.Cert.{CertData}
 use Rattle.plan_cert.specs.WellFormed.{IsWellFormed}
 use Rattle.plan_cert.specs.GoodCert.{IsGoodCert}
@@ -17,13 +18,14 @@ use Rattle.cert_check.specs.declared.read_cert.ReadCert.{ReadCert}
 use Rattle.cert_check.specs.declared.row_notes.RowNotes.{RowNotes}
 use Rattle.cert_check.specs.RowNotes.{HasNotes}
 use Rattle.cert_check.specs.Texts.{IsTextOfCert}
-use Rattle.cert_check.specs.ReadCert.{ReadAnswer}
+use Rattle.cert_check.specs.ReadCert.{IsRead, ReadAnswer}
 use Rattle.cert_check.specs.Steps.{AreFaulty}
 use Rattle.plan_cert.specs.RowFaults.{RowsAreAccounted}
 use Rattle.cert_check.specs.Checking.{IsProved}
 use Rattle.cert_check.specs.Rows.{ProvesAfter, ProvesAnswer, RowsAnswer}
 use Rattle.cert_check.specs.Checking.{CheckedData, IsFault, IsRefused, IsAnswer, IsRowsFault, RowsVerdict, CertAnswer, AreParts, AreRowParts, verdict_of}
 use Rattle.cert_check.proofs.Truth.{is_good}
+use Rattle.cert_check.proofs.CertTexts.{no_cert_text, cert_given}
 
 -- the job of a certificate's text is valid, and the certificate is well formed
 pub text_form : (text : List ℕ) (job : JobData) (cert : CertData) → IsTextOfCert text job cert → IsJob job × IsWellFormed job cert
@@ -100,25 +102,27 @@ text_accepted text job cert written answer checked jobs verdict =
       verdict = verdict;
     }
 
-pub text_unread : (text : List ℕ) (fault : CheckFault) → ReadAnswer text (Err fault) → (fault ≡ NoMemory) ⊎ IsAnswer text (Err fault)
-text_unread text (Cert fault) answer = inr answer
+pub text_unread : (text : List ℕ) (fault : CheckFault) → ReadAnswer Certificate text (Err fault) → (fault ≡ NoMemory) ⊎ IsAnswer text (Err fault)
+text_unread text (Cert fault) answer = inr (no_cert_text text fault answer)
 text_unread text NoMemory answer = inl refl
 text_unread text _ answer = absurd answer
 
 -- ---- what was read
 -- of a certificate that was read these are all parts
-pub parts_read : (text : List ℕ) (read : ReadCert) (answer : ReadAnswer text (Ok read)) → AreParts read.job read.claim read.steps.items read.rows.items read.notes answer.0
-parts_read text read (cert, written, has, kept, testing) = record {
-  parts = record {
-    valid = written.exact.job;
-    form = written.exact.form;
-    claim_is = has.claim;
-    rows_are = has.rows;
-    notes_are = kept;
-    table = testing.table;
-  };
-  steps_are = has.steps;
-}
+pub parts_read : (text : List ℕ) (read : ReadCert) (is : IsRead Certificate text read) → AreParts read.job read.claim read.steps.items read.rows.items read.notes is.cert
+parts_read text read is =
+    let made = cert_given text read is in
+    record {
+      parts = record {
+        valid = made.valid;
+        form = made.form;
+        claim_is = is.has.claim;
+        rows_are = is.has.rows;
+        notes_are = is.kept made;
+        table = is.testing.table;
+      };
+      steps_are = is.has.steps;
+    }
 
 -- and what is kept of its notes
 pub notes_read : (job : JobData) (claim : Worth) (rows : List RowHead) (notes : RowNotes) (cert : CertData) → AreRowParts job claim rows notes cert → HasNotes job cert.rows cert.notes notes

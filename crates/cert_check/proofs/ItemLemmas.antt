@@ -2,25 +2,21 @@
 use Rattle.std.proofs.Common.{◌≡◌, ℕ, suc, ◌+◌, ◌<◌, Bool, true, false, not, List, [], ◌∷◌, length, drop, drop-cons, add-one, Some, Result, Ok, Err, refl, sym, ◌∙◌, ap, arith}
 use Rattle.std.specs.Prelude.{slice_get, IfOk, if◌then◌else◌}
 use Rattle.std.proofs.lemmas.List.{length-drop}
-use Rattle.std.specs.Result.{result_ok}
-use Rattle.std.proofs.lemmas.Option.{same_Some, slice_get_within, get_or_from_slice_get}
+use Rattle.std.proofs.lemmas.Option.{slice_get_within, get_or_from_slice_get}
 use Rattle.job_setup.specs.Setup.{JobData}
 use Rattle.plan_cert.specs.declared.item.Item.{Item}
 use Rattle.plan_cert.specs.declared.item.Item.TheVariants as given
 use Rattle.plan_cert.specs.declared.item.CertFault.{CertFault}
 use Rattle.plan_cert.specs.declared.item.CertFault.TheVariants.{Unended}
-use Rattle.plan_cert.specs.declared.format.TextKind.{TextKind}
-use Rattle.plan_cert.specs.declared.format.TextKind.TheVariants.{Certificate}
 use Rattle.plan_cert.specs.Reading.{Reading}
 use Rattle.plan_cert.specs.Cert.{CertData}
 use Rattle.plan_cert.specs.Items.{items}
 use Rattle.plan_cert.specs.PlanItem.{job_answer}
-use Rattle.plan_cert.specs.CertReading.{CertFileData, version_in, no_cert, with_item, is_last, cert_of, with_job, cert_file_of, answers_left}
+use Rattle.plan_cert.specs.CertReading.{with_item, is_last, cert_of, answers_left}
 use Rattle.plan_cert.proofs.Collecting.{goes_on}
 use Rattle.cert_check.specs.declared.read_cert.ReadCert.{ReadCert}
 use Rattle.cert_check.specs.declared.row_notes.RowNotes.{RowNotes}
-use Rattle.cert_check.specs.ReadCert.{HasParts, KeepsAll, IsUnderway, IsKept, IsFurther, ItemAnswer, JobAnswer, behind}
-use Rattle.cert_check.proofs.Refusing.{refused_for}
+use Rattle.cert_check.specs.ReadCert.{HasParts, KeepsAll, IsUnderway, IsKept, ItemAnswer, behind}
 
 answers : Reading → List (Result Item CertFault)
 answers r = items r.kind r.text
@@ -57,25 +53,6 @@ module _ (before : CertData) (more : List (Result Item CertFault)) where
   pub of_none : cert_of before [] ≡ Err Unended
   unfolding cert_of
   of_none = refl
-
-abbrev file_by : List ℕ → JobData → Result CertData CertFault → Result CertFileData CertFault
-file_by text job (Ok cert) = Ok (record { job = job; cert = cert; version = version_in text })
-file_by text job (Err fault) = Err fault
-
--- a certificate's text begins with its job
-pub file_of : (text : List ℕ) (job : JobData) (more : List (Result Item CertFault)) (cert : CertData) → items Certificate text ≡ Ok (given.Job job) ∷ more → cert_of no_cert more ≡ Ok cert
-    → cert_file_of text ≡ Ok (record { job = job; cert = cert; version = version_in text })
-unfolding cert_file_of with_job
-file_of text job more cert begins completes = ap (with_job text) begins ∙ ap (file_by text job) completes
-
-pub file_fault : (text : List ℕ) (job : JobData) (more : List (Result Item CertFault)) (fault : CertFault) → items Certificate text ≡ Ok (given.Job job) ∷ more → cert_of no_cert more ≡ Err fault
-    → cert_file_of text ≡ Err fault
-unfolding cert_file_of with_job
-file_fault text job more fault begins refuses = ap (with_job text) begins ∙ ap (file_by text job) refuses
-
-pub first_fault : (text : List ℕ) (more : List (Result Item CertFault)) (fault : CertFault) → items Certificate text ≡ Err fault ∷ more → cert_file_of text ≡ Err fault
-unfolding cert_file_of with_job
-first_fault text more fault begins = ap (with_job text) begins
 
 -- where answers make a certificate there are some
 pub some_answer : (before cert : CertData) (left : List (Result Item CertFault)) → cert_of before left ≡ Ok cert → 0 < length left
@@ -129,55 +106,11 @@ item_read old read before item left has more kept = by_last (is_last item) refl
     by_last true is = (before, at_end read before item is has, last_item before left item is, λ under. keeps_all old.job before left read.notes item is (kept before under))
 
 -- ---- a reader and the one behind it
--- all answers, where the first is given
-pub begins : (r : Reading) (answer : Result Item CertFault) → r.kind ≡ Certificate → r.answered ≡ 0 → slice_get (items r.kind r.text) r.answered ≡ Some answer
-    → items Certificate r.text ≡ answer ∷ answers_left (behind r)
-begins r answer kind first given =
-    ap (λ (k : TextKind). items k r.text) (sym kind) ∙ (ap (λ (n : ℕ). drop n (items r.kind r.text)) (sym first) ∙ left_on r answer given)
-
--- a reader behind another is further on
-pub further_on : (r next : Reading) → next ≡ behind r → IsFurther r next
-further_on r next is = record {
-  kind = ap (λ (q : Reading). q.kind) is;
-  text = ap (λ (q : Reading). q.text) is;
-  further = let on = ap (λ (q : Reading). q.answered) is in omega (arith, on);
-}
-
 -- behind an item but the end an answer is left
 pub answer_behind : (r : Reading) (item : Item) → slice_get (items r.kind r.text) r.answered ≡ Some (Ok item) → is_last item ≡ false → 0 < length (answers_left (behind r))
 answer_behind r item given goes = some_left (behind r) (goes_on r.kind r.text r.answered item given goes)
 
--- the first answer is the job, behind which an answer is left, or the text is refused
-pub job_first : (r : Reading) (answer : Result JobData CertFault) → r.kind ≡ Certificate → r.answered ≡ 0 → slice_get (items r.kind r.text) r.answered ≡ Some (job_answer answer)
-    → JobAnswer r.text answer (answers_left (behind r))
-job_first r (Ok job) kind first is = begins r (Ok (given.Job job)) kind first is
-job_first r (Err fault) kind first is = refused_for r.text fault (first_fault r.text (answers_left (behind r)) fault (begins r (Err fault) kind first is))
-
+-- so is one behind the job
 pub job_behind : (r : Reading) (answer : Result JobData CertFault) → slice_get (items r.kind r.text) r.answered ≡ Some (job_answer answer) → IfOk answer (λ _. r.answered + 1 < length (items r.kind r.text))
 job_behind r (Ok job) is = goes_on r.kind r.text r.answered (given.Job job) is refl
 job_behind r (Err fault) is = tt
-
--- ---- the items of a certificate's text
-by_file : (text : List ℕ) (job : JobData) (r : Result CertData CertFault) (f : CertFileData) → file_by text job r ≡ Ok f → r ≡ Ok f.cert
-by_file text job (Ok cert) f is = ap (λ (g : CertFileData). Ok g.cert) (same_Some _ f (ap result_ok is))
-by_file text job (Err fault) f is = absurd cc
-
-with_job_items : (text : List ℕ) (xs : List (Result Item CertFault)) (f : CertFileData) → with_job text xs ≡ Ok f → cert_of no_cert xs ≡ Ok f.cert
-unfolding with_job
-with_job_items text [] f is = absurd cc
-with_job_items text (Err fault ∷ more) f is = absurd cc
-with_job_items text (Ok (given.Job job) ∷ more) f is = of_item no_cert more (given.Job job) refl ∙ by_file text job (cert_of no_cert more) f is
-with_job_items text (Ok (given.Claim claim) ∷ more) f is = absurd cc
-with_job_items text (Ok (given.Step step) ∷ more) f is = absurd cc
-with_job_items text (Ok (given.Row head) ∷ more) f is = absurd cc
-with_job_items text (Ok (given.Note action reason) ∷ more) f is = absurd cc
-with_job_items text (Ok given.End ∷ more) f is = absurd cc
-
--- all answers together make the certificate, for the job adds nothing to it
-pub text_items : (text : List ℕ) (f : CertFileData) → cert_file_of text ≡ Ok f → cert_of no_cert (items Certificate text) ≡ Ok f.cert
-unfolding cert_file_of
-text_items text f is = with_job_items text (items Certificate text) f is
-
--- so do those behind the job
-pub text_items_behind : (text : List ℕ) (f : CertFileData) (job : JobData) (left : List (Result Item CertFault)) → cert_file_of text ≡ Ok f → items Certificate text ≡ Ok (given.Job job) ∷ left → cert_of no_cert left ≡ Ok f.cert
-text_items_behind text f job left is begins = sym (of_item no_cert left (given.Job job) refl) ∙ (ap (cert_of no_cert) (sym begins) ∙ text_items text f is)

@@ -1,5 +1,5 @@
 -- Known notes that are taken at once: what is made of their answers, their actions in the set of a row, and their reasons.
-use Rattle.std.proofs.Common.{◌≡◌, ◌≢◌, inl, inr, ℕ, ◌+◌, ◌-◌, ◌*◌, ◌/◌, ◌%◌, ◌^◌, ◌<◌, ◌≤◌, ◌==◌, ◌&&◌, ◌||◌, Bool, true, false, List, [], ◌∷◌, ◌++◌, length, map, drop, set, get_or, All, IsTrue, Option, Some, None, Result, Ok, refl, sym, ◌∙◌, ap, subst, arith, length-set}
+use Rattle.std.proofs.Common.{Err, IfOk, ◌≡◌, ◌≢◌, inl, inr, ℕ, ◌+◌, ◌-◌, ◌*◌, ◌%◌, ◌^◌, ◌<◌, ◌==◌, ◌&&◌, ◌||◌, Bool, true, false, List, [], ◌∷◌, ◌++◌, length, map, drop, set, get_or, Option, Some, None, Result, Ok, refl, sym, ◌∙◌, ap, subst, arith, length-set}
 use Rattle.std.specs.Prelude.{min, is_some, slice_get}
 use Rattle.std.specs.List.{list_any}
 use Rattle.std.specs.Result.{result_ok}
@@ -9,12 +9,11 @@ use Rattle.std.proofs.lemmas.List.Elements.{All-append, All-map}
 use Rattle.std.proofs.lemmas.List.Folds.{list_any-append, list_any_none}
 use Rattle.std.proofs.lemmas.Option.{same_Some, none-some, slice_get_within, slice_get-get_or}
 use Rattle.brake_base.specs.declared.mask.Mask.{Mask}
-use Rattle.brake_base.specs.declared.stroke.Action.{Action}
 use Rattle.brake_base.specs.declared.reason.Reason.{Reason}
 use Rattle.brake_base.specs.declared.reason.Reason.TheVariants.{Cover}
-use Rattle.brake_base.specs.Actions.{IsActionAmong, number_of_action}
+use Rattle.brake_base.specs.Actions.{number_of_action}
 use Rattle.stage_lanes.specs.declared.actions.ActionSet.{ActionSet}
-use Rattle.stage_lanes.specs.ActionSets.{has_place, place_of, places_of, ArePlaces, IsNone}
+use Rattle.stage_lanes.specs.ActionSets.{has_place, place_of, places_of, IsNone}
 use Rattle.job_setup.specs.Setup.{JobData, bend_count, stage_count}
 use Rattle.job_setup.specs.ValidJob.{IsJob}
 use Rattle.handling_cost.specs.Plan.{IsReasonFor}
@@ -26,6 +25,8 @@ use Rattle.plan_cert.specs.declared.item.CertFault.{CertFault}
 use Rattle.plan_cert.specs.Reading.{Reading}
 use Rattle.plan_cert.specs.Cert.{CertData}
 use Rattle.plan_cert.specs.Items.{items}
+use Rattle.plan_cert.specs.declared.item.PlanItem.{PlanItem}
+use Rattle.plan_cert.specs.PlanItem.{item_of, plan_answer}
 use Rattle.plan_cert.specs.CertReading.{cert_of, with_item, answers_left}
 use Rattle.plan_cert.specs.Lines.{action_at}
 use Rattle.plan_cert.specs.NoteLines.{KnownReasons, IsKnownAt, AreKnownAll, number_at, reason_at, reason_by, or_cover, note_told, notes_told, LearnsFrom}
@@ -38,7 +39,7 @@ use Rattle.cert_check.specs.declared.row_notes.NotePlace.{NotePlace}
 use Rattle.cert_check.specs.declared.row_notes.RowNotes.{RowNotes}
 use Rattle.cert_check.specs.RowNotes.{is_noted, has_note, note_at, AreNoted, IsSound, IsFirstUnsound, IsUnionPut}
 use Rattle.cert_check.specs.KnownNotes.{KnowsSound, KnowsSoundBut}
-use Rattle.cert_check.specs.ReadCert.{IsRowFirst, IsUnderway, IsFurther, KeepsNotes}
+use Rattle.cert_check.specs.ReadCert.{IsRowFirst, IsUnderway, KeepsNotes}
 use Rattle.cert_check.proofs.GrowLemmas.{grows}
 use Rattle.cert_check.proofs.ItemLemmas.{of_item, some_left}
 use Rattle.cert_check.proofs.NoteLemmas.{wide, place_within}
@@ -279,14 +280,6 @@ module _ (job : JobData) (cert before : CertData) (left : List (Result Item Cert
     });
   }
 
--- behind known notes the reader goes on
-pub known_further : (r next : Reading) (count : ℕ) → 0 < count → next ≡ record r { answered = r.answered + count } → IsFurther r next
-known_further r next count some is = record {
-  kind = ap (λ (q : Reading). q.kind) is;
-  text = ap (λ (q : Reading). q.text) is;
-  further = let on = ap (λ (q : Reading). q.answered) is in omega (arith, on, some);
-}
-
 -- ---- what the lines know
 -- each reason is known to hold, or is the note's that was read
 pub learned_but : (job : JobData) (notes : RowNotes) (item : Item) (old new : KnownReasons) → KnowsSound job notes old → LearnsFrom old (Ok item) new → KnowsSoundBut job notes item new
@@ -367,3 +360,8 @@ none_taken r next set none after =
     let empty = ap (λ (places : List ℕ). length places) (no_places set none) in
     let same : r.answered + length (places_of set) ≡ r.answered = omega (arith, empty) in
     after ∙ ap (λ (n : ℕ). record r { answered = n }) same
+
+-- behind an answer each reason that is known holds there but that of the note that was answered
+pub learned_answer : (job : JobData) (notes : RowNotes) (answer : Result PlanItem CertFault) (old new : KnownReasons) → KnowsSound job notes old → LearnsFrom old (plan_answer answer) new → IfOk answer (λ item. KnowsSoundBut job notes (item_of item) new)
+learned_answer job notes (Ok item) old new sound learns = learned_but job notes (item_of item) old new sound learns
+learned_answer job notes (Err fault) old new sound learns = tt

@@ -10,9 +10,12 @@ pub mod GrowLemmas
 pub mod NoteLemmas
 pub mod KnownLemmas
 pub mod ReadLemmas
+pub mod CertTexts
+pub mod WindowLemmas
 pub mod RowLemmas
 pub mod ProvedLemmas
 pub mod RowLaneLemmas
+pub mod ClosingLemmas
 pub mod Accounting
 pub mod Deciding
 pub mod StrokeFaults

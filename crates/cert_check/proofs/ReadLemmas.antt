@@ -1,7 +1,8 @@
 -- The loop over the items of a text.
-use Rattle.std.proofs.Common.{◌≡◌, inl, inr, ℕ, suc, ◌-◌, ◌*◌, ◌^◌, ◌<◌, IsTrue, Bool, true, false, List, [], ◌∷◌, ◌++◌, length, map, get_or, Some, Result, Ok, Err, refl, sym, ◌∙◌, ap, subst, arith}
-use Rattle.std.specs.Prelude.{min, slice_get}
-use Rattle.std.proofs.lemmas.List.{length_push, get_or_push}
+use Rattle.std.proofs.Common.{◌≡◌, inl, inr, ℕ, ◌+◌, ◌-◌, ◌*◌, ◌^◌, ◌<◌, IsTrue, Bool, true, false, List, [], ◌∷◌, ◌++◌, append-nil, length, drop, map, get_or, Some, None, Option, Result, Ok, Err, refl, sym, ◌∙◌, ap, subst, arith}
+use Rattle.std.specs.Prelude.{min, slice_get, IfOk, IfSome}
+use Rattle.std.proofs.Math.Seq.{drop-append_seam}
+use Rattle.std.proofs.lemmas.List.{length_push, get_or_push, drop-drop}
 use Rattle.std.proofs.lemmas.List.Elements.{All-nil, Contains-push}
 use Rattle.std.proofs.lemmas.Option.{same_Some, none-some, slice_get_within, slice_get-get_or, get_or_from_slice_get}
 use Rattle.brake_base.specs.declared.reason.Reason.{Reason}
@@ -9,35 +10,37 @@ use Rattle.brake_base.specs.declared.stroke.Step.{Step}
 use Rattle.brake_base.specs.declared.stroke.Worth.{Worth}
 use Rattle.job_setup.specs.Setup.{JobData, bend_count, stage_count}
 use Rattle.job_setup.specs.StrokeGroup.{is_lead}
+use Rattle.job_setup.specs.ValidJob.{IsJob}
 use Rattle.plan_cert.specs.declared.cert.RowHead.{RowHead}
 use Rattle.plan_cert.specs.declared.cert.Note.{Note}
 use Rattle.plan_cert.specs.declared.item.Item.{Item}
 use Rattle.plan_cert.specs.declared.item.Item.TheVariants as given
 use Rattle.plan_cert.specs.declared.item.CertFault.{CertFault}
-use Rattle.plan_cert.specs.declared.format.TextKind.TheVariants.{Certificate}
-use Rattle.plan_cert.specs.Reading.{Reading}
+use Rattle.plan_cert.specs.declared.item.CertFault.TheVariants as faults
+use Rattle.plan_cert.specs.declared.format.TextKind.{TextKind}
+use Rattle.plan_cert.specs.declared.line_place.LinePlace.{LinePlace}
+use Rattle.plan_cert.specs.Reading.{Reading, LeavesAt, GivesNext, HoldsBefore}
 use Rattle.plan_cert.specs.Cert.{CertData}
 use Rattle.plan_cert.specs.Items.{items}
 use Rattle.plan_cert.specs.CertItems.{rows_items, cert_items}
-use Rattle.plan_cert.specs.CertReading.{CertFileData, no_cert, with_item, with_step, cert_of, answers_left, version_in, AnswersLeft}
+use Rattle.plan_cert.specs.CertReading.{no_cert, with_item, with_step, cert_of, answers_left}
 use Rattle.plan_cert.specs.Lines.{action_at}
-use Rattle.plan_cert.specs.NoteLines.{KnownReasons}
+use Rattle.plan_cert.specs.NoteLines.{KnownReasons, GivesAll, note_told, notes_told}
+use Rattle.plan_cert.proofs.NoteSets.{no_places}
+use Rattle.stage_lanes.specs.declared.actions.ActionSet.{ActionSet}
+use Rattle.stage_lanes.specs.ActionSets.{IsNone}
 use Rattle.plan_cert.specs.WellFormed.{IsNote, IsRow}
+use Rattle.plan_cert.proofs.ItemCounts.{answer_at, answers_behind}
 use Rattle.plan_cert.proofs.Conditions.{rows_of}
 use Rattle.plan_cert.proofs.NumberedActions.{tried_at}
-use Rattle.plan_cert.proofs.Exactly.{read_file, text_of_given}
 use Rattle.plan_cert.proofs.RowOrder.{no_row, few_rows}
 use Rattle.cert_check.specs.declared.fault.CheckFault.{CheckFault}
-use Rattle.cert_check.specs.declared.fault.CheckFault.TheVariants.{Cert, NoMemory}
+use Rattle.cert_check.specs.declared.fault.CheckFault.TheVariants.{Cert}
 use Rattle.cert_check.specs.declared.read_cert.ReadCert.{ReadCert}
 use Rattle.cert_check.specs.declared.row_notes.RowNotes.{RowNotes}
 use Rattle.cert_check.specs.RowNotes.{AreNoted, HasNoNotes, IsAtRow, IsFirstUnsound, IsSound, IsTesting, last_note, note_at}
-use Rattle.cert_check.specs.KnownNotes.{KnowsSound}
-use Rattle.cert_check.specs.ReadCert.{HasParts, KeepsNotes, KeepsAll, ReadAnswer, IsRowFirst, IsUnderway, ItemAnswer}
-use Rattle.cert_check.specs.Texts.{IsTextOfCert}
-use Rattle.cert_check.proofs.Accepting.{text_reads}
-use Rattle.cert_check.proofs.Refusing.{refused_for}
-use Rattle.cert_check.proofs.ItemLemmas.{of_item, file_of, file_fault, text_items_behind}
+use Rattle.cert_check.specs.ReadCert.{AreRefused, HasParts, IsGivenBy, IsReadBefore, IsReadUpTo, IsRowFirst, IsUnderway, ItemAnswer, KeepsAll, KeepsNotes, PieceAnswer, ReadAnswer, behind}
+use Rattle.cert_check.proofs.ItemLemmas.{of_item, left_on, left_some, job_behind}
 use Rattle.cert_check.proofs.GrowLemmas.{grows, step_rows}
 use Rattle.cert_check.proofs.NoteLemmas.{noted_none}
 
@@ -47,34 +50,33 @@ steps_first : (steps : List Step) (rows more : List Item) → IsRowFirst (map Ok
 steps_first [] rows more is = is
 steps_first (step ∷ steps) rows more is = steps_first steps rows more is
 
-rows_first : (rows : List RowHead) (notes : List Note) → IsRowFirst (map Ok (rows_items rows notes ++ given.End ∷ []))
+pub rows_first : (rows : List RowHead) (notes : List Note) → IsRowFirst (map Ok (rows_items rows notes ++ given.End ∷ []))
 unfolding rows_items
 rows_first [] notes = tt
 rows_first (row ∷ rows) notes = tt
 
-cert_first : (job : JobData) (cert : CertData) → IsRowFirst (map Ok (cert_items job cert))
+pub cert_first : (job : JobData) (cert : CertData) → IsRowFirst (map Ok (cert_items job cert))
 unfolding cert_items
 cert_first job cert = steps_first cert.steps (rows_items cert.rows cert.notes) (given.End ∷ []) (rows_first cert.rows cert.notes)
 
 -- ---- what is kept, item by item
+-- of no row and no note
+pub keeps_none : (job : JobData) → IsJob job → (all : List RowHead) (notes : RowNotes) → HasNoNotes notes → KeepsNotes job all [] [] notes
+keeps_none job is_job all notes none = record {
+  noted = noted_none job is_job notes.sets.items none.sets;
+  first = subst (IsFirstUnsound job all []) (sym none.unsound) (All-nil (IsSound job all));
+  mask = λ head at. absurd (none-some head at);
+}
+
 -- behind the job nothing is kept
-pub underway_first : (text : List ℕ) (job : JobData) (cert : CertData) (left : List (Result Item CertFault)) (notes : RowNotes) → items Certificate text ≡ Ok (given.Job job) ∷ left → HasNoNotes notes → IsTextOfCert text job cert
-    → IsUnderway job cert no_cert left notes
-underway_first text job cert left notes starts none written =
-    let file : CertFileData = record { job = job; cert = cert; version = written.version } in
-    let reads = text_reads text job cert written in
-    let from = read_file text file reads in
-    record {
-      valid = written.exact.job;
-      form = written.exact.form;
-      completes = text_items_behind text file job left reads starts;
-      row_first = inr (subst IsRowFirst (sym from.items ∙ starts) (cert_first job cert));
-      kept = record {
-        noted = noted_none job written.exact.job notes.sets.items none.sets;
-        first = subst (IsFirstUnsound job cert.rows []) (sym none.unsound) (All-nil (IsSound job cert.rows));
-        mask = λ head at. absurd (none-some head at);
-      };
-    }
+pub underway_first : (job : JobData) (cert : CertData) (left : List (Result Item CertFault)) (notes : RowNotes) → HasNoNotes notes → IsGivenBy job cert left → IsUnderway job cert no_cert left notes
+underway_first job cert left notes none made = record {
+  valid = made.valid;
+  form = made.form;
+  completes = made.completes;
+  row_first = inr made.row_first;
+  kept = keeps_none job made.valid cert.rows notes none;
+}
 
 module _ (job : JobData) (cert before : CertData) (left : List (Result Item CertFault)) where
   -- a claim and a step change nothing
@@ -198,56 +200,138 @@ module _ (job : JobData) (cert before : CertData) (left : List (Result Item Cert
       });
     }
 
--- ---- the text begins with the job, and what stands behind it comes to the same as what is left behind what was read
-pub record Reads (text : List ℕ) (read : ReadCert) (reader : Reading) (known : KnownReasons) : Type 0 where
-  pub behind_job : List (Result Item CertFault)
-  pub starts : items Certificate text ≡ Ok (given.Job read.job) ∷ behind_job
-  pub before : CertData
-  pub has : HasParts read before
-  pub same : cert_of no_cert behind_job ≡ cert_of before (answers_left reader)
-  pub job_read : 0 < reader.answered
-  pub more : AnswersLeft reader
-  pub testing : IsTesting read.job read.notes
-  pub knows : KnowsSound read.job read.notes known
-  pub underway : (cert : CertData) → IsTextOfCert text read.job cert → IsUnderway read.job cert before (answers_left reader) read.notes
+-- ---- what is read of the text
+-- what is given is the next of a reader's answers
+pub next_given : (r : Reading) (given : Result Item CertFault) (place : LinePlace) (rest : List ℕ) → GivesNext (answers_left r) given place rest
+    → (slice_get (items r.kind r.text) r.answered ≡ Some given) × LeavesAt place rest (answers_left (behind r))
+next_given r given place rest gives =
+    let (more, first, left) = gives in (
+      answer_at (items r.kind r.text) more r.answered given first,
+      subst (LeavesAt place rest) (sym (answers_behind (items r.kind r.text) more r.answered given first)) left,
+    )
 
-abbrev pub ReadsBy : Bool → List ℕ → ReadCert → Reading → KnownReasons → Type 0
-ReadsBy true text read reader known = Reads text read reader known
-ReadsBy false text read reader known = ReadAnswer text (Ok read)
+-- so are those that are told at once
+pub all_given : (r : Reading) (told : List (Result Item CertFault)) (count : ℕ) (place : LinePlace) (rest : List ℕ) → length told ≡ count → GivesAll (answers_left r) told place rest
+    → (answers_left r ≡ told ++ answers_left (record r { answered = r.answered + count })) × LeavesAt place rest (answers_left (record r { answered = r.answered + count }))
+all_given r told count place rest long gives =
+    let (more, first, left) = gives in
+    let all = items r.kind r.text in
+    let behind : drop (r.answered + count) all ≡ more =
+    sym (drop-drop count r.answered all) ∙ ap (λ (xs : List (Result Item CertFault)). drop count xs) first ∙ ap (λ (n : ℕ). drop n (told ++ more)) (sym long) ∙ drop-append_seam told more in (
+      first ∙ ap (λ (xs : List (Result Item CertFault)). told ++ xs) (sym behind),
+      subst (LeavesAt place rest) (sym behind) left,
+    )
 
--- how many answers are left while the end isn't read
-abbrev pub unread : Bool → ℕ → ℕ
-unread true left = suc left
-unread false left = 0
+-- where no note is told the same answers are left
+pub none_told : (known : KnownReasons) (set : ActionSet) (answers : List (Result Item CertFault)) (place : LinePlace) (rest : List ℕ) → IsNone set → GivesAll answers (notes_told known set) place rest → LeavesAt place rest answers
+none_told known set answers place rest none gives =
+    let (more, first, left) = gives in
+    subst (LeavesAt place rest) (sym (first ∙ ap (λ (places : List ℕ). map (note_told known) places ++ more) (no_places set none))) left
 
-module _ (text : List ℕ) (read : ReadCert) (reader : Reading) (known : KnownReasons) (reads : Reads text read reader known) where
+abbrev whole : TextKind → List ℕ → Reading
+whole kind text = record { kind = kind; text = text; answered = 0 }
+
+-- the job, or the refusal of the text
+pub job_read : (kind : TextKind) (text : List ℕ) (read : ReadCert) (place : LinePlace) (rest : List ℕ) → HasParts read no_cert → HasNoNotes read.notes → GivesNext (items kind text) (Ok (given.Job read.job)) place rest
+    → IsReadBefore kind text read place rest
+job_read kind text read place rest has none gives =
+    let r = whole kind text in
+    let next = next_given r (Ok (given.Job read.job)) place rest gives in
+    record {
+      reader = behind r;
+      reads = record {
+        behind_job = answers_left (behind r);
+        starts = left_on r (Ok (given.Job read.job)) next.0;
+        before = no_cert;
+        has = has;
+        same = refl;
+        more = job_behind r (Ok read.job) next.0;
+        underway = λ cert made. underway_first read.job cert (answers_left (behind r)) read.notes none made;
+      };
+      leaves = next.1;
+    }
+
+-- answers that begin with a refusal are refused, and so are others that come to one
+are_refused : (answers more : List (Result Item CertFault)) (fault : CertFault) → answers ≡ Err fault ∷ more → AreRefused answers fault
+are_refused answers more fault is = subst (λ (all : List (Result Item CertFault)). AreRefused all fault) (sym is) refl
+
+pub job_refused : (kind : TextKind) (text : List ℕ) (fault : CertFault) (place : LinePlace) (rest : List ℕ) → GivesNext (items kind text) (Err fault) place rest → ReadAnswer kind text (Err (Cert fault))
+job_refused kind text fault place rest (more, first, left) = are_refused (items kind text) more fault first
+
+-- what the text may go on with
+pub holds_edge : (fault : CertFault) (behind : List ℕ) → (Cert fault ≡ Cert faults.Unended → behind ≡ []) → HoldsBefore (Err fault) behind
+holds_edge (faults.BadLine line) behind edge = tt
+holds_edge faults.Unended behind edge = edge refl
+holds_edge faults.Trailing behind edge = tt
+holds_edge faults.BadJob behind edge = tt
+holds_edge faults.NoMemory behind edge = tt
+
+abbrev refusal : CheckFault → Result ReadCert CheckFault
+refusal fault = Err fault
+
+err_same : (a b : CheckFault) → refusal a ≡ refusal b → a ≡ b
+err_same a b same = ap (λ (r : Result ReadCert CheckFault). elim r [ Ok read ↦ a | Err fault ↦ fault ]) same
+
+pub edge_refused : (kind : TextKind) (text behind : List ℕ) (own : CertFault) (fault : CheckFault) (place : LinePlace) (rest : List ℕ) → refusal (Cert own) ≡ refusal fault → (fault ≡ Cert faults.Unended → behind ≡ [])
+    → (HoldsBefore (Err own) behind → GivesNext (items kind text) (Err own) place rest) → ReadAnswer kind text (Err fault)
+edge_refused kind text behind own fault place rest same edge gives =
+    let is = err_same (Cert own) fault same in
+    subst (λ (f : CheckFault). ReadAnswer kind text (Err f)) is (job_refused kind text own place rest (gives (holds_edge own behind (λ unended. edge (sym is ∙ unended)))))
+
+module _ (kind : TextKind) (text : List ℕ) (read : ReadCert) (reader : Reading) (reads : IsReadUpTo kind text read reader) where
+  -- the text begins with the job, which stays
+  starts_on : (after : ReadCert) → after.job ≡ read.job → items kind text ≡ Ok (given.Job after.job) ∷ reads.behind_job
+  starts_on after job = reads.starts ∙ ap (λ (j : JobData). Ok (given.Job j) ∷ reads.behind_job) (sym job)
+
   -- an item more
-  pub reads_on : (after : ReadCert) (next : Reading) (learned : KnownReasons) (goes : Bool) → after.job ≡ read.job → 0 < next.answered → (0 < length (answers_left next) → AnswersLeft next) → IsTesting after.job after.notes
-      → KnowsSound after.job after.notes learned
-      → ItemAnswer (Ok goes) reads.before read (answers_left reader) after (answers_left next) → ReadsBy goes text after next learned
-  reads_on after next learned true job on more_left testing knows answer = record {
-    behind_job = reads.behind_job;
-    starts = reads.starts ∙ ap (λ (j : JobData). Ok (given.Job j) ∷ reads.behind_job) (sym job);
-    before = answer.0;
-    has = answer.1;
-    same = reads.same ∙ answer.2;
-    job_read = on;
-    more = more_left answer.3;
-    testing = testing;
-    knows = knows;
-    underway = λ cert written. subst (λ (j : JobData). IsUnderway j cert answer.0 (answers_left next) after.notes) (sym job) (answer.4 cert (reads.underway cert (subst (λ (j : JobData). IsTextOfCert text j cert) job written)));
+  pub reads_on : (after : ReadCert) (next : Reading) (place : LinePlace) (rest : List ℕ) (goes : Bool) → after.job ≡ read.job → LeavesAt place rest (answers_left next) → IsTesting after.job after.notes
+      → ItemAnswer (Ok goes) reads.before read (answers_left reader) after (answers_left next) → PieceAnswer (Ok goes) kind text after place rest
+  reads_on after next place rest true job leaves testing answer = record {
+    reader = next;
+    reads = record {
+      behind_job = reads.behind_job;
+      starts = starts_on after job;
+      before = answer.0;
+      has = answer.1;
+      same = reads.same ∙ answer.2;
+      more = left_some next answer.3;
+      underway = λ cert made.
+          subst (λ (j : JobData). IsUnderway j cert answer.0 (answers_left next) after.notes) (sym job) (answer.4 cert (reads.underway cert (subst (λ (j : JobData). IsGivenBy j cert reads.behind_job) job made)));
+    };
+    leaves = leaves;
   }
-  reads_on after next learned false job on more_left testing knows answer =
-      let written : IsTextOfCert text after.job answer.0 = record {
-        version = version_in text;
-        exact = text_of_given text (record { job = after.job; cert = answer.0; version = version_in text })
-            (file_of text after.job reads.behind_job answer.0 (reads.starts ∙ ap (λ (j : JobData). Ok (given.Job j) ∷ reads.behind_job) (sym job)) (reads.same ∙ answer.2));
-      } in
-      let kept = answer.3 (reads.underway answer.0 (subst (λ (j : JobData). IsTextOfCert text j answer.0) job written)) in
-      (answer.0, written, answer.1, subst (λ (j : JobData). KeepsAll j answer.0 after.notes) (sym job) kept, testing)
+  reads_on after next place rest false job leaves testing answer = record {
+    behind_job = reads.behind_job;
+    starts = starts_on after job;
+    cert = answer.0;
+    completes = reads.same ∙ answer.2;
+    has = answer.1;
+    kept = λ made. subst (λ (j : JobData). KeepsAll j answer.0 after.notes) (sym job) (answer.3 (reads.underway answer.0 (subst (λ (j : JobData). IsGivenBy j answer.0 reads.behind_job) job made)));
+    testing = testing;
+  }
 
   -- a refusal
-  pub refused_on : (after : ReadCert) (next : Reading) (fault : CheckFault) → ItemAnswer (Err fault) reads.before read (answers_left reader) after (answers_left next) → ReadAnswer text (Err fault)
-  refused_on after next (Cert fault) answer = refused_for text fault (file_fault text read.job reads.behind_job fault reads.starts (reads.same ∙ answer))
-  refused_on after next NoMemory answer = tt
-  refused_on after next _ answer = answer
+  pub refused_on : (fault : CertFault) → cert_of reads.before (answers_left reader) ≡ Err fault → ReadAnswer kind text (Err (Cert fault))
+  refused_on fault answer = subst (λ (all : List (Result Item CertFault)). AreRefused all fault) (sym reads.starts) (reads.same ∙ answer)
+
+-- what holds of each value there is
+pub some_weaker : {A : Type 0} (P Q : A → Type 0) → ((a : A) → P a → Q a) → (o : Option A) → IfSome o P → IfSome o Q
+some_weaker P Q on (Some a) is = on a is
+some_weaker P Q on None is = tt
+
+-- where nothing more was read
+pub moved : (kind : TextKind) (text : List ℕ) (read other : ReadCert) (place elsewhere : LinePlace) (rest after behind : List ℕ) → other ≡ read → elsewhere ≡ place → after ≡ rest → IsReadBefore kind text read place (rest ++ behind) → IsReadBefore kind text other elsewhere (after ++ behind)
+moved kind text read other place elsewhere rest after behind same there left is =
+    subst (λ (r : ReadCert). IsReadBefore kind text r elsewhere (after ++ behind)) (sym same)
+    (subst (λ (p : LinePlace). IsReadBefore kind text read p (after ++ behind)) (sym there) (subst (λ (t : List ℕ). IsReadBefore kind text read place (t ++ behind)) (sym left) is))
+
+-- what a piece came to, by whether more is left
+pub piece_goes : (answer : Result Bool CheckFault) (goes other : Bool) (kind : TextKind) (text : List ℕ) (read : ReadCert) (place : LinePlace) (rest : List ℕ) → answer ≡ Ok goes → goes ≡ other → PieceAnswer answer kind text read place rest → PieceAnswer (Ok other) kind text read place rest
+piece_goes answer goes other kind text read place rest is same piece = subst (λ (a : Result Bool CheckFault). PieceAnswer a kind text read place rest) (is ∙ ap Ok same) piece
+
+pub of_ok : (answer : Result Bool CheckFault) (goes : Bool) (P : Type 0) → answer ≡ Ok goes → IfOk answer (λ _. P) → P
+of_ok answer goes P is holds = subst (λ (a : Result Bool CheckFault). IfOk a (λ _. P)) is holds
+
+-- where nothing is behind the text
+pub whole_answer : (kind : TextKind) (text rest : List ℕ) (answer : Result ReadCert CheckFault) → rest ≡ text → ReadAnswer kind (rest ++ []) answer → ReadAnswer kind text answer
+whole_answer kind text rest answer same is = subst (λ (t : List ℕ). ReadAnswer kind t answer) (append-nil rest ∙ same) is

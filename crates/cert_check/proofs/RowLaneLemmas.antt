@@ -1,6 +1,6 @@
 -- Rows that are met by lanes.
 use Rattle.std.proofs.Common.{◌≡◌, inl, inr, ℕ, ◌+◌, ◌*◌, ◌<◌, ◌≤◌, IsTrue, Bool, true, false, List, arith, refl, sym, ◌∙◌, ap, subst}
-use Rattle.std.specs.Prelude.{nat_lt}
+use Rattle.std.specs.Prelude.{nat_lt, ◌⊎◌}
 use Rattle.std.proofs.lemmas.Bool.Decides.{eqb_tells}
 use Rattle.brake_base.specs.declared.stroke.Key.{Key}
 use Rattle.brake_base.specs.declared.stroke.Back.{Back}
@@ -47,7 +47,7 @@ pub cost_parts : (job : JobData) (key : Key) (action : Action)
 unfolding cost_to
 cost_parts job key action = omega arith
 
-not_less : (m n : ℕ) → nat_lt m n ≡ false → n ≤ m
+pub not_less : (m n : ℕ) → nat_lt m n ≡ false → n ≤ m
 not_less m n is = grind arith
 
 module _ (job : JobData) (is_job : IsJob job) (rows : List RowHead) (head : RowHead) (row : IsRow job head) (bend : ℕ) (back : Back) (stage : ℕ) (first : 1 ≤ bend) (last : bend ≤ bend_count job) (low : stage < stage_count job) where
@@ -82,32 +82,20 @@ module _ (job : JobData) (is_job : IsJob job) (rows : List RowHead) (head : RowH
   unfolding number_of_action
   place_is = omega arith
 
-  -- an action is met where it is noted unless its lane is closed
-  pub lane_met : (noted : ActionSet) (is_open : Bool) (onward turn proved sum : ℕ)
-      → (IsTrue is_open → IsTrue (has_place noted (8 * side_of bend back + stage)))
+  -- an action is met where it is noted, or where what closes it isn't below the worth
+  pub lane_met : (noted : ActionSet) (onward turn proved least : ℕ)
       → IsProvedCost job rows (key_behind job head.key.mask bend back stage) proved
       → onward ≡ job.setup.cost.stroke + stage_cost job head.key.mask head.key.stage stage
       → turn ≡ change_cost job.setup.cost (change head.key.attitude (attitude_at job head.key.mask own))
-      → sum ≡ proved + (onward + turn) → is_open ≡ nat_lt sum (worth_cost head.worth)
+      → IsTrue (has_place noted (8 * side_of bend back + stage)) ⊎ (least ≤ proved + turn)
+      → worth_cost head.worth ≤ least + onward
       → IsMet job rows head noted (side_of bend back * stage_count job + stage)
-  lane_met noted true onward turn proved sum known is onward_is turn_is sum_is open_is =
-      inl (ap (λ (a : Action). has noted a) (sym own_at) ∙ (ap (has_place noted) place_is ∙ known refl))
-  lane_met noted false onward turn proved sum known is onward_is turn_is sum_is open_is =
+  lane_met noted onward turn proved least is onward_is turn_is (inl known) enough =
+      inl (ap (λ (a : Action). has noted a) (sym own_at) ∙ (ap (has_place noted) place_is ∙ known))
+  lane_met noted onward turn proved least is onward_is turn_is (inr most) enough =
       let parts = cost_parts job head.key own in
       inr (subst (ClosesAt job rows head) own_at
-      (closed (onward + turn) proved sum is (omega (arith, parts, onward_is, turn_is)) sum_is (not_less sum (worth_cost head.worth) (sym open_is))))
-
-pub both_sides : (job : JobData) (rows : List RowHead) (head : RowHead) (noted : ActionSet) (bend : ℕ) → IsSideMet job rows head noted bend Parent → IsSideMet job rows head noted bend Child → IsBendMet job rows head noted bend
-both_sides job rows head noted bend parent child Parent = parent
-both_sides job rows head noted bend parent child Child = child
-
--- the bends one after the other
-pub bends_on : (job : JobData) (rows : List RowHead) (head : RowHead) (noted : ActionSet) (bend : ℕ) → AreBendsMet job rows head noted bend → (is_lead job head.key.mask bend ≡ true → IsBendMet job rows head noted bend)
-    → AreBendsMet job rows head noted (bend + 1)
-bends_on job rows head noted bend met here lead first low is = elim (eqb_tells lead bend) [
-  | inl same ↦ subst (IsBendMet job rows head noted) (sym same.1) (here (subst (λ (n : ℕ). is_lead job head.key.mask n ≡ true) same.1 is))
-  | inr other ↦ met lead first (let no = other.1 in omega (arith, low, no)) is
-]
+      (closed (onward + turn) proved (proved + (onward + turn)) is (omega (arith, parts, onward_is, turn_is)) refl (omega (arith, most, enough))))
 
 side_number : (stages : ℕ) (a : Action) → side_of a.bend a.back * stages + a.stage ≡ number_of_action stages a
 unfolding number_of_action

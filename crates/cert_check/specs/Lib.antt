@@ -10,6 +10,8 @@ pub mod KnownNotes
 pub mod RowTable
 pub mod Rows
 pub mod ProvedCosts
+pub mod ClosingCosts
 pub mod RowLanes
 pub mod ReadCert
 pub mod Checking
+pub mod ReadWindow

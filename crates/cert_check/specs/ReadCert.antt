@@ -1,5 +1,5 @@
 -- What the reading of a text comes to: all of a certificate, but of its notes only what is kept of
--- them.
+-- them. A table is read as a certificate that claims nothing.
 use Rattle.std.specs.Prelude.{◌≡◌, ◌⊎◌, ℕ, ◌+◌, ◌-◌, ◌<◌, Bool, true, false, List, [], ◌∷◌, length}
 use Rattle.std.specs.Prelude.{slice_get, Some, Result, Ok, Err}
 use Rattle.job_setup.specs.Setup.{JobData}
@@ -9,18 +9,18 @@ use Rattle.plan_cert.specs.declared.cert.Note.{Note}
 use Rattle.plan_cert.specs.declared.item.Item.{Item}
 use Rattle.plan_cert.specs.declared.item.CertFault.{CertFault}
 use Rattle.plan_cert.specs.Cert.{CertData}
-use Rattle.plan_cert.specs.Reading.{Reading}
+use Rattle.plan_cert.specs.declared.line_place.LinePlace.{LinePlace}
+use Rattle.plan_cert.specs.Reading.{Reading, LeavesAt}
 use Rattle.plan_cert.specs.declared.item.Item.TheVariants as given
-use Rattle.plan_cert.specs.declared.format.TextKind.TheVariants.{Certificate}
+use Rattle.plan_cert.specs.declared.format.TextKind.{TextKind}
 use Rattle.plan_cert.specs.Items.{items}
 use Rattle.plan_cert.specs.WellFormed.{IsWellFormed}
-use Rattle.plan_cert.specs.CertReading.{cert_of, with_item}
+use Rattle.plan_cert.specs.CertReading.{no_cert, cert_of, with_item, answers_left, AnswersLeft}
 use Rattle.cert_check.specs.declared.fault.CheckFault.{CheckFault}
 use Rattle.cert_check.specs.declared.fault.CheckFault.TheVariants.{Cert, NoMemory}
 use Rattle.cert_check.specs.declared.read_cert.ReadCert.{ReadCert}
 use Rattle.cert_check.specs.declared.row_notes.RowNotes.{RowNotes}
 use Rattle.cert_check.specs.RowNotes.{AreNoted, IsFirstUnsound, IsTesting}
-use Rattle.cert_check.specs.Texts.{IsTextOfCert, IsRefusedFor}
 
 -- it has all of the certificate but the notes
 pub record HasParts (read : ReadCert) (cert : CertData) : Type 0 where
@@ -41,22 +41,44 @@ pub record KeepsNotes (job : JobData) (all rows : List RowHead) (read : List Not
 abbrev pub KeepsAll : JobData → CertData → RowNotes → Type 0
 KeepsAll job cert notes = KeepsNotes job cert.rows cert.rows cert.notes notes
 
--- all of the text's certificate but its notes and what is kept of them, or the refusal of the text,
--- unless memory ran out
-abbrev pub ReadAnswer : List ℕ → Result ReadCert CheckFault → Type 0
-ReadAnswer text (Ok read) =
-    (cert : CertData) × IsTextOfCert text read.job cert × HasParts read cert
-    × KeepsAll read.job cert read.notes × IsTesting read.job read.notes
-ReadAnswer text (Err (Cert fault)) = IsRefusedFor text fault
-ReadAnswer text (Err NoMemory) = Unit {0}
-ReadAnswer text (Err _) = ⊥
-
 -- no note stands before the first row
 abbrev pub IsRowFirst : List (Result Item CertFault) → Type 0
 IsRowFirst [] = Unit {0}
 IsRowFirst (Ok (given.Row head) ∷ more) = Unit {0}
 IsRowFirst (Ok (given.Note action reason) ∷ more) = ⊥
 IsRowFirst (answer ∷ more) = IsRowFirst more
+
+-- a certificate that is well formed for a valid job, and the answers behind the job that make it up
+pub record IsGivenBy (job : JobData) (cert : CertData) (answers : List (Result Item CertFault))
+    : Type 0 where
+  pub valid : IsJob job
+  pub form : IsWellFormed job cert
+  pub completes : cert_of no_cert answers ≡ Ok cert
+  pub row_first : IsRowFirst answers
+
+-- The text's job, and the certificate that the answers behind it make up, but for its notes; of these
+-- is kept what there is to keep, where the certificate is well formed.
+pub record IsRead (kind : TextKind) (text : List ℕ) (read : ReadCert) : Type 0 where
+  pub behind_job : List (Result Item CertFault)
+  pub starts : items kind text ≡ Ok (given.Job read.job) ∷ behind_job
+  pub cert : CertData
+  pub completes : cert_of no_cert behind_job ≡ Ok cert
+  pub has : HasParts read cert
+  pub kept : IsGivenBy read.job cert behind_job → KeepsAll read.job cert read.notes
+  pub testing : IsTesting read.job read.notes
+
+-- answers are a refusal, or a job and others that are refused behind it
+abbrev pub AreRefused : List (Result Item CertFault) → CertFault → Type 0
+AreRefused (Err own ∷ more) fault = own ≡ fault
+AreRefused (Ok (given.Job job) ∷ more) fault = cert_of no_cert more ≡ Err fault
+AreRefused _ fault = ⊥
+
+-- what was read of a text of a kind, or its first refusal, unless memory ran out
+abbrev pub ReadAnswer : TextKind → List ℕ → Result ReadCert CheckFault → Type 0
+ReadAnswer kind text (Ok read) = IsRead kind text read
+ReadAnswer kind text (Err (Cert fault)) = AreRefused (items kind text) fault
+ReadAnswer kind text (Err NoMemory) = Unit {0}
+ReadAnswer kind text (Err _) = ⊥
 
 -- a certificate that is well formed for a valid job, of which this was read and is kept, and these
 -- answers are left
@@ -95,13 +117,30 @@ ItemAnswer (Err _) before old left new behind = ⊥
 abbrev pub behind : Reading → Reading
 behind reader = record reader { answered = reader.answered + 1 }
 
--- a reader of the same text, further on
-pub record IsFurther (reader other : Reading) : Type 0 where
-  pub kind : other.kind ≡ reader.kind
-  pub text : other.text ≡ reader.text
-  pub further : reader.answered < other.answered
+-- The text begins with the job, and what stands behind it comes to the same as what is left behind
+-- what was read of it.
+pub record IsReadUpTo (kind : TextKind) (text : List ℕ) (read : ReadCert) (reader : Reading)
+    : Type 0 where
+  pub behind_job : List (Result Item CertFault)
+  pub starts : items kind text ≡ Ok (given.Job read.job) ∷ behind_job
+  pub before : CertData
+  pub has : HasParts read before
+  pub same : cert_of no_cert behind_job ≡ cert_of before (answers_left reader)
+  pub more : AnswersLeft reader
+  pub underway :
+      (cert : CertData) → IsGivenBy read.job cert behind_job
+      → IsUnderway read.job cert before (answers_left reader) read.notes
 
--- the first answer is the job, or the refusal of the text
-abbrev pub JobAnswer : List ℕ → Result JobData CertFault → List (Result Item CertFault) → Type 0
-JobAnswer text (Ok job) left = items Certificate text ≡ Ok (given.Job job) ∷ left
-JobAnswer text (Err fault) left = IsRefusedFor text fault
+-- so far the text is read, which goes on from a place with these bytes
+pub record IsReadBefore (kind : TextKind) (text : List ℕ) (read : ReadCert) (place : LinePlace)
+    (rest : List ℕ) : Type 0 where
+  pub reader : Reading
+  pub reads : IsReadUpTo kind text read reader
+  pub leaves : LeavesAt place rest (answers_left reader)
+
+-- where more is left, the text is read so far; else all of it is read, or it is refused
+abbrev pub PieceAnswer : Result Bool CheckFault → TextKind → List ℕ → ReadCert → LinePlace → List ℕ
+    → Type 0
+PieceAnswer (Ok true) kind text read place rest = IsReadBefore kind text read place rest
+PieceAnswer (Ok false) kind text read place rest = ReadAnswer kind text (Ok read)
+PieceAnswer (Err fault) kind text read place rest = ReadAnswer kind text (Err fault)

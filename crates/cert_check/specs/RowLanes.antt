@@ -9,17 +9,18 @@ use Rattle.job_setup.specs.Setup.{JobData, stage_count}
 use Rattle.job_setup.specs.StrokeGroup.{is_lead}
 use Rattle.handling_cost.specs.StepCost.{stage_cost}
 use Rattle.plan_cert.specs.declared.cert.RowHead.{RowHead}
-use Rattle.plan_cert.specs.WellFormed.{IsRow}
 use Rattle.cert_check.specs.declared.rows.CheckedSet.{CheckedSet}
-use Rattle.cert_check.specs.declared.row_lanes.LaneRow.{LaneRow}
 use Rattle.cert_check.specs.Rows.{IsMet}
 use Rattle.cert_check.specs.SetActions.{AreActionsOf}
-use Rattle.cert_check.specs.ProvedCosts.{worth_cost, AreProvedOf}
+use Rattle.cert_check.specs.ProvedCosts.{AreProvedOf}
+use Rattle.cert_check.specs.ClosingCosts.{AreFound}
 
--- what belongs to the actions of a set, and what is proved of the keys behind a set
+-- what belongs to the actions of a set, and what is proved of the keys behind a set and closes the
+-- actions of its rows
 pub record IsCheckedSet (job : JobData) (rows : List RowHead) (set : CheckedSet) : Type 0 where
   pub actions : AreActionsOf job set.actions
   pub proved : AreProvedOf job rows set.proved
+  pub closing : AreFound job set.proved set.closing
 
 -- what a stroke at each stage costs from a key but for the change of attitude
 pub record IsOnward (job : JobData) (key : Key) (lanes : List ℕ) : Type 0 where
@@ -28,12 +29,6 @@ pub record IsOnward (job : JobData) (key : Key) (lanes : List ℕ) : Type 0 wher
       → slice_index lanes stage
       ≡ job.setup.cost.stroke + stage_cost job key.mask key.stage stage
   pub small : (stage : ℕ) → stage < 8 → slice_index lanes stage ≤ 600000000
-
--- a row of the job, what a stroke at each stage costs, and the worth as a cost
-pub record IsLaneRow (job : JobData) (row : LaneRow) : Type 0 where
-  pub head : IsRow job row.head
-  pub onward : IsOnward job row.head.key row.onward.0
-  pub worth : row.worth ≡ worth_cost row.head.worth
 
 -- the actions of a bend with this side at the back are met
 abbrev pub IsSideMet : JobData → List RowHead → RowHead → ActionSet → ℕ → Back → Type 0

@@ -4,10 +4,12 @@
 #![tactic(auto)]
 
 mod check_table;
+mod closing_costs;
 mod fault;
 mod fault_words;
 mod proved_costs;
 mod read_cert;
+mod read_window;
 mod row_lanes;
 mod row_notes;
 mod row_set;
@@ -18,4 +20,9 @@ mod steps;
 mod verdict;
 
 pub use fault::{CheckFault, StepFault};
-pub use verdict::{Checked, Verdict, check};
+pub use read_cert::{ReadCert, read_text};
+pub use read_window::read_text_from;
+pub use row_notes::RowNotes;
+pub use row_table::RowTable;
+pub use rows::check_rows;
+pub use verdict::{Checked, Verdict, check, check_from};

@@ -18,7 +18,7 @@ use stage_lanes::StageCosts;
 
 /// The cost of a key from which there is no way on: above every cost of a step and what is proved
 /// behind it.
-const NO_WAY: u32 = 2_000_000_000;
+pub(crate) const NO_WAY: u32 = 2_000_000_000;
 
 /// What is proved of the keys behind the actions where the bends of the mask are folded.
 #[derive(Clone, Copy, Debug)]
@@ -44,20 +44,6 @@ impl ProvedCosts {
             mask,
             leads,
             costs: costs_behind(job, rows, facts, mask, leads),
-        }
-    }
-
-    /// Makes them those behind a set.
-    pub fn turn_to(&mut self, job: &Job, rows: &RowTable, facts: &LaneFacts, mask: Mask)
-        requires costs { AreProvedOf job.now rows.now.rows self.old }
-        requires rows { rows.now.job ≡ job.now }
-        requires facts { facts.now ≡ job.now }
-        requires mask { mask.0 < 2 ^ bend_count job.now }
-        ensures costs { AreProvedOf job.now rows.now.rows self.new }
-        ensures mask { self.new.mask ≡ mask }
-    {
-        if self.mask != mask {
-            *self = ProvedCosts::of(job, rows, facts, mask);
         }
     }
 }

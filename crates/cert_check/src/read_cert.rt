@@ -1,28 +1,36 @@
-//! The one reading of a certificate's text: all of it, but of its notes only the actions that are
-//! noted and the first whose reason doesn't hold.
-ghost use Rattle.std.specs.Prelude.{◌≡◌, ◌<◌, ◌++◌, ◌∷◌, [], IfOk, OnOk, List, Ok, Result, if◌then◌else◌, length, nat_lt, not, true};
-ghost use Rattle.plan_cert.specs.declared.format.TextKind.TheVariants.{Certificate};
+//! The one reading of a certificate's or a table's text: all of it, but of its notes only the actions
+//! that are noted and the first whose reason doesn't hold. A table is read as a certificate that
+//! claims nothing.
+ghost use Rattle.std.specs.Prelude.{◌≡◌, ◌<◌, ◌++◌, ◌∷◌, [], ℕ, Err, IfErr, IfOk, IfSome, IsNone, IsSome, OnOk, List, Ok, Result, if◌then◌else◌, length, nat_lt, not, false, true};
 ghost use Rattle.plan_cert.specs.declared.item.Item.{Item};
 ghost use Rattle.plan_cert.specs.declared.item.Item.TheVariants as given;
 ghost use Rattle.plan_cert.specs.declared.item.CertFault.{CertFault};
+ghost use Rattle.plan_cert.specs.declared.format.TextKind.{TextKind};
 ghost use Rattle.plan_cert.specs.Cert.{CertData};
-ghost use Rattle.plan_cert.specs.PlanItem.{item_of};
-ghost use Rattle.plan_cert.specs.CertReading.{AnswersLeft, answers_left, is_last, with_item};
-ghost use Rattle.cert_check.specs.RowNotes.{IsTesting};
+ghost use Rattle.plan_cert.specs.PlanItem.{item_of, plan_answer};
+ghost use Rattle.plan_cert.specs.declared.item.CertFault.TheVariants.{Unended};
+ghost use Rattle.plan_cert.specs.declared.line_place.LinePlace.{LinePlace};
+ghost use Rattle.plan_cert.specs.Facts.{HasFew};
+ghost use Rattle.plan_cert.specs.Reading.{Reading, GivesNext, IsBehind, MayBeBehind};
+ghost use Rattle.plan_cert.specs.CertReading.{answers_left, is_last, no_cert, with_item};
+ghost use Rattle.cert_check.specs.RowNotes.{HasNoNotes, IsTesting};
 ghost use Rattle.cert_check.specs.KnownNotes.{KnowsSound, KnowsSoundBut};
-ghost use Rattle.cert_check.specs.ReadCert.{ReadAnswer, HasParts, ItemAnswer, IsUnderway, IsFurther, IsKept, JobAnswer, behind};
+ghost use Rattle.cert_check.specs.declared.fault.CheckFault.{CheckFault};
+ghost use Rattle.cert_check.specs.declared.fault.CheckFault.TheVariants.{Cert};
+ghost use Rattle.cert_check.specs.ReadCert.{ReadAnswer, HasParts, IsUnderway, IsKept, IsReadUpTo, IsReadBefore, PieceAnswer};
 
 use crate::fault::CheckFault;
 use crate::row_notes::RowNotes;
 use arrayvec::ArrayVec;
 use brake_base::{Step, Worth};
 use job_setup::Job;
-use plan_cert::{CertFault, CertReader, NoteLines, PlanItem, RowHead};
+use plan_cert::{CertFault, NoteLines, PlanItem, PlanReader, RowHead, TextKind};
 use std::alloc::{AllocError, Global};
 
-/// The job of a certificate, its claim, its steps and its rows, and what is kept of its notes.
+/// The job of a certificate or a table, its claim, its steps and its rows, and what is kept of its
+/// notes.
 #[derive(Drop)]
-pub(crate) struct ReadCert {
+pub struct ReadCert {
     pub job: Job,
     pub claim: Worth,
     pub steps: ArrayVec<Step, 12>,
@@ -31,86 +39,173 @@ pub(crate) struct ReadCert {
 }
 
 /// Reads the whole text once.
-pub(crate) fn read_cert(alloc: Global, text: &[u8]) -> Result<ReadCert, CheckFault>
-    ensures { ReadAnswer text.now result }
+pub fn read_text(alloc: Global, text: &[u8], kind: TextKind) -> Result<ReadCert, CheckFault>
+    ensures { ReadAnswer kind text.now result }
 {
-    let mut reader = CertReader::new(text);
-    let job = first_job(&mut reader)?;
+    let mut reader = PlanReader::new(text);
+    let mut read = read_job(alloc, &mut reader, kind)?;
+    read_piece(&mut read, &mut reader, true)?;
+    Ok(read)
+}
+
+/// What is read of a text where the job alone is.
+fn begun(alloc: Global, job: Job) -> Result<ReadCert, AllocError>
+    ensures job { IfOk result (λ read. read.job ≡ job) }
+    ensures testing { IfOk result (λ read. IsTesting read.job read.notes) }
+    ensures parts { IfOk result (λ read. HasParts read no_cert) }
+    ensures none { IfOk result (λ read. HasNoNotes read.notes) }
+{
     let notes = RowNotes::open(alloc, &job)?;
-    let mut lines = NoteLines::new(job.stages());
-    let mut read = ReadCert {
+    Ok(ReadCert {
         job,
         claim: Worth::Blocked,
         steps: ArrayVec::new(),
         rows: Vec::new(alloc),
         notes,
-    };
-    let mut is_open = true;
-    while is_open {
-        match take_items(&mut read, &mut reader, &mut lines) {
-            Ok(more) => is_open = more,
-            Err(fault) => return Err(fault),
-        }
-    }
-    Ok(read)
+    })
 }
 
-/// The job, which is the first answer, or the refusal of the text.
-fn first_job(reader: &mut CertReader) -> Result<Job, CertFault>
-    requires kind { reader.old.kind ≡ Certificate }
-    requires first { reader.old.answered ≡ 0 }
-    ensures reader { reader.new ≡ behind reader.old }
-    ensures job { JobAnswer reader.old.text result (answers_left reader.new) }
-    ensures more { IfOk result (λ _. AnswersLeft reader.new) }
+/// Reads the job, with which a text begins. `Unended` says that the piece ends before the job's lines
+/// do.
+pub(crate) fn read_job(
+    alloc: Global,
+    reader: &mut PlanReader,
+    kind: TextKind,
+) -> Result<ReadCert, CheckFault>
+    requires few { HasFew reader.old.place.facts }
+    ensures few { HasFew reader.new.place.facts }
+    ensures rest { IsBehind reader.old.rest.now reader.new.rest.now }
+    ensures testing { IfOk result (λ read. IsTesting read.job read.notes) }
+    ensures read { IfOk result (λ read. (behind : List ℕ)
+        → IsReadBefore kind (reader.old.rest.now ++ behind) read reader.new.place
+        (reader.new.rest.now ++ behind)) }
+    ensures refused { (fault : CheckFault) (behind : List ℕ) → result ≡ Err fault
+        → (fault ≡ Cert Unended → behind ≡ [])
+        → ReadAnswer kind (reader.old.rest.now ++ behind) (Err fault) }
 {
-    reader.read_job()
+    match reader.read_job(kind) {
+        Ok(job) => Ok(begun(alloc, job)?),
+        Err(fault) => Err(CheckFault::Cert(fault)),
+    }
+}
+
+/// Reads the piece to its end, or the text to its own. Whether more of it is left.
+pub(crate) fn read_piece<'a>(
+    read: &mut ReadCert,
+    reader: &mut PlanReader<'a>,
+    is_last: bool,
+) -> Result<bool, CheckFault>
+    requires few { HasFew reader.old.place.facts }
+    requires testing { IsTesting read.old.job read.old.notes }
+    ensures few { HasFew reader.new.place.facts }
+    ensures rest { IsBehind reader.old.rest.now reader.new.rest.now }
+    ensures testing { IfOk result (λ _. IsTesting read.new.job read.new.notes) }
+    ensures last { is_last ≡ true → IfOk result (λ more. more ≡ false) }
+    ensures answer { (kind : TextKind) (text behind : List ℕ) → MayBeBehind is_last behind
+        → IsReadBefore kind text read.old reader.old.place (reader.old.rest.now ++ behind)
+        → PieceAnswer result kind text read.new reader.new.place (reader.new.rest.now ++ behind) }
+{
+    let mut lines = NoteLines::new(read.job.stages());
+    loop {
+        let Some(answer) = take_items(read, reader, &mut lines, is_last) else {
+            return Ok(true);
+        };
+        if !answer? {
+            return Ok(false);
+        }
+    }
 }
 
 /// Reads on and keeps what the next items say: known notes, as many as come, or else one item.
-/// Whether another follows.
+/// Whether another follows. `None` where the piece doesn't tell the next item; then nothing is read.
 fn take_items<'a>(
     read: &mut ReadCert,
-    reader: &mut CertReader<'a>,
+    reader: &mut PlanReader<'a>,
     lines: &mut NoteLines<'a>,
-) -> Result<bool, CheckFault>
-    requires job { 0 < reader.old.answered }
-    requires left { AnswersLeft reader.old }
+    is_last: bool,
+) -> Option<Result<bool, CheckFault>>
+    requires few { HasFew reader.old.place.facts }
     requires testing { IsTesting read.old.job read.old.notes }
     requires lines { KnowsSound read.old.job read.old.notes lines.old }
+    ensures few { HasFew reader.new.place.facts }
+    ensures rest { IsBehind reader.old.rest.now reader.new.rest.now }
+    ensures shorter { IfSome result (λ answer. IfOk answer
+        (λ _. length reader.new.rest.now < length reader.old.rest.now)) }
+    ensures last { is_last ≡ true → IsSome result }
     ensures job { read.new.job ≡ read.old.job }
-    ensures testing { IfOk result (λ _. IsTesting read.new.job read.new.notes) }
-    ensures lines { IfOk result (λ _. KnowsSound read.new.job read.new.notes lines.new) }
-    ensures reader { IsFurther reader.old reader.new }
-    ensures item { (before : CertData) → HasParts read.old before → ItemAnswer result before
-        read.old (answers_left reader.old) read.new (answers_left reader.new) }
+    ensures testing { IfSome result (λ answer. IfOk answer
+        (λ _. IsTesting read.new.job read.new.notes)) }
+    ensures lines { IfSome result (λ answer. IfOk answer
+        (λ _. KnowsSound read.new.job read.new.notes lines.new)) }
+    ensures item { IfSome result (λ answer. (kind : TextKind) (text behind : List ℕ)
+        → MayBeBehind is_last behind
+        → IsReadBefore kind text read.old reader.old.place (reader.old.rest.now ++ behind)
+        → PieceAnswer answer kind text read.new reader.new.place (reader.new.rest.now ++ behind)) }
+    ensures same { IsNone result → IsTesting read.new.job read.new.notes }
+    ensures none { IsNone result → (kind : TextKind) (text behind : List ℕ)
+        → IsReadBefore kind text read.old reader.old.place (reader.old.rest.now ++ behind)
+        → IsReadBefore kind text read.new reader.new.place (reader.new.rest.now ++ behind) }
 {
     let known = reader.take_known(lines);
     if known.is_empty() {
-        take_item(read, reader, lines)
+        take_item(read, reader, lines, is_last)
     } else {
         read.notes.add_known(known);
-        Ok(true)
+        Some(Ok(true))
     }
 }
 
-/// Reads on and keeps what the next item says. Whether another follows.
+/// The same of one item.
 fn take_item<'a>(
     read: &mut ReadCert,
-    reader: &mut CertReader<'a>,
+    reader: &mut PlanReader<'a>,
     lines: &mut NoteLines<'a>,
-) -> Result<bool, CheckFault>
-    requires job { 0 < reader.old.answered }
-    requires left { AnswersLeft reader.old }
+    is_last: bool,
+) -> Option<Result<bool, CheckFault>>
+    requires few { HasFew reader.old.place.facts }
     requires testing { IsTesting read.old.job read.old.notes }
     requires lines { KnowsSound read.old.job read.old.notes lines.old }
+    ensures few { HasFew reader.new.place.facts }
+    ensures rest { IsBehind reader.old.rest.now reader.new.rest.now }
+    ensures shorter { IfSome result (λ answer. IfOk answer
+        (λ _. length reader.new.rest.now < length reader.old.rest.now)) }
+    ensures last { is_last ≡ true → IsSome result }
+    ensures job { read.new.job ≡ read.old.job }
+    ensures testing { IfSome result (λ answer. IfOk answer
+        (λ _. IsTesting read.new.job read.new.notes)) }
+    ensures lines { IfSome result (λ answer. IfOk answer
+        (λ _. KnowsSound read.new.job read.new.notes lines.new)) }
+    ensures item { IfSome result (λ answer. (kind : TextKind) (text behind : List ℕ)
+        → MayBeBehind is_last behind
+        → IsReadBefore kind text read.old reader.old.place (reader.old.rest.now ++ behind)
+        → PieceAnswer answer kind text read.new reader.new.place (reader.new.rest.now ++ behind)) }
+    ensures same { IsNone result → read.new ≡ read.old }
+    ensures place { IsNone result → reader.new.place ≡ reader.old.place }
+    ensures unread { IsNone result → reader.new.rest.now ≡ reader.old.rest.now }
+{
+    let answer = reader.next_kept(lines, is_last)?;
+    Some(keep_answer(read, lines, answer))
+}
+
+/// Keeps what the next answer says. Whether another item follows.
+fn keep_answer(
+    read: &mut ReadCert,
+    lines: &mut NoteLines,
+    answer: Result<PlanItem, CertFault>,
+) -> Result<bool, CheckFault>
+    requires testing { IsTesting read.old.job read.old.notes }
+    requires lines { IfOk answer
+        (λ item. KnowsSoundBut read.old.job read.old.notes (item_of item) lines.old) }
     ensures job { read.new.job ≡ read.old.job }
     ensures testing { IfOk result (λ _. IsTesting read.new.job read.new.notes) }
     ensures lines { IfOk result (λ _. KnowsSound read.new.job read.new.notes lines.new) }
-    ensures reader { IsFurther reader.old reader.new }
-    ensures item { (before : CertData) → HasParts read.old before → ItemAnswer result before
-        read.old (answers_left reader.old) read.new (answers_left reader.new) }
+    ensures read { IfOk result (λ _. IfErr answer (λ _. ⊥)) }
+    ensures item { (kind : TextKind) (text : List ℕ) (reader : Reading) (place : LinePlace)
+        (rest : List ℕ) → IsReadUpTo kind text read.old reader
+        → GivesNext (answers_left reader) (plan_answer answer) place rest
+        → PieceAnswer result kind text read.new place rest }
 {
-    match reader.next_kept(lines) {
+    match answer {
         Ok(item) => Ok(keep(read, lines, item)?),
         Err(fault) => Err(CheckFault::Cert(fault)),
     }

@@ -26,20 +26,20 @@ pub(crate) struct NotePlace {
 
 /// The notes of a certificate's rows, as they are read.
 #[derive(Drop)]
-pub(crate) struct RowNotes {
+pub struct RowNotes {
     /// What belongs to each set of folded bends.
-    pub table: CheckTable,
+    pub(crate) table: CheckTable,
     /// The bends that are folded at the last row.
-    pub folded: RowSet,
+    pub(crate) folded: RowSet,
     /// The noted actions of each row.
-    pub sets: Vec<ActionSet>,
+    pub(crate) sets: Vec<ActionSet>,
     /// The first note whose reason doesn't hold.
-    pub unsound: Option<NotePlace>,
+    pub(crate) unsound: Option<NotePlace>,
 }
 
 impl RowNotes {
     /// No row and no note.
-    pub fn open(alloc: Global, job: &Job) -> Result<RowNotes, AllocError>
+    pub(crate) fn open(alloc: Global, job: &Job) -> Result<RowNotes, AllocError>
         ensures testing { IfOk result (IsTesting job.now) }
         ensures none { IfOk result HasNoNotes }
     {

@@ -15,7 +15,7 @@ use std::marker::Model;
 
 /// The rows of a certificate of a job. Contracts see the job and the rows.
 #[derive(Drop)]
-pub(crate) struct RowTable {
+pub struct RowTable {
     job: Job,
     rows: Vec<RowHead>,
     /// At the number of a key the number of its row and 1; 0 where it has none.

@@ -1,6 +1,6 @@
 //! The condition on rows: each action at each row has a note whose reason holds, or has none and is
 //! closed. The reasons are tested where the notes are read.
-ghost use Rattle.std.specs.Prelude.{◌≡◌, ◌↔◌, ◌*◌, ◌<◌, ◌≤◌, IsTrue, List, Some, length, slice_get, slice_index_or};
+ghost use Rattle.std.specs.Prelude.{◌≡◌, ◌↔◌, ◌*◌, ◌^◌, ◌<◌, ◌≤◌, IsTrue, List, Some, length, slice_get, slice_index_or};
 ghost use Rattle.brake_base.specs.Worths.{plus};
 ghost use Rattle.job_setup.specs.Setup.{bend_count, stage_count};
 ghost use Rattle.handling_cost.specs.StepCost.{IsKeyOf};
@@ -13,6 +13,7 @@ ghost use Rattle.cert_check.specs.Rows.{ProvesAfter, ClosesAt, NumberAnswer, Ope
 ghost use Rattle.cert_check.specs.RowNotes.{HasNotes, unsound_at};
 ghost use Rattle.cert_check.specs.RowLanes.{IsCheckedSet};
 
+use crate::closing_costs::{AlikeRows, ClosingCosts};
 use crate::fault::CheckFault;
 use crate::proved_costs::ProvedCosts;
 use crate::row_lanes::is_met;
@@ -38,6 +39,7 @@ struct NotedRow {
 pub(crate) struct CheckedSet {
     actions: SetActions,
     proved: ProvedCosts,
+    closing: ClosingCosts,
 }
 
 impl CheckedSet {
@@ -50,12 +52,32 @@ impl CheckedSet {
         job.recall_valid();
         let actions = SetActions::of(job, facts, Mask::empty());
         let proved = ProvedCosts::of(job, rows, facts, Mask::empty());
-        CheckedSet { actions, proved }
+        let closing = ClosingCosts::none(ActionSet::empty());
+        CheckedSet {
+            actions,
+            proved,
+            closing,
+        }
+    }
+
+    /// Makes what is proved, and what closes actions, that of a set.
+    fn turn_to(&mut self, job: &Job, rows: &RowTable, facts: &LaneFacts, mask: Mask)
+        requires set { IsCheckedSet job.now rows.now.rows self.old }
+        requires rows { rows.now.job ≡ job.now }
+        requires facts { facts.now ≡ job.now }
+        requires mask { mask.0 < 2 ^ bend_count job.now }
+        ensures set { IsCheckedSet job.now rows.now.rows self.new }
+        ensures mask { self.new.proved.mask ≡ mask }
+    {
+        if self.proved.mask != mask {
+            self.proved = ProvedCosts::of(job, rows, facts, mask);
+            self.closing = ClosingCosts::none(ActionSet::empty());
+        }
     }
 }
 
 /// Refuses the first row and action that aren't accounted for.
-pub(crate) fn check_rows(job: &Job, rows: &RowTable, notes: &RowNotes) -> Result<(), CheckFault>
+pub fn check_rows(job: &Job, rows: &RowTable, notes: &RowNotes) -> Result<(), CheckFault>
     requires rows { rows.now.job ≡ job.now }
     requires table { notes.now.table ≡ job.now }
     requires count { length notes.now.sets.items ≡ length rows.now.rows }
@@ -178,8 +200,13 @@ fn is_row_met(
         (2 * bend_count job.now * stage_count job.now) }
     ensures set { IsCheckedSet job.now rows.now.rows set.new }
 {
-    set.proved.turn_to(job, rows, facts, row.head.key.mask);
-    is_met(job, facts, &set.proved, &row.head, row.noted)
+    set.turn_to(job, rows, facts, row.head.key.mask);
+    let alike = AlikeRows {
+        attitude: row.head.key.attitude,
+        noted: row.noted,
+    };
+    let closing = set.closing.at(job, facts, &set.proved, alike);
+    is_met(job, facts, &row.head, closing)
 }
 
 /// The first action that can be tried at a row, isn't noted and isn't closed, where the actions are

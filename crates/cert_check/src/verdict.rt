@@ -1,20 +1,23 @@
 //! The check of a certificate.
-ghost use Rattle.std.specs.Prelude.{◌≡◌, ℕ, IfOk, List};
+ghost use Rattle.std.specs.Prelude.{◌≡◌, ◌++◌, ℕ, IfOk, List};
+ghost use Rattle.brake_io.specs.Pieces.{HasPassed, MayFollow};
 ghost use Rattle.plan_cert.specs.Cert.{CertData};
 ghost use Rattle.cert_check.specs.Texts.{IsTextOfCert};
 ghost use Rattle.cert_check.specs.Checking.{Answers, AcceptsGood, AreParts, AreRowParts, CertAnswer, IsTrueOf, RowsVerdict, verdict_of};
 ghost use Rattle.cert_check.specs.Rows.{ProvesAnswer};
 
 use crate::fault::CheckFault;
-use crate::read_cert::{ReadCert, read_cert};
+use crate::read_cert::{ReadCert, read_text};
+use crate::read_window::read_text_from;
 use crate::row_notes::RowNotes;
 use crate::row_table::RowTable;
 use crate::rows::{check_rows, is_proved};
 use crate::steps::check_steps;
 use brake_base::{Step, Worth};
+use brake_io::{Reader, Window};
 use handling_cost::start_key;
 use job_setup::Job;
-use plan_cert::RowHead;
+use plan_cert::{RowHead, TextKind};
 use set_facts::LaneFacts;
 use std::alloc::Global;
 
@@ -44,7 +47,27 @@ pub fn check(alloc: Global, text: &[u8]) -> Result<Checked, CheckFault>
     // The verdict is the least cost of a plan of the job, or there is no plan.
     ensures truth { IfOk result (λ checked. IsTrueOf checked.job checked.verdict) }
 {
-    match read_cert(alloc, text) {
+    match read_text(alloc, text, TextKind::Certificate) {
+        Ok(read) => check_read(alloc, read),
+        Err(fault) => Err(fault),
+    }
+}
+
+/// The same of a text that is read in pieces, as `check` gives it of each text that begins with what
+/// was passed and is at hand: what stands behind that doesn't matter.
+pub fn check_from<R: Reader + Drop>(
+    alloc: Global,
+    window: &mut Window<R>,
+) -> Result<Checked, CheckFault>
+    ensures answer { (passed : List ℕ) × HasPassed window.old window.new passed
+        × ((last : List ℕ) → MayFollow window.new last
+        → Answers (passed ++ window.new.unread ++ last) result) }
+    ensures accepts { (passed : List ℕ) × HasPassed window.old window.new passed
+        × ((last : List ℕ) → MayFollow window.new last
+        → AcceptsGood (passed ++ window.new.unread ++ last) result) }
+    ensures truth { IfOk result (λ checked. IsTrueOf checked.job checked.verdict) }
+{
+    match read_text_from(alloc, window, TextKind::Certificate) {
         Ok(read) => check_read(alloc, read),
         Err(fault) => Err(fault),
     }

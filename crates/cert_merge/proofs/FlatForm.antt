@@ -38,7 +38,7 @@ push_one row count reasons None pairs = pairs_append NoteIsBefore (notes_upto ro
 push_one row count reasons (Some reason) pairs =
     all_pairs_push NoteIsBefore (notes_upto row reasons count) (record { row = row; action = count; reason = reason }) pairs (λ k d within. let is = notes_are row reasons count k d within in inr (is.here, is.below))
 
-upto_ordered : (row : ℕ) (reasons : ℕ → Option Reason) (count : ℕ) → AllPairs NoteIsBefore (notes_upto row reasons count)
+pub upto_ordered : (row : ℕ) (reasons : ℕ → Option Reason) (count : ℕ) → AllPairs NoteIsBefore (notes_upto row reasons count)
 upto_ordered row reasons zero = no_pairs NoteIsBefore
 upto_ordered row reasons (suc count) = push_one row count reasons (reasons count) (upto_ordered row reasons count)
 

@@ -15,6 +15,8 @@ pub mod TableCollecting
 pub mod TableExact
 pub mod TableWritten
 pub mod TableChecking
+pub mod RowReading
+pub mod RowProving
 pub mod SetLemmas
 pub mod ProvedWorths
 pub mod SettledLaws
@@ -26,5 +28,8 @@ pub mod OneSettled
 pub mod Floors
 pub mod LaneWorths
 pub mod SetNotes
+pub mod TextEnds
 pub mod PutRows
 pub mod PieceTexts
+pub mod TableTold
+pub mod TableLeft

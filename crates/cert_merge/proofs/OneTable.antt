@@ -25,7 +25,7 @@ module _ {X : Type 0} (R : X → X → Type 0) (one_way : (x y : X) → R x y �
   in_more : (x y : X) (ys : List X) → Contains ys x → Contains (y ∷ ys) x
   in_more x y ys (k, within, is) = (suc k, omega (arith, within), is)
 
-  of_all : (P : X → Type 0) (xs : List X) (x : X) → All P xs → Contains xs x → P x
+  pub of_all : (P : X → Type 0) (xs : List X) (x : X) → All P xs → Contains xs x → P x
   of_all P xs x all (k, within, is) = subst P is (all k x within)
 
   pub one_order : (xs ys : List X) → AllPairs R xs → AllPairs R ys → ((x : X) → Contains xs x → Contains ys x) → ((x : X) → Contains ys x → Contains xs x) → xs ≡ ys

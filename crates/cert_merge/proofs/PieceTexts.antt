@@ -30,8 +30,10 @@ use Rattle.cert_merge.specs.Table.{TableData}
 use Rattle.cert_merge.specs.MergeSteps.{noted_as, notes_upto, most_actions, with_row, written}
 use Rattle.cert_merge.specs.Settling.{key_of, said_by, AreSettledBy, HasSets, IsAmong, IsKeyAt}
 use Rattle.cert_merge.specs.SetRows.{CanBeWritten, IsSetOf, IsWriterOf, row_of, rows_text, IsRowPut}
-use Rattle.cert_merge.specs.SettledPieces.{AreRowsPut, row_text, place_text, rest_text, end_text, text_left, CanBePut, CanGoOn, GoesOnTo, IsWholeText}
+use Rattle.cert_merge.specs.SettledPieces.{AreRowsPut, row_text, place_text, rest_text, CanBePut, CanGoOn, GoesOnTo, IsWholeText}
 use Rattle.cert_merge.proofs.SetNotes.{worth_written}
+use Rattle.cert_merge.specs.TextLeft.{end_text, text_left, GoesOn}
+use Rattle.cert_merge.proofs.TextEnds.{gone_further}
 use Rattle.cert_merge.proofs.PutRows.{ArePutBefore, key_among, put_none, put_more, put_same, put_all, set_there}
 
 -- ---- the text of a row by itself
@@ -53,7 +55,7 @@ same_line : (stages row other action : ℕ) (reason : Option Reason) → map (li
 same_line stages row other action None = refl
 same_line stages row other action (Some reason) = refl
 
-same_lines : (stages row other : ℕ) (reasons : ℕ → Option Reason) (count : ℕ) → map (line_of_note stages) (notes_upto row reasons count) ≡ map (line_of_note stages) (notes_upto other reasons count)
+pub same_lines : (stages row other : ℕ) (reasons : ℕ → Option Reason) (count : ℕ) → map (line_of_note stages) (notes_upto row reasons count) ≡ map (line_of_note stages) (notes_upto other reasons count)
 same_lines stages row other reasons zero = refl
 same_lines stages row other reasons (suc count) =
     map-append (line_of_note stages) (notes_upto row reasons count) (noted_as row count (reasons count))
@@ -132,12 +134,13 @@ rest_more settled stages place end less =
 
 pub goes_on : (settled : SettledSets) (stages end from next : ℕ) (old middle new : List ℕ) → next < end → GoesOnTo settled stages end from next old middle → new ≡ middle ++ place_text settled stages next → GoesOnTo settled stages end from (next + 1) old new
 goes_on settled stages end from next old middle new less before told =
-    let here = place_text settled stages next in
     let on = before.from_on in
+    let so_far : GoesOn old middle (rest_text settled stages from (end - from)) (rest_text settled stages next (end - next)) = record { piece = before.piece; text = before.text; rest = before.rest } in
+    let gone = gone_further old middle new (rest_text settled stages from (end - from)) (rest_text settled stages next (end - next)) (rest_text settled stages (next + 1) (end - (next + 1))) (place_text settled stages next) so_far told (rest_more settled stages next end less) in
     record {
-      piece = before.piece ++ here;
-      text = told ∙ ap (λ (t : List ℕ). t ++ here) before.text ∙ append_assoc old before.piece here;
-      rest = before.rest ∙ ap (λ (t : List ℕ). before.piece ++ t) (rest_more settled stages next end less) ∙ sym (append_assoc before.piece here (rest_text settled stages (next + 1) (end - (next + 1))));
+      piece = gone.piece;
+      text = gone.text;
+      rest = gone.rest;
       from_on = omega (arith, on);
       within = omega (arith, less);
     }
@@ -152,56 +155,10 @@ can_still settled stages next end later w w2 can on within writer = record {
   rows = λ place from less stage. can.rows place (omega (arith, from, on)) less stage;
 }
 
--- a text that has no byte
-pub empty_is : (xs : List ℕ) (t : Bool) → t ≡ (length xs == 0) → t ≡ true → xs ≡ []
-empty_is [] t is told = refl
-empty_is (x ∷ xs) t is told = absurd (true≢false (sym told ∙ is ∙ some (length xs)))
-  where
-    some : (n : ℕ) → (suc n == 0) ≡ false
-    some n = grind arith
-
-pub not_true : (t : Bool) → not t ≡ true → t ≡ false
-not_true true is = sym is
-not_true false is = refl
-
-pub not_false : (t : Bool) → not t ≡ false → t ≡ true
-not_false true is = refl
-not_false false is = sym is
-
-none_left : (settled : SettledSets) (stages end next : ℕ) → end ≤ next → rest_text settled stages next (end - next) ≡ []
+pub none_left : (settled : SettledSets) (stages end next : ℕ) → end ≤ next → rest_text settled stages next (end - next) ≡ []
 none_left settled stages end next past =
     let none : end - next ≡ 0 = omega (arith, past) in
     ap (rest_text settled stages next) none
-
-module _ (settled : SettledSets) (stages end : ℕ) where
-  -- behind the last line nothing is left
-  pub nothing_left : (beginning : List ℕ) (next : ℕ) (is_ended : Bool) → beginning ≡ [] → end ≤ next → is_ended ≡ true → text_left beginning settled stages next end is_ended ≡ []
-  unfolding end_text
-  nothing_left beginning next is_ended none past ended = (λ i. (none i ++ none_left settled stages end next past i) ++ end_text (ended i))
-
-  -- the last rows and the last line are given
-  pub end_given : (from next : ℕ) (is_ended : Bool) (beginning text out new ended : List ℕ) → beginning ≡ [] → GoesOnTo settled stages end from next out new → end ≤ next → is_ended ≡ false → text_left beginning settled stages from end is_ended ≡ text → ended ≡ new ++ codes "end\n"
-      → (piece : List ℕ) × (ended ≡ out ++ piece) × (text ≡ piece ++ text_left beginning settled stages next end true)
-  unfolding end_text
-  end_given from next is_ended beginning text out new ended none gone past opens seen is =
-      let line : List ℕ = codes "end\n" in (
-        gone.piece ++ line,
-        is ∙ ap (λ (t : List ℕ). t ++ line) gone.text ∙ append_assoc out gone.piece line,
-        sym seen ∙ (λ i. (none i ++ rest_text settled stages from (end - from)) ++ end_text (opens i))
-            ∙ ap (λ (t : List ℕ). t ++ line) (gone.rest ∙ ap (λ (t : List ℕ). gone.piece ++ t) (none_left settled stages end next past) ∙ append-nil gone.piece)
-            ∙ sym (append-nil (gone.piece ++ line)) ∙ ap (λ (t : List ℕ). (gone.piece ++ line) ++ t) (sym (nothing_left beginning next true none past refl)),
-      )
-
-  -- rows are given, and more are left
-  pub rows_given : (from next : ℕ) (is_ended : Bool) (beginning text out new : List ℕ) → beginning ≡ [] → GoesOnTo settled stages end from next out new → text_left beginning settled stages from end is_ended ≡ text
-      → (piece : List ℕ) × (new ≡ out ++ piece) × (text ≡ piece ++ text_left beginning settled stages next end is_ended)
-  rows_given from next is_ended beginning text out new none gone seen = (
-    gone.piece,
-    gone.text,
-    sym seen ∙ (λ i. (none i ++ gone.rest i) ++ end_text is_ended)
-        ∙ append_assoc gone.piece (rest_text settled stages next (end - next)) (end_text is_ended)
-        ∙ ap (λ (b : List ℕ). gone.piece ++ ((b ++ rest_text settled stages next (end - next)) ++ end_text is_ended)) (sym none),
-  )
 
 -- ---- how many keys there are
 -- of so many numbers, on a machine of so many stages
@@ -310,7 +267,7 @@ module _ (job : JobData) (is_job : IsJob job) (low high : ℕ) (settled : Settle
       ])
 
   -- all of a table's text is left
-  pub opened_whole : (beginning : List ℕ) (stages next end : ℕ) → beginning ≡ codes "brake-table 1\n" ++ job_text job → stages ≡ stage_count job → next ≡ low * 144 → end ≡ (high + 1) * 144 → IsWholeText job low high settled (text_left beginning settled stages next end false)
+  pub opened_whole : (beginning : List ℕ) (stages next end : ℕ) → beginning ≡ codes "brake-table 1\n" ++ job_text job → stages ≡ stage_count job → next ≡ low * 144 → end ≡ (high + 1) * 144 → IsWholeText job low high settled (text_left beginning (rest_text settled stages next (end - next)) false)
   unfolding end_text
   opened_whole beginning stages next end begins same at last =
       let count : next + (end - next) ≡ (high + 1) * 144 = omega (arith, at, last, order) in

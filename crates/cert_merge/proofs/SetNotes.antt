@@ -269,7 +269,7 @@ row_is_put settled said notes key head own old new few is_own writable are named
     ∙ (λ i. before ++ lines_text (rows_lines said.stages (t.rows ++ named i ∷ []) (t.notes ++ same_notes said own.reasons notes (length t.rows) few writable are i))))
 
 -- ---- what is settled may be written
-coded_is : (job : JobData) (reason : Reason) → stage_count job ≤ 6 → IsReasonInRange job reason → IsCoded reason
+pub coded_is : (job : JobData) (reason : Reason) → stage_count job ≤ 6 → IsReasonInRange job reason → IsCoded reason
 coded_is job Cover few is = record { body = omega arith; index = omega arith }
 coded_is job (Rest half) few is = half_few half
   where

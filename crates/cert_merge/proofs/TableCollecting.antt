@@ -56,7 +56,7 @@ file_of text job more t first behind =
     ap (λ (a : List (Result Item CertFault)). with_job a) first
     ∙ ap (λ (r : Result TableData CertFault). elim r [ Ok c ↦ Ok (record { job = job; table = c }) | Err fault ↦ Err fault ]) behind
 
-file_refused : (text : List ℕ) (job : JobData) (more : List (Result Item CertFault)) (fault : CertFault) → items Table text ≡ Ok (given.Job job) ∷ more → table_of empty_table more ≡ Err fault → table_file_of text ≡ Err fault
+pub file_refused : (text : List ℕ) (job : JobData) (more : List (Result Item CertFault)) (fault : CertFault) → items Table text ≡ Ok (given.Job job) ∷ more → table_of empty_table more ≡ Err fault → table_file_of text ≡ Err fault
 unfolding table_file_of with_job
 file_refused text job more fault first behind =
     ap (λ (a : List (Result Item CertFault)). with_job a) first

@@ -25,13 +25,14 @@ use Rattle.plan_cert.proofs.PlanWritten.{oks, fold_rows, own_notes, all_own}
 use Rattle.plan_cert.proofs.WholeTexts.{reads_table_texts}
 use Rattle.cert_merge.specs.Table.{TableData, TableFileData}
 use Rattle.cert_merge.specs.TableTexts.{empty_table, with_item, table_of, with_job, table_file_of, IsTextOfTable, GivesBack}
+use Rattle.cert_merge.specs.ProvedTable.{IsNoTable}
 use Rattle.cert_merge.proofs.TableCollecting.{file_of}
 
 -- the rows and notes of a certificate
-abbrev of_cert : CertData → TableData
+abbrev pub of_cert : CertData → TableData
 of_cert c = record { rows = c.rows; notes = c.notes }
 
-abbrev rows_of : Result CertData CertFault → Result TableData CertFault
+abbrev pub rows_of : Result CertData CertFault → Result TableData CertFault
 rows_of (Ok c) = Ok (of_cert c)
 rows_of (Err fault) = Err fault
 
@@ -48,7 +49,7 @@ same_item c (given.Note action reason) = refl
 same_item c given.End = refl
 
 -- items give the rows and notes that they give a certificate
-same_rows : (c : CertData) (answers : List (Result Item CertFault)) → table_of (of_cert c) answers ≡ rows_of (cert_of c answers)
+pub same_rows : (c : CertData) (answers : List (Result Item CertFault)) → table_of (of_cert c) answers ≡ rows_of (cert_of c answers)
 unfolding table_of cert_of
 same_rows c [] = refl
 same_rows c (Err fault ∷ more) = refl
@@ -63,23 +64,32 @@ end_only : (c : CertData) → cert_of c (Ok given.End ∷ []) ≡ Ok c
 unfolding cert_of
 end_only c = refl
 
--- a text that is a table's gives this table
-pub text_gives : (text : List ℕ) → GivesBack text
+-- a table as a certificate that claims nothing
+abbrev pub as_cert : TableData → CertData
+as_cert t = record no_cert { rows = t.rows; notes = t.notes }
+
+-- the items of a table, behind its job, give its rows and notes
+pub items_give : (file : TableFileData) (text : List ℕ) → IsTextOfTable file text → cert_of no_cert (oks (rows_items file.table.rows file.table.notes) ++ Ok given.End ∷ []) ≡ Ok (as_cert file.table)
 unfolding rows_items
-text_gives text file is =
+items_give file text is =
     let rows = file.table.rows in
     let notes = file.table.notes in
     let end : List (Result Item CertFault) = Ok given.End ∷ [] in
-    let first : items Table text ≡ Ok (given.Job file.job) ∷ (oks (rows_items rows notes) ++ end) =
-    (reads_table_texts text).each file.job rows notes is ∙ ap (λ (a : List (Result Item CertFault)). Ok (given.Job file.job) ∷ a) (map-append Ok (rows_items rows notes) (given.End ∷ [])) in
     let few : 0 + length rows ≤ 2 ^ 20 = let most = few_rows file.job is.valid rows (record { each = is.rows.each_row; order = is.rows.row_order }) in omega (arith, most) in
     let all : flat_map (own_notes notes) (enumerate_from 0 rows) ≡ notes =
     all_own 0 rows notes (ascend 0 notes (λ d some. omega arith) is.rows.note_order) (λ k d within. let less = (is.rows.each_note k d within).row in omega (arith, less)) in
-    let given_rows : table_of empty_table (oks (rows_items rows notes) ++ end) ≡ Ok file.table =
-    same_rows no_cert (oks (rows_items rows notes) ++ end)
-    ∙ ap rows_of (fold_rows no_cert 0 rows notes end refl few ∙ end_only (record no_cert { rows = [] ++ rows; notes = [] ++ flat_map (own_notes notes) (enumerate_from 0 rows) }))
-    ∙ ap (λ (ns : List Note). Ok (record { rows = rows; notes = ns })) all in
-    file_of text file.job (oks (rows_items rows notes) ++ end) file.table first given_rows
+    fold_rows no_cert 0 rows notes end refl few ∙ end_only (record no_cert { rows = [] ++ rows; notes = [] ++ flat_map (own_notes notes) (enumerate_from 0 rows) })
+    ∙ ap (λ (ns : List Note). Ok (record no_cert { rows = rows; notes = ns })) all
+
+-- a text that is a table's gives this table
+pub text_gives : (text : List ℕ) → GivesBack text
+text_gives text file is =
+    let rows = file.table.rows in
+    let notes = file.table.notes in
+    let behind : List (Result Item CertFault) = oks (rows_items rows notes) ++ Ok given.End ∷ [] in
+    let first : items Table text ≡ Ok (given.Job file.job) ∷ behind =
+    (reads_table_texts text).each file.job rows notes is ∙ ap (λ (a : List (Result Item CertFault)). Ok (given.Job file.job) ∷ a) (map-append Ok (rows_items rows notes) (given.End ∷ [])) in
+    file_of text file.job behind file.table first (same_rows no_cert behind ∙ ap rows_of (items_give file text is))
 
 last_is : (item : Item) → is_last item ≡ true → item ≡ given.End
 last_is given.End e = refl
@@ -139,3 +149,11 @@ ok_not_err r file fault one two = absurd (cc)
 pub none_refused : (text : List ℕ) (fault : CertFault) → (fault ≡ faults.NoMemory) ⊎ (table_file_of text ≡ Err fault) → (fault ≡ faults.NoMemory) ⊎ ((file : TableFileData) → IsTextOfTable file text → ⊥)
 none_refused text fault (inl memory) = inl memory
 none_refused text fault (inr refused) = inr (λ file is. ok_not_err (table_file_of text) file fault (text_gives text file is) refused)
+
+-- a text that is refused is no table's
+pub no_table : (text : List ℕ) (fault : CertFault) → table_file_of text ≡ Err fault → IsNoTable text fault
+no_table text fault refused = record { none = λ file is. ok_not_err (table_file_of text) file fault (text_gives text file is) refused; first = refused }
+
+-- a text is that of one table of one job
+pub one_table : (text : List ℕ) (file other : TableFileData) → IsTextOfTable file text → IsTextOfTable other text → file ≡ other
+one_table text file other first second = same_Some file other (ap result_ok (sym (text_gives text file first) ∙ text_gives text other second))

@@ -6,9 +6,14 @@ pub mod NotedRows
 pub mod TableChecks
 pub mod SetActions
 pub mod TableTexts
+pub mod ProvedTable
+pub mod ReadRows
 pub mod Settled
 pub mod Settling
 pub mod SetWorths
 pub mod SetRows
+pub mod TextLeft
+pub mod TableRows
+pub mod TablePieces
 pub mod SettledPieces
 pub mod SettledText

@@ -1,6 +1,6 @@
 -- The text of the rows of settled sets, in pieces.
 use Rattle.std.specs.Prelude.{◌≡◌, ℕ, suc, zero, ◌+◌, ◌-◌, ◌*◌, ◌%◌, ◌^◌, ◌<◌, ◌≤◌, nat_lt}
-use Rattle.std.specs.Prelude.{Bool, true, false, if◌then◌else◌, List, [], ◌++◌, codes, length}
+use Rattle.std.specs.Prelude.{if◌then◌else◌, List, [], ◌++◌, codes, length}
 use Rattle.std.specs.Prelude.{slice_get, Option, Some, None}
 use Rattle.brake_base.specs.declared.stroke.Key.{Key}
 use Rattle.job_setup.specs.Setup.{JobData, stage_count}
@@ -40,17 +40,6 @@ abbrev pub rest_text : SettledSets → ℕ → ℕ → ℕ → List ℕ
 rest_text settled stages place zero = []
 rest_text settled stages place (suc count) =
     place_text settled stages place ++ rest_text settled stages (place + 1) count
-
--- the text of the last line, unless it was given
-unfoldable pub end_text : Bool → List ℕ
-end_text true = []
-end_text false = codes "end\n"
-
--- what is left of a table's text: what is left of its beginning, the rows of the keys from a number
--- up to another, and the last line
-abbrev pub text_left : List ℕ → SettledSets → ℕ → ℕ → ℕ → Bool → List ℕ
-text_left beginning settled stages next end is_ended =
-    beginning ++ rest_text settled stages next (end - next) ++ end_text is_ended
 
 -- the row of a key of a settled set may be written
 pub record CanBePut (settled : SettledSets) (key : Key) : Type 0 where

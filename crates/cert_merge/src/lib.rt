@@ -4,6 +4,8 @@
 mod checked;
 mod merged;
 mod noted_row;
+mod proved;
+mod read_rows;
 mod set_actions;
 mod set_worths;
 mod set_writer;
@@ -12,12 +14,16 @@ mod settled_pieces;
 mod settled_sets;
 mod settled_text;
 mod table;
+mod table_pieces;
+mod table_writer;
 mod texts;
 
 pub use checked::{TableFault, check_table, proved_at_start};
 pub use merged::merge;
+pub use proved::{ProveFault, ProvedTable, prove_text, prove_text_from};
 pub use settled::settle;
 pub use settled_pieces::SettledPieces;
 pub use settled_text::{SettledText, settle_text};
 pub use table::{Table, TableFile};
+pub use table_pieces::TablePieces;
 pub use texts::{read_table, write_table};

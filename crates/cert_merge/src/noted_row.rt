@@ -53,7 +53,7 @@ fn count_before(notes: &[Note], row: usize) -> usize
 }
 
 /// The reasons of the notes of a row, by the numbers of their actions.
-fn reasons_in(notes: &[Note]) -> [Option<Reason>; 144]
+pub(crate) fn reasons_in(notes: &[Note]) -> [Option<Reason>; 144]
     requires { All (λ note. note.action < 144) notes.now }
     ensures { (row action : ℕ) → All (λ note. note.row ≡ row) notes.now
         → slice_index_or result action None ≡ reason_noted notes.now row action }

@@ -99,7 +99,7 @@ impl SetWriter {
 }
 
 /// Tells the writer the reasons of a set that it has begun. The actions that have one.
-fn set_reasons(
+pub(crate) fn set_reasons(
     writer: &mut RowWriter,
     stages: u8,
     reasons: &[Option<Reason>; 144],
@@ -109,7 +109,7 @@ fn set_reasons(
     requires known { IsNone writer.old.known }
     requires reasons { AreWritable stages reasons.now }
     ensures notes { IfOk result (AreNotesOf reasons.now writer.new) }
-    ensures stages { OnOk result (writer.new.stages ≡ stages) }
+    ensures stages { writer.new.stages ≡ stages }
     ensures mask { OnOk result (writer.new.mask ≡ writer.old.mask) }
 {
     let mut notes = ActionSet::empty();

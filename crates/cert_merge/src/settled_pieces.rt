@@ -1,9 +1,8 @@
 //! The text of what is settled over no base, made in pieces.
-ghost use Rattle.std.specs.Prelude.{◌≡◌, ◌+◌, ◌^◌, ◌<◌, ◌≤◌, ◌++◌, codes, length, IfOk, OnOk};
+ghost use Rattle.std.specs.Prelude.{◌≡◌, ◌+◌, ◌^◌, ◌<◌, ◌≤◌, ◌++◌, length, IfOk, OnOk};
 ghost use Rattle.brake_base.specs.declared.stroke.Key.{Key};
 ghost use Rattle.brake_base.specs.declared.stroke.Worth.{Worth};
 ghost use Rattle.job_setup.specs.Setup.{bend_count};
-ghost use Rattle.plan_cert.specs.JobText.{job_text};
 ghost use Rattle.cert_merge.specs.Settling.{AreSettledBy, HasSets};
 ghost use Rattle.cert_merge.specs.SetRows.{IsWriterOf};
 ghost use Rattle.cert_merge.specs.SettledPieces.{place_text, CanGoOn, GoesOnTo, IsWholeText};
@@ -11,19 +10,13 @@ ghost use Rattle.cert_merge.specs.SettledPieces.{place_text, CanGoOn, GoesOnTo, 
 use crate::set_writer::SetWriter;
 use crate::settled::key_of;
 use crate::settled_sets::SettledSets;
+use crate::table_pieces::{FULL, beginning};
 use brake_base::Mask;
-use brake_io::{PIECE, Pieces};
+use brake_io::Pieces;
 use brake_text::put_word;
 use job_setup::Job;
-use plan_cert::write_job;
 use std::alloc::{AllocError, Global};
 use std::marker::Model;
-
-/// Room for a row with its notes, in bytes: they have at most 2,761.
-const ROW_ROOM: usize = 2_816;
-
-/// A piece ends with the first row behind which it has so many bytes.
-const FULL: usize = PIECE - ROW_ROOM;
 
 /// The text of the table of a range that is settled over no base, made in pieces from its sets, in
 /// the order of its keys. It is seen as what is left of the text.
@@ -42,26 +35,16 @@ pub struct SettledPieces {
 }
 
 impl Model for SettledPieces {
-    ghost use Rattle.std.specs.Prelude.{ℕ, List};
-    ghost use Rattle.cert_merge.specs.SettledPieces.{text_left, CanGoOn};
+    ghost use Rattle.std.specs.Prelude.{ℕ, ◌-◌, List};
+    ghost use Rattle.cert_merge.specs.TextLeft.{text_left};
+    ghost use Rattle.cert_merge.specs.SettledPieces.{rest_text, CanGoOn};
 
     ghost Value = { List ℕ };
 
-    ghost view = { λ p. text_left p.beginning.items p.settled p.stages p.next p.end p.is_ended };
+    ghost view = { λ p. text_left p.beginning.items
+        (rest_text p.settled p.stages p.next (p.end - p.next)) p.is_ended };
 
     ghost invariant = { λ p. CanGoOn p.settled p.stages p.writer p.next p.end };
-}
-
-/// The text of a table up to its rows.
-fn beginning(alloc: Global, job: &Job) -> Result<Vec<u8>, AllocError>
-    ensures { IfOk result (λ text. text.items
-        ≡ codes "brake-table 1\n" ++ job_text job.now) }
-{
-    let lines = write_job(alloc, job)?;
-    let mut text = Vec::new(alloc);
-    put_word(&mut text, b"brake-table 1\n")?;
-    put_word(&mut text, lines.as_slice())?;
-    Ok(text)
 }
 
 /// Appends the row of the key of a number, with its notes. Nothing where the machine hasn't so many

@@ -1,7 +1,9 @@
 //! The worked certificates: that of a U channel, altered line by line, and that of two flanges that
 //! are bent in one stroke.
+ghost use Rattle.std.specs.Prelude.{None};
 
-use cert_check::{CheckFault, StepFault, Verdict, check};
+use brake_io::{HeldBytes, Reader, Window};
+use cert_check::{CheckFault, StepFault, Verdict, check, check_from};
 use certificate_texts::{GANG_JOB, ROWS, STEPS, VERSION_1_JOB};
 use plan_cert::CertFault;
 use std::alloc::Global;
@@ -174,6 +176,66 @@ fn two_flanges_of_a_gang_are_bent_by_their_lead(rt: HostRuntime) -> Result<(), F
     assert_eq!(rt; answer_of(alloc, &job, good.0, good.1)?, optimal);
     for (lines, fault) in GANG_FAULTS {
         assert_eq!(rt; answer_of(alloc, &job, lines, "")?, Err(fault));
+    }
+    Ok(())
+}
+
+/// Bytes in memory, of which at most so many are given at a time.
+#[derive(Drop)]
+struct FewAtATime {
+    bytes: HeldBytes,
+    most: usize,
+}
+
+impl Reader for FewAtATime {
+    ghost left = { λ _. None };
+
+    fn read(&mut self, to: &mut [u8]) -> Option<usize> {
+        let count = self.most.min(to.len());
+        self.bytes.read(&mut to[..count])
+    }
+}
+
+/// What checking a text comes to that is read in pieces of at most so many bytes.
+fn answer_in_pieces(
+    alloc: Global,
+    text: &str,
+    most: usize,
+) -> Result<Result<Verdict, CheckFault>, Fail> {
+    let bytes = HeldBytes::new(Vec::from_slice(alloc, text.as_bytes())?);
+    let mut window = Window::open(alloc, FewAtATime { bytes, most }, 1_000_000)?;
+    match check_from(alloc, &mut window) {
+        Ok(checked) => Ok(Ok(checked.verdict)),
+        Err(fault) => Ok(Err(fault)),
+    }
+}
+
+/// The worked certificates and their altered forms.
+fn all_texts(alloc: Global) -> Result<Vec<String>, Fail> {
+    let mut texts = Vec::new(alloc);
+    let job = VERSION_1_JOB.concat(alloc)?;
+    let good = format!(in alloc; "{job}{STEPS}{ROWS}")?;
+    for (old, new, _) in FAULTS {
+        texts.push(good.replacen(alloc, old, new, 1)?)?;
+    }
+    texts.push(good)?;
+    let high = job.replace(alloc, "30000 up", "80000 up")?;
+    texts.push(format!(in alloc; "{high}claim none\n{HIGH_ROWS}")?)?;
+    let gang = GANG_JOB.concat(alloc)?;
+    for (lines, _) in GANG_FAULTS {
+        texts.push(format!(in alloc; "{gang}{lines}")?)?;
+    }
+    Ok(texts)
+}
+
+#[test]
+fn a_text_in_pieces_is_answered_as_a_whole_one(rt: HostRuntime) -> Result<(), Fail> {
+    let alloc = rt.alloc();
+    for text in &all_texts(alloc)? {
+        let whole = answer_of(alloc, text, "", "")?;
+        for most in [1, 40, 1000] {
+            assert_eq!(rt; answer_in_pieces(alloc, text, most)?, whole);
+        }
     }
     Ok(())
 }

@@ -1,7 +1,7 @@
 //! Tables of the U channel: written, read, checked and altered.
 
 use brake_base::Worth;
-use cert_merge::{TableFault, check_table, read_table, write_table};
+use cert_merge::{ProveFault, TableFault, check_table, prove_text, read_table, write_table};
 use certificate_texts::{ROWS, VERSION_2_JOB};
 use plan_cert::CertFault;
 use std::alloc::{AllocError, Global};
@@ -98,23 +98,22 @@ fn altered_tables_are_refused_at_their_line(rt: HostRuntime) -> Result<(), Fail>
     Ok(())
 }
 
-/// Why a text proves nothing: it is no table's, or an action at a row isn't accounted for.
-#[derive(Clone, Copy, Debug, PartialEq, Eq)]
-enum Refusal {
-    Text(CertFault),
-    Rows(TableFault),
-}
-
-/// What a text proves of the start, or its first refusal.
-fn answer_of(alloc: Global, text: &str) -> Result<Worth, Refusal> {
+/// What a text proves of the start, or its first refusal, by way of the table.
+fn answer_of(alloc: Global, text: &str) -> Result<Worth, ProveFault> {
     let file = match read_table(alloc, text.as_bytes()) {
         Ok(file) => file,
-        Err(fault) => return Err(Refusal::Text(fault)),
+        Err(fault) => return Err(ProveFault::Text(fault)),
     };
     match check_table(&file.job, &file.table) {
         Ok(worth) => Ok(worth),
-        Err(fault) => Err(Refusal::Rows(fault)),
+        Err(fault) => Err(ProveFault::Rows(fault)),
     }
+}
+
+/// The same in one reading, without the table.
+fn proved_of(alloc: Global, text: &str) -> Result<Worth, ProveFault> {
+    let proved = prove_text(alloc, text.as_bytes())?;
+    Ok(proved.at_start)
 }
 
 #[test]
@@ -125,105 +124,106 @@ fn the_worked_table_proves_the_least_cost(rt: HostRuntime) -> Result<(), Fail> {
     for rows in [ROWS, "end\n"] {
         let text = format!(in alloc; "{head}{rows}")?;
         assert_eq!(rt; answer_of(alloc, &text), Ok(Worth::Cost(200)));
+        assert_eq!(rt; proved_of(alloc, &text), Ok(Worth::Cost(200)));
     }
     Ok(())
 }
 
 /// A text of the worked table, another in its place, and the first refusal that this brings.
-const FAULTS: [(&str, &str, Refusal); 21] = [
+const FAULTS: [(&str, &str, ProveFault); 21] = [
     (
         "brake-table 1",
         "brake-table 2",
-        Refusal::Text(CertFault::BadLine { line: 1 }),
+        ProveFault::Text(CertFault::BadLine { line: 1 }),
     ),
     (
         "brake-table 1",
         "brake-table  1",
-        Refusal::Text(CertFault::BadLine { line: 1 }),
+        ProveFault::Text(CertFault::BadLine { line: 1 }),
     ),
     (
         "brake-table 1",
         "brake-cert 2",
-        Refusal::Text(CertFault::BadLine { line: 1 }),
+        ProveFault::Text(CertFault::BadLine { line: 1 }),
     ),
     (
         "2000 1919",
         "2000 01919",
-        Refusal::Text(CertFault::BadLine { line: 2 }),
+        ProveFault::Text(CertFault::BadLine { line: 2 }),
     ),
-    ("2000 1919", "2000 500", Refusal::Text(CertFault::BadJob)),
+    ("2000 1919", "2000 500", ProveFault::Text(CertFault::BadJob)),
     (
         "gang 0\n",
         "",
-        Refusal::Text(CertFault::BadLine { line: 12 }),
+        ProveFault::Text(CertFault::BadLine { line: 12 }),
     ),
     (
         "load 0 0\n",
         "load 0 0\nload 0 0\n",
-        Refusal::Text(CertFault::BadLine { line: 23 }),
+        ProveFault::Text(CertFault::BadLine { line: 23 }),
     ),
     (
         "row 0 0 0 200",
         "claim 200\nrow 0 0 0 200",
-        Refusal::Text(CertFault::BadLine { line: 23 }),
+        ProveFault::Text(CertFault::BadLine { line: 23 }),
     ),
     (
         "row 0 0 0 200",
         "step 2 P 0 1 1\nrow 0 0 0 200",
-        Refusal::Text(CertFault::BadLine { line: 23 }),
+        ProveFault::Text(CertFault::BadLine { line: 23 }),
     ),
     (
         "row 0 0 0 200",
         "row 3 0 0 0",
-        Refusal::Text(CertFault::BadLine { line: 23 }),
+        ProveFault::Text(CertFault::BadLine { line: 23 }),
     ),
     (
         "row 0 0 0 200",
         "row 0 0 0 1000000001",
-        Refusal::Text(CertFault::BadLine { line: 23 }),
+        ProveFault::Text(CertFault::BadLine { line: 23 }),
     ),
     (
         "row 2 0 0 100\n",
         "row 2 0 0 100\nrow 2 0 0 100\n",
-        Refusal::Text(CertFault::BadLine { line: 27 }),
+        ProveFault::Text(CertFault::BadLine { line: 27 }),
     ),
     (
         "row 2 0 0 100",
         "row 02 0 0 100",
-        Refusal::Text(CertFault::BadLine { line: 26 }),
+        ProveFault::Text(CertFault::BadLine { line: 26 }),
     ),
     (
         "x 2 P 0 8",
         "x 1 P 0 8",
-        Refusal::Text(CertFault::BadLine { line: 25 }),
+        ProveFault::Text(CertFault::BadLine { line: 25 }),
     ),
-    ("end\n", "", Refusal::Text(CertFault::Unended)),
-    ("end\n", "end\n\n", Refusal::Text(CertFault::Trailing)),
+    ("end\n", "", ProveFault::Text(CertFault::Unended)),
+    ("end\n", "end\n\n", ProveFault::Text(CertFault::Trailing)),
     (
         "x 2 P 0 8",
         "x 2 P 0 4 0 1 0",
-        Refusal::Rows(TableFault::BadReason { row: 1, action: 2 }),
+        ProveFault::Rows(TableFault::BadReason { row: 1, action: 2 }),
     ),
     (
         "x 2 P 0 8\n",
         "",
-        Refusal::Rows(TableFault::NotClosed { row: 1, action: 2 }),
+        ProveFault::Rows(TableFault::NotClosed { row: 1, action: 2 }),
     ),
     (
         "row 0 0 0 200",
         "row 0 0 0 210",
-        Refusal::Rows(TableFault::NotClosed { row: 0, action: 2 }),
+        ProveFault::Rows(TableFault::NotClosed { row: 0, action: 2 }),
     ),
     // The false note of row 1 stands behind the open action of row 0.
     (
         "row 0 0 0 200\nrow 1 0 0 130\nx 2 P 0 8",
         "row 0 0 0 210\nrow 1 0 0 130\nx 2 P 0 4 0 1 0",
-        Refusal::Rows(TableFault::NotClosed { row: 0, action: 2 }),
+        ProveFault::Rows(TableFault::NotClosed { row: 0, action: 2 }),
     ),
     (
         "row 2 0 0 100",
         "row 2 0 0 1000",
-        Refusal::Rows(TableFault::NotClosed { row: 2, action: 0 }),
+        ProveFault::Rows(TableFault::NotClosed { row: 2, action: 0 }),
     ),
 ];
 
@@ -235,6 +235,7 @@ fn altered_tables_are_refused_by_their_first_fault(rt: HostRuntime) -> Result<()
     for (old, new, refusal) in FAULTS {
         let text = text.replacen(alloc, old, new, 1)?;
         assert!(rt; answer_of(alloc, &text) == Err(refusal), "{new}");
+        assert!(rt; proved_of(alloc, &text) == Err(refusal), "{new}");
     }
     Ok(())
 }

@@ -1,7 +1,10 @@
 //! Tests of the crates that search and keep what the search found, write, read and check certificates,
-//! print sheets and make jobs for trials. They stand above what they test, on public calls.
+//! print sheets, put refusals into words and make jobs for trials. They stand above what they test, on
+//! public calls.
 #![tactic(auto)]
 
+#[cfg(test)]
+mod action_lanes_tests;
 #[cfg(test)]
 mod bb_search_tests;
 #[cfg(test)]
@@ -16,6 +19,8 @@ mod first_stage;
 mod part_gen_tests;
 #[cfg(test)]
 mod plan_cert_tests;
+#[cfg(test)]
+mod refusal_words_tests;
 #[cfg(test)]
 mod row_pool_tests;
 #[cfg(test)]

@@ -1,41 +1,52 @@
--- What a reader knows by how many answers it gave, and what the next answer leaves.
-use Rattle.std.proofs.Common.{◌≡◌, ℕ, ◌+◌, ◌<◌, Bool, true, false, List, drop, Some, Result, sym, ap, subst, ◌∙◌, lt-ltb, arith}
+-- What a reader of a whole text knows by how many answers it gave, and what the next answer leaves.
+use Rattle.std.proofs.Common.{◌≡◌, ℕ, ◌+◌, ◌<◌, List, [], ◌++◌, drop, Some, Result, Ok, Err, sym, ap, subst, ◌∙◌, lt-ltb, arith}
 use Rattle.std.specs.Prelude.{nat_lt, slice_get}
+use Rattle.std.proofs.lemmas.List.{append-nil}
 use Rattle.plan_cert.specs.declared.format.TextKind.{TextKind}
 use Rattle.plan_cert.specs.declared.item.Item.{Item}
+use Rattle.plan_cert.specs.declared.item.Item.TheVariants as item
 use Rattle.plan_cert.specs.declared.item.CertFault.{CertFault}
-use Rattle.plan_cert.specs.declared.stand.Stand.{Stand}
-use Rattle.plan_cert.specs.Facts.{HasFew}
-use Rattle.plan_cert.specs.Reading.{IsBegun, Leaves, LeavesBy, LeavesIn, GivesNext}
+use Rattle.plan_cert.specs.declared.item.CertFault.TheVariants as faults
+use Rattle.plan_cert.specs.declared.line_place.LinePlace.{LinePlace}
+use Rattle.plan_cert.specs.Reading.{Leaves, LeavesBy, LeavesAt, GivesNext, HoldsBefore}
 use Rattle.plan_cert.specs.Items.{items}
 use Rattle.plan_cert.proofs.ItemCounts.{answer_at, answers_behind}
-use Rattle.plan_cert.proofs.PlanItems.{leaves_next}
-
-pub is_begun : (answered : ℕ) (begun : Bool) → IsBegun answered begun → 0 < answered → begun ≡ true
-is_begun answered begun is some = is ∙ lt-ltb 0 answered some
-
-not_begun : (answered : ℕ) (begun : Bool) → IsBegun answered begun → answered ≡ 0 → begun ≡ false
-not_begun answered begun is none = is ∙ ap (λ (n : ℕ). nat_lt 0 n) none
-
-begun_on : (answered : ℕ) (begun : Bool) → begun ≡ true → IsBegun (answered + 1) begun
-begun_on answered begun is = is ∙ sym (lt-ltb 0 (answered + 1) (omega arith))
 
 -- behind the first answer those behind the job are left
-pub leaves_in : (kind : TextKind) (stand : Stand) (left : List (Result Item CertFault)) (answered : ℕ) → 0 < answered → IsBegun answered stand.is_begun → Leaves kind stand left → LeavesIn stand.section stand left
-leaves_in kind stand left answered some begun leaves = subst (λ b. LeavesBy b kind stand left) (is_begun answered stand.is_begun begun some) leaves
+pub leaves_at : (kind : TextKind) (place : LinePlace) (rest : List ℕ) (left : List (Result Item CertFault)) (answered : ℕ) → 0 < answered → Leaves answered kind place rest left → LeavesAt place (rest ++ []) left
+leaves_at kind place rest left answered some leaves = subst (λ (t : List ℕ). LeavesAt place t left) (sym (append-nil rest)) (subst (λ b. LeavesBy b kind place rest left) (lt-ltb 0 answered some) leaves)
+
+-- what is left behind an answer
+pub leaves_next : (answered : ℕ) (kind : TextKind) (place : LinePlace) (rest : List ℕ) (answers more : List (Result Item CertFault)) → 0 < answered → answers ≡ more → LeavesAt place (rest ++ []) more → Leaves answered kind place rest answers
+leaves_next answered kind place rest answers more some same left =
+    subst (λ b. LeavesBy b kind place rest answers) (sym (lt-ltb 0 answered some)) (subst (λ (t : List ℕ). LeavesAt place t answers) (append-nil rest) (subst (λ a. LeavesAt place (rest ++ []) a) (sym same) left))
 
 -- what is given is the next of all answers, and the others are left
-pub answered_on : (kind : TextKind) (stand : Stand) (all : List (Result Item CertFault)) (answered : ℕ) (given : Result Item CertFault) → GivesNext (drop answered all) given stand
-    → (slice_get all answered ≡ Some given) × (Leaves kind stand (drop (answered + 1) all) × HasFew stand.facts × IsBegun (answered + 1) stand.is_begun)
-answered_on kind stand all answered given gives =
-    let (more, first, on, few, rest) = gives in (
+pub answered_on : (kind : TextKind) (place : LinePlace) (rest : List ℕ) (all : List (Result Item CertFault)) (answered : ℕ) (given : Result Item CertFault) → GivesNext (drop answered all) given place (rest ++ [])
+    → (slice_get all answered ≡ Some given) × Leaves (answered + 1) kind place rest (drop (answered + 1) all)
+answered_on kind place rest all answered given gives =
+    let (more, first, left) = gives in (
       answer_at all more answered given first,
-      (leaves_next kind stand (drop (answered + 1) all) more on (answers_behind all more answered given first) rest, few, begun_on answered stand.is_begun on),
+      leaves_next (answered + 1) kind place rest (drop (answered + 1) all) more (omega arith) (answers_behind all more answered given first) left,
     )
 
 -- the same of the first answer, before which those of the whole text are left
-pub first_answered : (kind : TextKind) (stand next : Stand) (all : List (Result Item CertFault)) (answered : ℕ) (given : Result Item CertFault) → answered ≡ 0 → IsBegun answered stand.is_begun → Leaves kind stand (drop answered all)
-    → GivesNext (items kind stand.rest.now) given next → (slice_get all answered ≡ Some given) × (Leaves kind next (drop (answered + 1) all) × HasFew next.facts × IsBegun (answered + 1) next.is_begun)
-first_answered kind stand next all answered given none begun leaves gives =
-    let left : drop answered all ≡ items kind stand.rest.now = subst (λ b. LeavesBy b kind stand (drop answered all)) (not_begun answered stand.is_begun begun none) leaves in
-    answered_on kind next all answered given (subst (λ answers. GivesNext answers given next) (sym left) gives)
+pub first_answered : (kind : TextKind) (place next : LinePlace) (text rest : List ℕ) (all : List (Result Item CertFault)) (answered : ℕ) (given : Result Item CertFault) → answered ≡ 0 → Leaves answered kind place text (drop answered all)
+    → GivesNext (items kind (text ++ [])) given next (rest ++ []) → (slice_get all answered ≡ Some given) × Leaves (answered + 1) kind next rest (drop (answered + 1) all)
+first_answered kind place next text rest all answered given none leaves gives =
+    let left : drop answered all ≡ items kind text = subst (λ b. LeavesBy b kind place text (drop answered all)) (ap (λ (n : ℕ). nat_lt 0 n) none) leaves in
+    answered_on kind next rest all answered given (subst (λ answers. GivesNext answers given next (rest ++ [])) (ap (λ (t : List ℕ). items kind t) (append-nil text) ∙ sym left) gives)
+
+-- where nothing is behind the bytes that were read, any answer is the text's
+pub holds_last : {behind : List ℕ} (given : Result Item CertFault) → behind ≡ [] → HoldsBefore given behind
+holds_last (Ok (item.Job job)) last = tt
+holds_last (Ok (item.Claim claim)) last = tt
+holds_last (Ok (item.Step step)) last = tt
+holds_last (Ok (item.Row row)) last = tt
+holds_last (Ok (item.Note action reason)) last = tt
+holds_last (Ok item.End) last = last
+holds_last (Err (faults.BadLine line)) last = tt
+holds_last (Err faults.Unended) last = last
+holds_last (Err faults.Trailing) last = tt
+holds_last (Err faults.BadJob) last = tt
+holds_last (Err faults.NoMemory) last = tt

@@ -21,7 +21,7 @@ use Rattle.plan_cert.specs.Facts.{KeepsFacts}
 use Rattle.plan_cert.specs.LineReading.{keyword_in, behind_keyword}
 use Rattle.plan_cert.specs.Lines.{note_line}
 use Rattle.plan_cert.specs.PlanReading.{noted, give, plan_words_in, plan_line_in, take_plan_line}
-use Rattle.plan_cert.specs.Items.{lines_in}
+use Rattle.plan_cert.specs.Reading.{IsCut}
 use Rattle.plan_cert.specs.KnownNotes.{IsKnown, AreKnown, IsLineTaken}
 use Rattle.plan_cert.proofs.PlanLineRead.{note_among}
 
@@ -69,7 +69,7 @@ gives_again facts format key least note taken known same_bends same_stages is jo
     ∙ (ap (λ (read : Option (Action × Reason)). (read >>= λ r. Some (note_line r.0 r.1)) >>= λ line. give format job line (sections.Notes key least)) words ∙ is job kept)
 
 pub known_taken : (facts : JobFacts) (key : Key) (least : ℕ) (note : KnownNote) (text rest : List ℕ) (taken : Item × Section) → IsKnown note → note.bends ≡ facts.bends → note.stages ≡ facts.stages
-    → lines_in text ≡ note.line.now ∷ lines_in rest → ((job : JobData) → KeepsFacts facts job → noted job key least note.action note.reason ≡ Some taken)
+    → IsCut text note.line.now rest → ((job : JobData) → KeepsFacts facts job → noted job key least note.action note.reason ≡ Some taken)
     → IsLineTaken facts (sections.Notes key least) text taken rest
 known_taken facts key least note text rest taken known same_bends same_stages cut is = record {
   line = note.line.now;

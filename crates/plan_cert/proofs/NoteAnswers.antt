@@ -1,6 +1,5 @@
 -- Notes that are held and forgotten, and many answers of a reader at once.
-use Rattle.std.proofs.Common.{◌≡◌, ℕ, zero, suc, ◌+◌, ◌-◌, ◌<◌, ◌≤◌, ◌^◌, min, Bool, true, false, ◌&&◌, ◌==◌, eqb-true, List, [], ◌∷◌, ◌++◌, length, take, drop, map, replicate, set, get_or, Option, Some, None, Result, Ok, refl, ap, sym, subst, ◌∙◌, arith, inl, inr, All, lt-ltb}
-use Rattle.std.specs.Prelude.{◌⊎◌, is_some}
+use Rattle.std.proofs.Common.{◌≡◌, ℕ, zero, suc, ◌+◌, ◌-◌, ◌<◌, ◌≤◌, Bool, true, false, ◌&&◌, ◌==◌, eqb-true, List, [], ◌∷◌, ◌++◌, length, drop, map, replicate, set, get_or, Option, Some, None, Result, Ok, refl, ap, sym, subst, ◌∙◌, arith, inl, inr, All}
 use lib.Pointwise.{pointwise}
 use Rattle.std.proofs.Math.Seq.{drop-append_seam}
 use Rattle.std.proofs.lemmas.Bool.Decides.{eqb_tells}
@@ -12,25 +11,24 @@ use Rattle.brake_base.specs.declared.stroke.Key.{Key}
 use Rattle.brake_base.specs.declared.reason.Reason.{Reason}
 use Rattle.stage_lanes.specs.declared.actions.ActionSet.{ActionSet}
 use Rattle.stage_lanes.specs.ActionSets.{IsNone, places_of}
-use Rattle.job_setup.specs.Setup.{JobData}
 use Rattle.plan_cert.specs.declared.format.TextKind.{TextKind}
 use Rattle.plan_cert.specs.declared.item.Item.{Item}
 use Rattle.plan_cert.specs.declared.item.Item.TheVariants as given
 use Rattle.plan_cert.specs.declared.item.CertFault.{CertFault}
 use Rattle.plan_cert.specs.declared.section.Section.{Section}
 use Rattle.plan_cert.specs.declared.section.Section.TheVariants as sections
-use Rattle.plan_cert.specs.declared.stand.Stand.{Stand}
+use Rattle.plan_cert.specs.declared.line_place.LinePlace.{LinePlace}
 use Rattle.plan_cert.specs.declared.job_facts.JobFacts.{JobFacts}
 use Rattle.plan_cert.specs.declared.known_notes.KnownNote.{KnownNote}
 use Rattle.plan_cert.specs.declared.note_run.NoteRun.{NoteRun}
-use Rattle.plan_cert.specs.Facts.{KeepsFacts, HasFew}
 use Rattle.plan_cert.specs.Items.{lines_in, plan_items}
-use Rattle.plan_cert.specs.Reading.{LeavesPlan, LeavesIn, Leaves, IsBegun}
-use Rattle.plan_cert.specs.NoteLines.{KnownReasons, reason_by, reason_at, note_told, notes_told, IsKnownAt, AreKnownAll, KnowsNoMore, KnowsAtMost, LearnsFrom, reason_of, known_reasons, IsHeld, AreHeld, numbers_on, IsTaken, GivesAll}
+use Rattle.plan_cert.specs.Reading.{LeavesPlan, LeavesIn, LeavesAt, Leaves}
+use Rattle.plan_cert.specs.NoteLines.{KnownReasons, reason_by, note_told, notes_told, IsKnownAt, AreKnownAll, KnowsNoMore, KnowsAtMost, LearnsFrom, reason_of, known_reasons, IsHeld, AreHeld, numbers_on, IsTaken, GivesAll}
 use Rattle.plan_cert.proofs.KnownLines.{none_read, read_back}
 use Rattle.plan_cert.proofs.NoteSets.{no_places}
-use Rattle.plan_cert.proofs.NoteRuns.{reason_is, numbers_are}
-use Rattle.plan_cert.proofs.PlanItems.{left_in, leaves_next}
+use Rattle.plan_cert.proofs.NoteRuns.{reason_is}
+use Rattle.plan_cert.proofs.PlanItems.{leaves_same}
+use Rattle.plan_cert.proofs.Begun.{leaves_next}
 
 -- ---- notes that are held
 pub none_held : (facts : JobFacts) (n : ℕ) → AreHeld facts (replicate n None)
@@ -103,12 +101,15 @@ empty_known known set none = subst (All (IsKnownAt known)) (sym (no_places set n
 
 pub none_taken : (facts : JobFacts) (known : KnownReasons) (folded : Mask) (least : ℕ) (text : List ℕ) (run : NoteRun) → IsNone run.notes → run.count ≡ 0 → run.least ≡ least → run.rest.now ≡ text → IsTaken facts known folded least text run
 none_taken facts known folded least text run none count_is least_is rest = record {
-  told = λ job key n kept same.
-      let more = plan_items facts.format job (numbers_on run.count n) (sections.Notes key run.least) (lines_in run.rest.now) in
-      ap (λ (t : List ℕ). plan_items facts.format job n (sections.Notes key least) (lines_in t)) (sym rest)
-      ∙ ap (λ (m : ℕ). plan_items facts.format job n (sections.Notes key m) (lines_in run.rest.now)) (sym least_is)
-      ∙ ap (λ (c : ℕ). plan_items facts.format job (numbers_on c n) (sections.Notes key run.least) (lines_in run.rest.now)) (sym count_is)
+  told = λ job key n behind kept same.
+      let after = run.rest.now ++ behind in
+      let more = plan_items facts.format job (numbers_on run.count n) (sections.Notes key run.least) (lines_in after) in
+      ap (λ (t : List ℕ). plan_items facts.format job n (sections.Notes key least) (lines_in (t ++ behind))) (sym rest)
+      ∙ ap (λ (m : ℕ). plan_items facts.format job n (sections.Notes key m) (lines_in after)) (sym least_is)
+      ∙ ap (λ (c : ℕ). plan_items facts.format job (numbers_on c n) (sections.Notes key run.least) (lines_in after)) (sym count_is)
       ∙ ap (λ (places : List ℕ). map (note_told known) places ++ more) (sym (no_places run.notes none));
+  cut = ([], sym rest);
+  shorter = let long : length run.rest.now ≡ length text = ap (λ (t : List ℕ). length t) rest in omega (arith, long, count_is);
   count_is = ap (λ (places : List ℕ). length places) (no_places run.notes none) ∙ sym count_is;
   are_known = empty_known known run.notes none;
 }
@@ -117,40 +118,35 @@ pub empty_count : (set : ActionSet) → IsNone set → length (places_of set) �
 empty_count set none = ap (λ (places : List ℕ). length places) (no_places set none)
 
 -- ---- many answers at once
-pub none_given : (stand : Stand) (answers : List (Result Item CertFault)) (known : KnownReasons) (set : ActionSet) → IsNone set → stand.is_begun ≡ true → HasFew stand.facts → LeavesIn stand.section stand answers → GivesAll answers (notes_told known set) stand
-none_given stand answers known set none begun few left = (answers, ap (λ (places : List ℕ). map (note_told known) places ++ answers) (sym (no_places set none)), begun, few, left)
+pub none_given : (place : LinePlace) (text : List ℕ) (answers : List (Result Item CertFault)) (known : KnownReasons) (set : ActionSet) → IsNone set → LeavesAt place text answers → GivesAll answers (notes_told known set) place text
+none_given place text answers known set none left = (answers, ap (λ (places : List ℕ). map (note_told known) places ++ answers) (sym (no_places set none)), left)
 
-pub taken_given : (old new : Stand) (known : KnownReasons) (key : Key) (least : ℕ) (run : NoteRun) (answers : List (Result Item CertFault)) → old.section ≡ sections.Notes key least → IsTaken old.facts known key.mask least old.rest.now run
-    → LeavesIn old.section old answers → HasFew old.facts → new.is_begun ≡ true → new.rest.now ≡ run.rest.now → new.number ≡ numbers_on run.count old.number → new.section ≡ sections.Notes key run.least → new.facts ≡ old.facts
-    → GivesAll answers (notes_told known run.notes) new
-taken_given old new known key least run answers at taken left old_few begun rest_is number_is section_is facts_is =
-    let plan : LeavesPlan old answers = subst (λ (s : Section). LeavesIn s old answers) at left in
-    let more = plan_items old.facts.format plan.job (numbers_on run.count old.number) (sections.Notes key run.least) (lines_in run.rest.now) in
+pub taken_given : (old new : LinePlace) (known : KnownReasons) (key : Key) (least : ℕ) (text behind : List ℕ) (run : NoteRun) (answers : List (Result Item CertFault)) → old.section ≡ sections.Notes key least → IsTaken old.facts known key.mask least text run
+    → LeavesAt old (text ++ behind) answers → new.number ≡ numbers_on run.count old.number → new.section ≡ sections.Notes key run.least → new.facts ≡ old.facts
+    → GivesAll answers (notes_told known run.notes) new (run.rest.now ++ behind)
+taken_given old new known key least text behind run answers at taken left number_is section_is facts_is =
+    let rest = run.rest.now ++ behind in
+    let plan : LeavesPlan old (text ++ behind) answers = subst (λ (s : Section). LeavesIn s old (text ++ behind) answers) at left in
+    let more = plan_items old.facts.format plan.job (numbers_on run.count old.number) (sections.Notes key run.least) (lines_in rest) in
     let all : answers ≡ notes_told known run.notes ++ more =
-    plan.left ∙ ap (λ (s : Section). plan_items old.facts.format plan.job old.number s (lines_in old.rest.now)) at ∙ taken.told plan.job key old.number plan.kept refl in
-    let kept : KeepsFacts new.facts plan.job = subst (λ f. KeepsFacts f plan.job) (sym facts_is) plan.kept in
-    let behind : more ≡ plan_items new.facts.format plan.job new.number new.section (lines_in new.rest.now) =
-    ap (λ n. plan_items old.facts.format plan.job n (sections.Notes key run.least) (lines_in run.rest.now)) (sym number_is)
-    ∙ ap (λ s. plan_items old.facts.format plan.job new.number s (lines_in run.rest.now)) (sym section_is)
-    ∙ ap (λ t. plan_items old.facts.format plan.job new.number new.section (lines_in t)) (sym rest_is)
-    ∙ ap (λ f. plan_items f.format plan.job new.number new.section (lines_in new.rest.now)) (sym facts_is) in
-    (more, all, begun, subst (λ f. HasFew f) (sym facts_is) old_few, left_in new.section new more refl (record { job = plan.job; kept = kept; left = behind }))
+    plan.left ∙ ap (λ (s : Section). plan_items old.facts.format plan.job old.number s (lines_in (text ++ behind))) at ∙ taken.told plan.job key old.number behind plan.kept refl in
+    (more, all, leaves_same old new (numbers_on run.count old.number) (sections.Notes key run.least) rest plan.job plan.kept number_is section_is facts_is)
 
 -- what is told is the next of all answers, and the others are left
-pub answered_all : (kind : TextKind) (stand : Stand) (all told : List (Result Item CertFault)) (answered count : ℕ) → length told ≡ count → 0 < answered → GivesAll (drop answered all) told stand
-    → (drop answered all ≡ told ++ drop (answered + count) all) × (Leaves kind stand (drop (answered + count) all) × HasFew stand.facts × IsBegun (answered + count) stand.is_begun)
-answered_all kind stand all told answered count long some gives =
-    let (more, first, on, few, rest) = gives in
+pub answered_all : (kind : TextKind) (place : LinePlace) (rest : List ℕ) (all told : List (Result Item CertFault)) (answered count : ℕ) → length told ≡ count → 0 < answered → GivesAll (drop answered all) told place (rest ++ [])
+    → (drop answered all ≡ told ++ drop (answered + count) all) × Leaves (answered + count) kind place rest (drop (answered + count) all)
+answered_all kind place rest all told answered count long some gives =
+    let (more, first, left) = gives in
     let behind : drop (answered + count) all ≡ more =
     sym (drop-drop count answered all) ∙ ap (λ (xs : List (Result Item CertFault)). drop count xs) first ∙ ap (λ (n : ℕ). drop n (told ++ more)) (sym long) ∙ drop-append_seam told more in (
       first ∙ ap (λ (xs : List (Result Item CertFault)). told ++ xs) (sym behind),
-      (leaves_next kind stand (drop (answered + count) all) more on behind rest, few, on ∙ sym (lt-ltb 0 (answered + count) (omega (arith, some)))),
+      leaves_next (answered + count) kind place rest (drop (answered + count) all) more (omega (arith, some)) behind left,
     )
 
 -- no more answers are told than there are
-pub told_few : (stand : Stand) (all told : List (Result Item CertFault)) (answered count : ℕ) → length told ≡ count → GivesAll (drop answered all) told stand → count ≤ length all - answered
-told_few stand all told answered count long gives =
-    let (more, first, on, few, rest) = gives in
+pub told_few : (place : LinePlace) (text : List ℕ) (all told : List (Result Item CertFault)) (answered count : ℕ) → length told ≡ count → GivesAll (drop answered all) told place text → count ≤ length all - answered
+told_few place text all told answered count long gives =
+    let (more, first, left) = gives in
     let whole : length (drop answered all) ≡ length (told ++ more) = ap (λ (xs : List (Result Item CertFault)). length xs) first in
     omega (arith, whole, length-append told more, length-drop answered all, long)
 

@@ -13,14 +13,13 @@ use Rattle.brake_base.specs.declared.stroke.Action.{Action}
 use Rattle.brake_base.specs.declared.reason.Reason.{Reason}
 use Rattle.brake_base.specs.Actions.{IsActionAmong, number_of_action}
 use Rattle.stage_lanes.specs.declared.actions.ActionSet.{ActionSet}
-use Rattle.stage_lanes.specs.ActionSets.{place_of, has_place, ArePlaces, IsNone, places_of}
-use Rattle.job_setup.specs.Setup.{JobData, stage_count}
+use Rattle.stage_lanes.specs.ActionSets.{place_of, has_place, ArePlaces, IsNone}
+use Rattle.job_setup.specs.Setup.{JobData}
 use Rattle.job_setup.specs.StrokeGroup.{is_lead}
 use Rattle.plan_cert.specs.declared.item.Item.{Item}
 use Rattle.plan_cert.specs.declared.item.Item.TheVariants as given
 use Rattle.plan_cert.specs.declared.item.CertFault.{CertFault}
 use Rattle.plan_cert.specs.declared.format.Format.{Format}
-use Rattle.plan_cert.specs.declared.section.Section.{Section}
 use Rattle.plan_cert.specs.declared.section.Section.TheVariants as sections
 use Rattle.plan_cert.specs.declared.job_facts.JobFacts.{JobFacts}
 use Rattle.plan_cert.specs.declared.known_notes.KnownNote.{KnownNote}
@@ -31,7 +30,7 @@ use Rattle.plan_cert.specs.Facts.{KeepsFacts, HasFew, AreAllEarlier}
 use Rattle.plan_cert.specs.LineReading.{only_if, keyword_in, behind_keyword}
 use Rattle.plan_cert.specs.PlanReading.{noted, take_plan_line}
 use Rattle.plan_cert.specs.Items.{lines_in, next_number, plan_items}
-use Rattle.plan_cert.specs.NoteLines.{KnownReasons, number_at, reason_at, or_cover, note_told, notes_told, IsKnownAt, AreKnownAll, AreLeads, reason_of, known_reasons, IsHeld, AreHeld, line_of, MayStand, MayFollow, AreOf, IsRun, IsBlock, IsTaken, numbers_on}
+use Rattle.plan_cert.specs.NoteLines.{number_at, reason_at, or_cover, note_told, IsKnownAt, AreLeads, reason_of, known_reasons, IsHeld, AreHeld, line_of, MayStand, MayFollow, AreOf, IsRun, IsBlock, IsTaken, numbers_on}
 use Rattle.plan_cert.proofs.KnownLines.{known_among, gives_again}
 use Rattle.plan_cert.proofs.NoteSets.{no_places, last_place, place_below, number_of_place, stage_of_place, number_up}
 use Rattle.plan_cert.proofs.PlanItems.{plan_taken}
@@ -239,17 +238,35 @@ all_known facts held leads least next (note ∷ notes) few are_held follow =
     (ap (λ (r : Option Reason). is_some r) (note_is facts held leads least note few are_held follow.0), subst (λ (s : ℕ). s < facts.stages) (sym (stage_of_place note.action within)) stage)
     (all_known facts held leads (number + 1) next notes few are_held follow.1)
 
+-- each note takes a line
+lines_long : (notes : List KnownNote) → length notes ≤ length (flat_map line_of notes)
+lines_long [] = omega arith
+lines_long (note ∷ notes) =
+    let more = lines_long notes in
+    let both = length-append (line_of note) (flat_map line_of notes) in
+    let line = length-append note.line.now (10 ∷ []) in
+    omega (arith, more, both, line)
+
+run_shorter : (notes : List KnownNote) (text : List ℕ) (run : NoteRun) → text ≡ flat_map line_of notes ++ run.rest.now → length notes ≡ run.count → run.count + length run.rest.now ≤ length text
+run_shorter notes text run is count =
+    let whole : length text ≡ length (flat_map line_of notes ++ run.rest.now) = ap (λ (t : List ℕ). length t) is in
+    omega (arith, whole, length-append (flat_map line_of notes) run.rest.now, lines_long notes, count)
+
 -- what stands behind a run of notes, for a reader that keeps as much of the job
 pub taken_by : (facts own : JobFacts) (held : List (Option KnownNote)) (leads : SetLeads) (folded : Mask) (least : ℕ) (text : List ℕ) (run : NoteRun) → own.stages ≤ 6 → AreHeld own held → AreLeads own leads
     → ((job : JobData) → KeepsFacts facts job → KeepsFacts own job) → leads.folded ≡ folded → IsRun own held leads.leads least text run → IsTaken facts (known_reasons own.stages held) folded least text run
 taken_by facts own held leads folded least text run few are_held are_leads same at is = record {
-  told = λ job key n kept here.
-      let more = plan_items facts.format job (numbers_on run.count n) (sections.Notes key run.least) (lines_in run.rest.now) in
-      ap (λ (t : List ℕ). plan_items facts.format job n (sections.Notes key least) (lines_in t)) is.is_text
-      ∙ run_told own facts.format held leads job key n least run.least is.taken run.rest.now (same job kept) are_held are_leads (here ∙ sym at) is.follow
-      ∙ ap (λ (count : ℕ). map (told own.stages) is.taken ++ plan_items facts.format job (numbers_on count n) (sections.Notes key run.least) (lines_in run.rest.now)) (is.are).count_is
+  told = λ job key n behind kept here.
+      let rest = run.rest.now ++ behind in
+      let more = plan_items facts.format job (numbers_on run.count n) (sections.Notes key run.least) (lines_in rest) in
+      ap (λ (t : List ℕ). plan_items facts.format job n (sections.Notes key least) (lines_in t))
+      (ap (λ (t : List ℕ). t ++ behind) is.is_text ∙ append_assoc (flat_map line_of is.taken) run.rest.now behind)
+      ∙ run_told own facts.format held leads job key n least run.least is.taken rest (same job kept) are_held are_leads (here ∙ sym at) is.follow
+      ∙ ap (λ (count : ℕ). map (told own.stages) is.taken ++ plan_items facts.format job (numbers_on count n) (sections.Notes key run.least) (lines_in rest)) (is.are).count_is
       ∙ ap (λ (answers : List (Result Item CertFault)). answers ++ more) (notes_are own held leads.leads least run.least is.taken few are_held is.follow)
       ∙ ap (λ (places : List ℕ). map (note_told (known_reasons own.stages held)) places ++ more) (sym (is.are).places);
+  cut = (flat_map line_of is.taken, is.is_text);
+  shorter = run_shorter is.taken text run is.is_text (is.are).count_is;
   count_is = ap (λ (places : List ℕ). length places) (is.are).places ∙ length-map is.taken (λ (n : KnownNote). place_of n.action) ∙ (is.are).count_is;
   are_known = subst (All (IsKnownAt (known_reasons own.stages held))) (sym (is.are).places)
       (all_known own held leads.leads least run.least is.taken few are_held is.follow);

@@ -1,5 +1,5 @@
 -- A well formed certificate runs: its items follow one another, and are given by the lines that are written of them.
-use Rattle.std.proofs.Common.{◌≡◌, ℕ, zero, suc, ◌+◌, ◌-◌, ◌*◌, ◌/◌, ◌%◌, ◌<◌, ◌≤◌, ◌==◌, Bool, true, false, ◌&&◌, ◌||◌, nat_le, nat_lt, List, [], ◌∷◌, ◌++◌, length, map, filter, get_or, All, AllPairs, Some, Result, Ok, Err, cond, refl, sym, ap, subst, ◌∙◌, inl, inr, lt-ltb, eq-eqb, arith}
+use Rattle.std.proofs.Common.{◌≡◌, ℕ, zero, suc, ◌+◌, ◌*◌, ◌/◌, ◌%◌, ◌<◌, ◌≤◌, ◌==◌, Bool, true, false, ◌&&◌, ◌||◌, nat_le, nat_lt, List, [], ◌∷◌, ◌++◌, length, map, filter, get_or, All, AllPairs, Some, Result, Ok, Err, cond, refl, sym, ap, subst, ◌∙◌, inl, inr, lt-ltb, eq-eqb, arith}
 use Rattle.std.specs.Prelude.{◌⊎◌, if◌then◌else◌}
 use Rattle.std.specs.List.{flat_map, enumerate_from}
 use Rattle.std.proofs.lemmas.Bool.{and_from, or_left, or_right}

@@ -1,5 +1,5 @@
 -- Which job line a text without its line feed is: by its keyword, and then by its words.
-use Rattle.std.specs.Prelude.{ℕ, ℤ, List, [], ◌∷◌, length, bytes_eq, codes, Option, Some}
+use Rattle.std.specs.Prelude.{ℕ, ℤ, List, [], ◌∷◌, bytes_eq, codes, Option, Some}
 use Rattle.std.specs.Prelude.{None, if◌then◌else◌}
 use Rattle.std.specs.Option.{option_or}
 use Rattle.brake_base.specs.declared.plane.Rect.{Rect}

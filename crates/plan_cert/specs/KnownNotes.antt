@@ -1,5 +1,5 @@
 -- Lines of notes that were read.
-use Rattle.std.specs.Prelude.{◌≡◌, ◌≢◌, ℕ, List, ◌∷◌, All, Option, Some, None, slice_index_or}
+use Rattle.std.specs.Prelude.{◌≡◌, ◌≢◌, ℕ, List, All, Option, Some, None, slice_index_or}
 use Rattle.job_setup.specs.Setup.{JobData}
 use Rattle.cert_words.specs.PlanWords.{note_in}
 use Rattle.plan_cert.specs.declared.item.Item.{Item}
@@ -10,7 +10,7 @@ use Rattle.plan_cert.specs.declared.job_facts.JobFacts.{JobFacts}
 use Rattle.plan_cert.specs.Facts.{KeepsFacts}
 use Rattle.plan_cert.specs.LineReading.{keyword_in, behind_keyword}
 use Rattle.plan_cert.specs.PlanReading.{plan_line_of, take_plan_line}
-use Rattle.plan_cert.specs.Items.{lines_in}
+use Rattle.plan_cert.specs.Reading.{IsCut}
 
 -- the line is one, it is that of a note, and its words say this
 pub record IsKnown (note : KnownNote) : Type 0 where
@@ -28,6 +28,6 @@ AreKnown notes =
 pub record IsLineTaken (facts : JobFacts) (section : Section) (text : List ℕ)
     (taken : Item × Section) (rest : List ℕ) : Type 0 where
   pub line : List ℕ
-  pub cut : lines_in text ≡ line ∷ lines_in rest
+  pub cut : IsCut text line rest
   pub gives : (job : JobData) → KeepsFacts facts job
       → take_plan_line facts.format job section (keyword_in line) (behind_keyword line) ≡ Some taken

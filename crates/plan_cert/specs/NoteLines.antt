@@ -1,5 +1,5 @@
 -- Lines of notes that are known by the numbers of their actions, and the notes that they tell.
-use Rattle.std.specs.Prelude.{◌≡◌, ℕ, zero, suc, ◌+◌, ◌*◌, ◌/◌, ◌%◌, ◌<◌, ◌≤◌, true, IsTrue, List}
+use Rattle.std.specs.Prelude.{◌≡◌, ℕ, zero, suc, ◌+◌, ◌*◌, ◌/◌, ◌%◌, ◌<◌, ◌≤◌, true, List}
 use Rattle.std.specs.Prelude.{[], ◌∷◌, ◌++◌, length, map, All, Option, Some, None, is_some, Result}
 use Rattle.std.specs.Prelude.{Ok, slice_index_or, ◌⊎◌}
 use Rattle.std.specs.List.{flat_map}
@@ -17,7 +17,7 @@ use Rattle.plan_cert.specs.declared.item.Item.{Item}
 use Rattle.plan_cert.specs.declared.item.Item.TheVariants as given
 use Rattle.plan_cert.specs.declared.item.CertFault.{CertFault}
 use Rattle.plan_cert.specs.declared.section.Section.TheVariants as sections
-use Rattle.plan_cert.specs.declared.stand.Stand.{Stand}
+use Rattle.plan_cert.specs.declared.line_place.LinePlace.{LinePlace}
 use Rattle.plan_cert.specs.declared.job_facts.JobFacts.{JobFacts}
 use Rattle.plan_cert.specs.declared.known_notes.KnownNote.{KnownNote}
 use Rattle.plan_cert.specs.declared.set_leads.SetLeads.{SetLeads}
@@ -25,7 +25,7 @@ use Rattle.plan_cert.specs.declared.note_run.NoteRun.{NoteRun}
 use Rattle.plan_cert.specs.declared.note_run.NoteBlock.{NoteBlock}
 use Rattle.plan_cert.specs.Facts.{KeepsFacts, HasFew}
 use Rattle.plan_cert.specs.Items.{lines_in, next_number, plan_items}
-use Rattle.plan_cert.specs.Reading.{LeavesIn}
+use Rattle.plan_cert.specs.Reading.{IsBehind, LeavesAt}
 use Rattle.plan_cert.specs.KnownNotes.{IsKnown}
 
 -- on a machine of so many stages, the known reasons by the numbers of their actions
@@ -174,15 +174,18 @@ numbers_on (suc count) n = numbers_on count (next_number n)
 pub record IsTaken (facts : JobFacts) (known : KnownReasons) (folded : Mask) (least : ℕ)
     (text : List ℕ) (run : NoteRun) : Type 0 where
   pub told :
-      (job : JobData) (key : Key) (n : ℕ) → KeepsFacts facts job → key.mask ≡ folded
-      → plan_items facts.format job n (sections.Notes key least) (lines_in text)
+      (job : JobData) (key : Key) (n : ℕ) (behind : List ℕ) → KeepsFacts facts job
+      → key.mask ≡ folded
+      → plan_items facts.format job n (sections.Notes key least) (lines_in (text ++ behind))
       ≡ notes_told known run.notes ++ plan_items facts.format job (numbers_on run.count n)
-      (sections.Notes key run.least) (lines_in run.rest.now)
+      (sections.Notes key run.least) (lines_in (run.rest.now ++ behind))
+  pub cut : IsBehind text run.rest.now
+  pub shorter : run.count + length run.rest.now ≤ length text
   pub count_is : length (places_of run.notes) ≡ run.count
   pub are_known : AreKnownAll known run.notes
 
--- these of the answers are given, and the others are left
-abbrev pub GivesAll : List (Result Item CertFault) → List (Result Item CertFault) → Stand → Type 0
-GivesAll answers told stand =
-    (more : List (Result Item CertFault)) × (answers ≡ told ++ more) × (stand.is_begun ≡ true)
-    × HasFew stand.facts × LeavesIn stand.section stand more
+-- these of the answers are given, and the others are left at a place before this text
+abbrev pub GivesAll : List (Result Item CertFault) → List (Result Item CertFault) → LinePlace
+    → List ℕ → Type 0
+GivesAll answers told place text =
+    (more : List (Result Item CertFault)) × (answers ≡ told ++ more) × LeavesAt place text more

@@ -1,18 +1,19 @@
 -- What a reader is, and what it has still to answer.
-use Rattle.std.specs.Prelude.{◌≡◌, ℕ, Bool, true, false, ◌&&◌, nat_lt, List, [], ◌∷◌, Option, Some}
-use Rattle.std.specs.Prelude.{None, Result, Ok, Err}
+use Rattle.std.specs.Prelude.{◌≡◌, ◌≢◌, ℕ, Bool, true, false, ◌&&◌, nat_lt, List, [], ◌∷◌}
+use Rattle.std.specs.Prelude.{◌++◌, All, Option, Some, None, Result, Ok, Err}
 use Rattle.job_setup.specs.Setup.{JobData}
 use Rattle.job_setup.specs.ValidJob.{IsJob}
 use Rattle.plan_cert.specs.declared.format.TextKind.{TextKind}
 use Rattle.plan_cert.specs.declared.item.Item.{Item}
 use Rattle.plan_cert.specs.declared.item.Item.TheVariants as given
 use Rattle.plan_cert.specs.declared.item.CertFault.{CertFault}
+use Rattle.plan_cert.specs.declared.item.CertFault.TheVariants as faults
 use Rattle.plan_cert.specs.declared.section.Section.{Section}
 use Rattle.plan_cert.specs.declared.section.Section.TheVariants as sections
-use Rattle.plan_cert.specs.declared.stand.Stand.{Stand}
+use Rattle.plan_cert.specs.declared.line_place.LinePlace.{LinePlace}
 use Rattle.plan_cert.specs.JobLines.{JobLinesData, job_of}
 use Rattle.plan_cert.specs.PlanReading.{first_section}
-use Rattle.plan_cert.specs.Facts.{KeepsFacts, HasFew}
+use Rattle.plan_cert.specs.Facts.{KeepsFacts}
 use Rattle.plan_cert.specs.JobTest.{is_job}
 use Rattle.plan_cert.specs.Items.{items, lines_in, plan_items, take_line}
 
@@ -22,35 +23,56 @@ pub record Reading : Type 0 where
   pub text : List ℕ
   pub answered : ℕ
 
--- the answers behind the job from a place on, of some job of which these facts are kept
-pub record LeavesPlan (stand : Stand) (answers : List (Result Item CertFault)) : Type 0 where
+-- the text is this line, its line feed and what stands behind it
+pub record IsCut (text line rest : List ℕ) : Type 0 where
+  pub whole : text ≡ line ++ 10 ∷ rest
+  pub alone : All (λ byte. byte ≢ 10) line
+
+-- the text is some bytes and then these
+abbrev pub IsBehind : List ℕ → List ℕ → Type 0
+IsBehind text rest = (front : List ℕ) × (text ≡ front ++ rest)
+
+-- the answers behind the job where this text is left, of some job of which the facts are kept
+pub record LeavesPlan (place : LinePlace) (text : List ℕ) (answers : List (Result Item CertFault))
+    : Type 0 where
   pub job : JobData
-  pub kept : KeepsFacts stand.facts job
-  pub left : answers ≡ plan_items stand.facts.format job stand.number stand.section
-      (lines_in stand.rest.now)
+  pub kept : KeepsFacts place.facts job
+  pub left : answers ≡ plan_items place.facts.format job place.number place.section (lines_in text)
 
 -- these answers are left behind the job
-abbrev pub LeavesIn : Section → Stand → List (Result Item CertFault) → Type 0
-LeavesIn sections.Over stand answers = answers ≡ []
-LeavesIn _ stand answers = LeavesPlan stand answers
+abbrev pub LeavesIn : Section → LinePlace → List ℕ → List (Result Item CertFault) → Type 0
+LeavesIn sections.Over place text answers = answers ≡ []
+LeavesIn _ place text answers = LeavesPlan place text answers
 
-abbrev pub LeavesBy : Bool → TextKind → Stand → List (Result Item CertFault) → Type 0
-LeavesBy false kind stand answers = answers ≡ items kind stand.rest.now
-LeavesBy true kind stand answers = LeavesIn stand.section stand answers
+-- these answers are left at a place where this text is still to be read
+abbrev pub LeavesAt : LinePlace → List ℕ → List (Result Item CertFault) → Type 0
+LeavesAt place text answers = LeavesIn place.section place text answers
 
--- these answers are left from a place on
-abbrev pub Leaves : TextKind → Stand → List (Result Item CertFault) → Type 0
-Leaves kind stand answers = LeavesBy stand.is_begun kind stand answers
+-- these answers are left of a text, of which the job was read or refused, or not yet
+abbrev pub LeavesBy : Bool → TextKind → LinePlace → List ℕ → List (Result Item CertFault) → Type 0
+LeavesBy false kind place text answers = answers ≡ items kind text
+LeavesBy true kind place text answers = LeavesAt place text answers
 
--- the job was read or refused exactly where an answer was given
-abbrev pub IsBegun : ℕ → Bool → Type 0
-IsBegun answered begun = begun ≡ nat_lt 0 answered
+-- these answers are left behind so many
+abbrev pub Leaves : ℕ → TextKind → LinePlace → List ℕ → List (Result Item CertFault) → Type 0
+Leaves answered kind place text answers = LeavesBy (nat_lt 0 answered) kind place text answers
 
--- the first of the answers is given, and the others are left
-abbrev pub GivesNext : List (Result Item CertFault) → Result Item CertFault → Stand → Type 0
-GivesNext answers given stand =
-    (more : List (Result Item CertFault)) × (answers ≡ given ∷ more) × (stand.is_begun ≡ true)
-    × HasFew stand.facts × LeavesIn stand.section stand more
+-- the first of the answers is given, and the others are left at a place before this text
+abbrev pub GivesNext : List (Result Item CertFault) → Result Item CertFault → LinePlace → List ℕ
+    → Type 0
+GivesNext answers given place text =
+    (more : List (Result Item CertFault)) × (answers ≡ given ∷ more) × LeavesAt place text more
+
+-- The bytes may stand behind those of which this is the answer: where these end with the text's end,
+-- or within a line, there are none.
+abbrev pub HoldsBefore : Result Item CertFault → List ℕ → Type 0
+HoldsBefore (Ok given.End) behind = behind ≡ []
+HoldsBefore (Err faults.Unended) behind = behind ≡ []
+HoldsBefore _ behind = Unit {0}
+
+-- the bytes may stand behind a piece, which is the last one or not
+abbrev pub MayBeBehind : Bool → List ℕ → Type 0
+MayBeBehind is_last behind = is_last ≡ true → behind ≡ []
 
 -- the next line is no job line that may stand behind the job lines, or there is no whole one
 abbrev pub Stops : JobLinesData → List (List ℕ) → Type 0

@@ -1,23 +1,27 @@
 //! The first answer of a text: the job of its job lines, or a refusal.
-ghost use Rattle.std.specs.Prelude.{◌≡◌, ◌∷◌, ℕ, List};
+ghost use Rattle.std.specs.Prelude.{◌≡◌, ◌∷◌, ◌++◌, ℕ, List};
 ghost use Rattle.plan_cert.specs.Facts.{HasFew};
 ghost use Rattle.plan_cert.specs.JobLines.{job_lines_data, no_lines};
 ghost use Rattle.plan_cert.specs.Items.{items, lines_in, items_behind, job_items};
 ghost use Rattle.plan_cert.specs.PlanItem.{job_answer};
-ghost use Rattle.plan_cert.specs.Reading.{GivesNext, GivesJob, IsJudged, Stops};
+ghost use Rattle.plan_cert.specs.Reading.{IsBehind, GivesNext, GivesJob, HoldsBefore, IsJudged, Stops};
 
+use crate::first_line::whole_line;
 use crate::format::{Format, TextKind, format_of};
 use crate::item::CertFault;
 use crate::job_facts::JobFacts;
 use crate::job_reading::JobLines;
+use crate::line_place::{LinePlace, next_number};
+use crate::plan_reader::{PlanReader, refuse};
 use crate::plan_reading::first_section;
-use crate::stand::{Stand, next_number, refuse, whole_line};
 use job_setup::{Job, job_from};
 
 /// The text behind the job lines from here on, and the number of its first line.
 fn behind_job_lines<'a>(lines: &mut JobLines, text: &'a [u8], number: u32) -> (&'a [u8], u32)
-    ensures same { job_items number (job_lines_data lines.old) (lines_in text.now)
-        ≡ job_items result.1 (job_lines_data lines.new) (lines_in result.0.now) }
+    ensures same { (behind : List ℕ)
+        → job_items number (job_lines_data lines.old) (lines_in (text.now ++ behind))
+        ≡ job_items result.1 (job_lines_data lines.new) (lines_in (result.0.now ++ behind)) }
+    ensures rest { IsBehind text.now result.0.now }
     ensures stops { Stops (job_lines_data lines.new) (lines_in result.0.now) }
 {
     let mut rest = text;
@@ -58,57 +62,66 @@ fn job_behind(lines: JobLines, line: &[u8], number: u32) -> Result<Job, CertFaul
 }
 
 /// The job of the job lines, behind which the lines of the plan are left, or its refusal.
-fn judged_job<'a>(
-    stand: &mut Stand<'a>,
+fn judged_job(
+    reader: &mut PlanReader,
     lines: JobLines,
     line: &[u8],
-    rest: &'a [u8],
     number: u32,
 ) -> Result<Job, CertFault>
-    requires { HasFew stand.old.facts }
-    ensures { (behind : List (List ℕ))
-        → lines_in rest.now ≡ line.now ∷ behind
-        → GivesNext (items_behind number (job_lines_data lines) line.now behind)
-        (job_answer result) stand.new }
+    requires { HasFew reader.old.place.facts }
+    ensures given { (behind : List ℕ) (others : List (List ℕ))
+        → lines_in (reader.old.rest.now ++ behind) ≡ line.now ∷ others
+        → GivesNext (items_behind number (job_lines_data lines) line.now others)
+        (job_answer result) reader.new.place (reader.new.rest.now ++ behind) }
+    ensures few { HasFew reader.new.place.facts }
+    ensures rest { reader.new.rest.now ≡ reader.old.rest.now }
 {
     let format = lines.format;
     match job_behind(lines, line, number) {
         Ok(job) => {
-            stand.is_begun = true;
-            stand.rest = rest;
-            stand.number = number;
-            stand.section = first_section(format);
-            stand.facts = JobFacts::new(format, &job);
+            reader.place = LinePlace {
+                number,
+                section: first_section(format),
+                facts: JobFacts::new(format, &job),
+            };
             Ok(job)
         }
-        Err(fault) => Err(refuse(stand, fault)),
+        Err(fault) => Err(refuse(reader, fault)),
     }
 }
 
 /// The job, or a refusal, behind the line of the format.
-fn job_in<'a>(stand: &mut Stand<'a>, format: Format, text: &'a [u8]) -> Result<Job, CertFault>
-    requires { HasFew stand.old.facts }
-    ensures { GivesNext (job_items 2 (no_lines format) (lines_in text.now))
-        (job_answer result) stand.new }
+fn job_in<'a>(reader: &mut PlanReader<'a>, format: Format, text: &'a [u8]) -> Result<Job, CertFault>
+    requires { HasFew reader.old.place.facts }
+    ensures given { (behind : List ℕ) → HoldsBefore (job_answer result) behind
+        → GivesNext (job_items 2 (no_lines format) (lines_in (text.now ++ behind)))
+        (job_answer result) reader.new.place (reader.new.rest.now ++ behind) }
+    ensures few { HasFew reader.new.place.facts }
+    ensures rest { IsBehind text.now reader.new.rest.now }
 {
     let mut lines = JobLines::new(format);
     let (rest, number) = behind_job_lines(&mut lines, text, 2);
+    reader.rest = rest;
     match whole_line(rest) {
-        Some((line, _)) => judged_job(stand, lines, line, rest, number),
-        None => Err(refuse(stand, CertFault::Unended)),
+        Some((line, _)) => judged_job(reader, lines, line, number),
+        None => Err(refuse(reader, CertFault::Unended)),
     }
 }
 
 /// The first answer: the job, or a refusal.
-pub(crate) fn first_answer(kind: TextKind, stand: &mut Stand) -> Result<Job, CertFault>
-    requires { HasFew stand.old.facts }
-    ensures { GivesNext (items kind stand.old.rest.now) (job_answer result) stand.new }
+pub(crate) fn first_answer(kind: TextKind, reader: &mut PlanReader) -> Result<Job, CertFault>
+    requires { HasFew reader.old.place.facts }
+    ensures given { (behind : List ℕ) → HoldsBefore (job_answer result) behind
+        → GivesNext (items kind (reader.old.rest.now ++ behind)) (job_answer result)
+        reader.new.place (reader.new.rest.now ++ behind) }
+    ensures few { HasFew reader.new.place.facts }
+    ensures rest { IsBehind reader.old.rest.now reader.new.rest.now }
 {
-    match whole_line(stand.rest) {
+    match whole_line(reader.rest) {
         Some((line, rest)) => match format_of(kind, line) {
-            Some(format) => job_in(stand, format, rest),
-            None => Err(refuse(stand, CertFault::BadLine { line: 1 })),
+            Some(format) => job_in(reader, format, rest),
+            None => Err(refuse(reader, CertFault::BadLine { line: 1 })),
         },
-        None => Err(refuse(stand, CertFault::Unended)),
+        None => Err(refuse(reader, CertFault::Unended)),
     }
 }

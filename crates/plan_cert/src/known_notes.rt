@@ -2,8 +2,8 @@
 //! and a line that is known needn't be read word by word again.
 ghost use Rattle.std.specs.Prelude.{◌≡◌, ◌≢◌, ◌↔◌, ◌∷◌, ◌≤◌, All, IfSome, IsTrue};
 ghost use Rattle.plan_cert.specs.Facts.{HasFew};
-ghost use Rattle.plan_cert.specs.Items.{lines_in};
 ghost use Rattle.plan_cert.specs.PlanItem.{placed};
+ghost use Rattle.plan_cert.specs.Reading.{IsCut};
 ghost use Rattle.plan_cert.specs.declared.section.Section.TheVariants.{Notes};
 ghost use Rattle.plan_cert.specs.KnownNotes.{IsKnown, IsLineTaken};
 
@@ -114,7 +114,7 @@ pub(crate) fn behind_line_feed(text: &[u8]) -> Option<&[u8]>
 /// What stands behind the line and its line feed, where the text begins with them.
 fn behind_line<'a>(text: &'a [u8], line: &[u8]) -> Option<&'a [u8]>
     requires { All (λ byte. byte ≢ 10) line.now }
-    ensures { IfSome result (λ rest. lines_in text.now ≡ line.now ∷ lines_in rest.now) }
+    ensures { IfSome result (λ rest. IsCut text.now line.now rest.now) }
 {
     let behind = text.strip_prefix(line)?;
     let rest = behind_line_feed(behind)?;

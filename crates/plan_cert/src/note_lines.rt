@@ -1,6 +1,6 @@
 //! The lines of notes that are known by their actions, and those of the last row as one text. Rows of
 //! a set have mostly the same notes, and notes that are known needn't be read one by one.
-ghost use Rattle.std.specs.Prelude.{◌≡◌, ℕ, ◌≤◌, ◌<◌, List, length, Option, Result, Ok, None, true, IsTrue, IfSome};
+ghost use Rattle.std.specs.Prelude.{◌≡◌, ℕ, ◌+◌, ◌≤◌, ◌<◌, ◌++◌, List, length, Option, Result, Ok, None, true, IsTrue, IfSome};
 ghost use Rattle.brake_base.specs.declared.mask.Mask.{Mask};
 ghost use Rattle.job_setup.specs.Setup.{JobData};
 ghost use Rattle.plan_cert.specs.declared.item.Item.{Item};
@@ -10,17 +10,18 @@ ghost use Rattle.plan_cert.specs.declared.known_notes.KnownNote.{KnownNote};
 ghost use Rattle.stage_lanes.specs.ActionSets.{places_of};
 ghost use Rattle.plan_cert.specs.Facts.{HasFew, KeepsFacts};
 ghost use Rattle.plan_cert.specs.PlanItem.{item_of, plan_answer};
-ghost use Rattle.plan_cert.specs.Reading.{LeavesIn};
+ghost use Rattle.plan_cert.specs.Reading.{LeavesAt, IsBehind};
 ghost use Rattle.plan_cert.specs.NoteLines.{KnownReasons, reason_by, KnowsNoMore, KnowsAtMost, LearnsFrom, IsHeld, IsRun, IsBlock, IsTaken, notes_told, AreKnownAll, GivesAll, numbers_on};
 
+use crate::first_line::whole_line;
 use crate::format::Format;
 use crate::item::{CertFault, PlanItem};
 use crate::job_facts::JobFacts;
 use crate::known_notes::{KnownNote, is_of, note_of};
 use crate::note_run::{NoteBlock, NoteRun, take_lines};
+use crate::plan_reader::PlanReader;
 use crate::section::Section;
 use crate::set_leads::SetLeads;
-use crate::stand::{Stand, whole_line};
 use brake_base::{Mask, Reason, action_number};
 use stage_lanes::ActionSet;
 use std::marker::Model;
@@ -296,22 +297,29 @@ fn number_behind(number: u32, count: u8) -> u32
 }
 
 /// Takes the known notes that come next behind a row. It tells their actions and how many they are.
-pub(crate) fn take_notes<'a>(stand: &mut Stand<'a>, known: &mut NoteLines<'a>) -> (ActionSet, u8)
-    requires begun { stand.old.is_begun ≡ true }
-    requires few { HasFew stand.old.facts }
-    ensures given { (answers : List (Result Item CertFault))
-        → LeavesIn stand.old.section stand.old answers
-        → GivesAll answers (notes_told known.old result.0) stand.new }
+pub(crate) fn take_notes<'a>(
+    reader: &mut PlanReader<'a>,
+    known: &mut NoteLines<'a>,
+) -> (ActionSet, u8)
+    requires few { HasFew reader.old.place.facts }
+    ensures given { (behind : List ℕ) (answers : List (Result Item CertFault))
+        → LeavesAt reader.old.place (reader.old.rest.now ++ behind) answers
+        → GivesAll answers (notes_told known.old result.0) reader.new.place
+        (reader.new.rest.now ++ behind) }
+    ensures few { HasFew reader.new.place.facts }
+    ensures rest { IsBehind reader.old.rest.now reader.new.rest.now }
+    ensures shorter { length (places_of result.0) + length reader.new.rest.now
+        ≤ length reader.old.rest.now }
     ensures count { length (places_of result.0) ≡ result.1 }
     ensures known { AreKnownAll known.old result.0 }
     ensures same { known.new ≡ known.old }
 {
-    match stand.section {
+    match reader.place.section {
         Section::Notes(key, least) => {
-            let run = known.take(&stand.facts, key.mask, least, stand.rest);
-            stand.rest = run.rest;
-            stand.number = number_behind(stand.number, run.count);
-            stand.section = Section::Notes(key, run.least);
+            let run = known.take(&reader.place.facts, key.mask, least, reader.rest);
+            reader.rest = run.rest;
+            reader.place.number = number_behind(reader.place.number, run.count);
+            reader.place.section = Section::Notes(key, run.least);
             (run.notes, run.count)
         }
         _ => (ActionSet::empty(), 0),

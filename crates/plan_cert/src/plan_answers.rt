@@ -1,111 +1,105 @@
 //! The answers behind the job, each of one line.
-ghost use Rattle.std.specs.Prelude.{◌≡◌, ◌<◌, List, length, true, Result};
+ghost use Rattle.std.specs.Prelude.{◌≡◌, ◌<◌, ◌++◌, ℕ, IfOk, List, length, Result};
 ghost use Rattle.job_setup.specs.Setup.{JobData};
 ghost use Rattle.plan_cert.specs.declared.item.Item.{Item};
 ghost use Rattle.plan_cert.specs.Facts.{KeepsFacts, HasFew};
 ghost use Rattle.plan_cert.specs.Items.{lines_in, end_before, end_or_fault, plan_item};
 ghost use Rattle.plan_cert.specs.PlanItem.{plan_answer};
-ghost use Rattle.plan_cert.specs.Reading.{LeavesIn, GivesNext};
+ghost use Rattle.plan_cert.specs.Reading.{IsBehind, LeavesAt, GivesNext, HoldsBefore};
 
+use crate::first_line::whole_line;
 use crate::item::{CertFault, PlanItem};
-use crate::job_facts::JobFacts;
-use crate::known_notes::{KnownNotes, known_line};
+use crate::known_notes::known_line;
+use crate::line_place::{LinePlace, next_number};
+use crate::plan_reader::{PlanReader, refuse};
 use crate::plan_reading::{is_end_line, may_leave, take_plan_line};
 use crate::section::Section;
-use crate::stand::{Stand, next_number, refuse, whole_line};
 
 /// The answer behind the job: that of a line that is known, or else of one that is read.
-pub(crate) fn answer_behind_job<'a>(
-    stand: &mut Stand<'a>,
-    known: &mut KnownNotes<'a>,
-) -> Result<PlanItem, CertFault>
-    requires begun { stand.old.is_begun ≡ true }
-    requires few { HasFew stand.old.facts }
-    ensures { (answers : List (Result Item CertFault))
-        → LeavesIn stand.old.section stand.old answers → 0 < length answers
-        → GivesNext answers (plan_answer result) stand.new }
+pub(crate) fn answer_behind_job(reader: &mut PlanReader) -> Result<PlanItem, CertFault>
+    requires few { HasFew reader.old.place.facts }
+    ensures given { (behind : List ℕ) (answers : List (Result Item CertFault))
+        → LeavesAt reader.old.place (reader.old.rest.now ++ behind) answers → 0 < length answers
+        → HoldsBefore (plan_answer result) behind
+        → GivesNext answers (plan_answer result) reader.new.place
+        (reader.new.rest.now ++ behind) }
+    ensures few { HasFew reader.new.place.facts }
+    ensures rest { IsBehind reader.old.rest.now reader.new.rest.now }
+    ensures shorter { IfOk result
+        (λ _. length reader.new.rest.now < length reader.old.rest.now) }
 {
-    match known_line(known, &stand.facts, &stand.section, stand.rest) {
+    let place = reader.place;
+    match known_line(&reader.known, &place.facts, &place.section, reader.rest) {
         Some((item, section, rest)) => {
-            stand.rest = rest;
-            stand.number = next_number(stand.number);
-            stand.section = section;
+            reader.rest = rest;
+            reader.place.number = next_number(place.number);
+            reader.place.section = section;
             Ok(item)
         }
-        None => read_answer(stand, known),
+        None => read_answer(reader),
     }
 }
 
 /// The answer behind the job, of which the line is read.
-fn read_answer<'a>(stand: &mut Stand<'a>, known: &mut KnownNotes<'a>) -> Result<PlanItem, CertFault>
-    requires begun { stand.old.is_begun ≡ true }
-    requires few { HasFew stand.old.facts }
-    ensures { (answers : List (Result Item CertFault))
-        → LeavesIn stand.old.section stand.old answers → 0 < length answers
-        → GivesNext answers (plan_answer result) stand.new }
+fn read_answer(reader: &mut PlanReader) -> Result<PlanItem, CertFault>
+    requires few { HasFew reader.old.place.facts }
+    ensures given { (behind : List ℕ) (answers : List (Result Item CertFault))
+        → LeavesAt reader.old.place (reader.old.rest.now ++ behind) answers → 0 < length answers
+        → HoldsBefore (plan_answer result) behind
+        → GivesNext answers (plan_answer result) reader.new.place
+        (reader.new.rest.now ++ behind) }
+    ensures few { HasFew reader.new.place.facts }
+    ensures rest { IsBehind reader.old.rest.now reader.new.rest.now }
+    ensures shorter { IfOk result
+        (λ _. length reader.new.rest.now < length reader.old.rest.now) }
 {
-    match whole_line(stand.rest) {
+    let place = reader.place;
+    match whole_line(reader.rest) {
         Some((line, rest)) => {
-            let (answer, section) = plan_item(
-                &stand.facts,
-                &stand.section,
-                stand.number,
-                line,
-                rest,
-            );
-            known.keep_at(&stand.section, line, stand.facts.bends, stand.facts.stages);
-            stand.rest = rest;
-            stand.number = next_number(stand.number);
-            stand.section = section;
+            let (answer, section) = plan_item(&place, line, rest);
+            reader.known.keep_at(&place.section, line, place.facts.bends, place.facts.stages);
+            reader.rest = rest;
+            reader.place.number = next_number(place.number);
+            reader.place.section = section;
             answer
         }
-        None => Err(refuse(stand, CertFault::Unended)),
+        None => Err(refuse(reader, CertFault::Unended)),
     }
 }
 
 /// What a line behind the job gives, and where the next one stands.
-fn plan_item(
-    facts: &JobFacts,
-    section: &Section,
-    number: u32,
-    line: &[u8],
-    rest: &[u8],
-) -> (Result<PlanItem, CertFault>, Section)
-    requires { HasFew facts.now }
-    ensures { (job : JobData) → KeepsFacts facts.now job
+fn plan_item(place: &LinePlace, line: &[u8], rest: &[u8]) -> (Result<PlanItem, CertFault>, Section)
+    requires { HasFew place.now.facts }
+    ensures { (job : JobData) (behind : List ℕ) → KeepsFacts place.now.facts job
+        → HoldsBefore (plan_answer result.0) behind
         → (plan_answer result.0, result.1)
-        ≡ plan_item facts.now.format job number section.now line.now (lines_in rest.now) }
+        ≡ plan_item place.now.facts.format job place.now.number place.now.section line.now
+        (lines_in (rest.now ++ behind)) }
 {
-    match take_plan_line(facts, section, line) {
+    match take_plan_line(&place.facts, &place.section, line) {
         Some((item, next)) => (Ok(item), next),
-        None => (
-            end_or_fault(facts, section, number, line, rest),
-            Section::Over,
-        ),
+        None => (end_or_fault(place, line, rest), Section::Over),
     }
 }
 
 /// The end, where nothing stands behind its line, or the refusal of a line.
-fn end_or_fault(
-    facts: &JobFacts,
-    section: &Section,
-    number: u32,
-    line: &[u8],
-    rest: &[u8],
-) -> Result<PlanItem, CertFault>
-    ensures { (job : JobData) → KeepsFacts facts.now job
+fn end_or_fault(place: &LinePlace, line: &[u8], rest: &[u8]) -> Result<PlanItem, CertFault>
+    ensures { (job : JobData) (behind : List ℕ) → KeepsFacts place.now.facts job
+        → HoldsBefore (plan_answer result) behind
         → plan_answer result
-        ≡ end_or_fault facts.now.format job number section.now line.now (lines_in rest.now) }
+        ≡ end_or_fault place.now.facts.format job place.now.number place.now.section line.now
+        (lines_in (rest.now ++ behind)) }
 {
-    if !is_end_line(line) || !may_leave(facts.format, facts.bends, section) {
-        return Err(CertFault::BadLine { line: number });
+    if !is_end_line(line) || !may_leave(place.facts.format, place.facts.bends, &place.section) {
+        return Err(CertFault::BadLine { line: place.number });
     }
     end_before(rest)
 }
 
 /// The end, where nothing stands behind its line.
 fn end_before(rest: &[u8]) -> Result<PlanItem, CertFault>
-    ensures { plan_answer result ≡ end_before (lines_in rest.now) }
+    ensures { (behind : List ℕ) → HoldsBefore (plan_answer result) behind
+        → plan_answer result ≡ end_before (lines_in (rest.now ++ behind)) }
 {
     if rest.is_empty() {
         Ok(PlanItem::End)

@@ -9,12 +9,9 @@ ghost use Rattle.plan_cert.specs.NoteLines.{notes_told, AreKnownAll, LearnsFrom}
 use crate::format::TextKind;
 use crate::item::{CertFault, Item, PlanItem};
 use crate::job_answers::first_answer;
-use crate::job_facts::JobFacts;
-use crate::known_notes::KnownNotes;
 use crate::note_lines::{NoteLines, take_notes};
 use crate::plan_answers::answer_behind_job;
-use crate::section::Section;
-use crate::stand::Stand;
+use crate::plan_reader::PlanReader;
 use job_setup::Job;
 use stage_lanes::ActionSet;
 use std::marker::Model;
@@ -26,22 +23,21 @@ pub struct CertReader<'a> {
     kind: TextKind,
     text: &'a [u8],
     answered: u64,
-    stand: Stand<'a>,
-    known: KnownNotes<'a>,
+    plan: PlanReader<'a>,
 }
 
 impl<'a> Model for CertReader<'a> {
     ghost use Rattle.std.specs.Prelude.{drop};
     ghost use Rattle.plan_cert.specs.Items.{items};
     ghost use Rattle.plan_cert.specs.Facts.{HasFew};
-    ghost use Rattle.plan_cert.specs.Reading.{Reading, Leaves, IsBegun};
+    ghost use Rattle.plan_cert.specs.Reading.{Reading, Leaves};
 
     ghost Value = { Reading };
 
     ghost view = { λ r. record { kind = r.kind; text = r.text.now; answered = r.answered } };
 
-    ghost invariant = { λ r. Leaves r.kind r.stand (drop r.answered (items r.kind r.text.now))
-        × HasFew r.stand.facts × IsBegun r.answered r.stand.is_begun };
+    ghost invariant = { λ r. Leaves r.answered r.kind r.plan.place r.plan.rest.now
+        (drop r.answered (items r.kind r.text.now)) × HasFew r.plan.place.facts };
 }
 
 /// The job as an item.
@@ -92,14 +88,7 @@ impl<'a> CertReader<'a> {
             kind,
             text,
             answered: 0,
-            stand: Stand {
-                is_begun: false,
-                rest: text,
-                number: 1,
-                section: Section::Over,
-                facts: JobFacts::none(),
-            },
-            known: KnownNotes::none(),
+            plan: PlanReader::new(text),
         }
     }
 
@@ -125,7 +114,7 @@ impl<'a> CertReader<'a> {
         ensures after { self.new ≡ record self.old { answered = self.old.answered + 1 } }
     {
         self.answered += 1;
-        first_answer(self.kind, &mut self.stand)
+        first_answer(self.kind, &mut self.plan)
     }
 
     /// The next answer behind the job, as `next` gives it, in a small value: what the line gives, or
@@ -138,7 +127,7 @@ impl<'a> CertReader<'a> {
         ensures after { self.new ≡ record self.old { answered = self.old.answered + 1 } }
     {
         self.answered += 1;
-        answer_behind_job(&mut self.stand, &mut self.known)
+        answer_behind_job(&mut self.plan)
     }
 
     /// The next answer behind the job, as `next_behind_job` gives it. Of a note the line may be kept,
@@ -151,9 +140,9 @@ impl<'a> CertReader<'a> {
         ensures after { self.new ≡ record self.old { answered = self.old.answered + 1 } }
         ensures known { LearnsFrom known.old (plan_answer result) known.new }
     {
-        let text = self.stand.rest;
+        let text = self.plan.rest;
         let answer = self.next_behind_job();
-        known.learn(&self.stand.facts, text, &answer);
+        known.learn(&self.plan.place.facts, text, &answer);
         answer
     }
 
@@ -172,7 +161,7 @@ impl<'a> CertReader<'a> {
         ensures reasons { AreKnownAll known.old result }
         ensures known { known.new ≡ known.old }
     {
-        let (notes, count) = take_notes(&mut self.stand, known);
+        let (notes, count) = take_notes(&mut self.plan, known);
         self.answered += u64::from(count);
         notes
     }

@@ -9,6 +9,3 @@ mod sentences;
 mod subject;
 
 pub use sentences::sentence;
-
-#[cfg(test)]
-mod tests;

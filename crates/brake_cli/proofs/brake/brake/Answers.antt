@@ -10,7 +10,7 @@ use Rattle.brake_cli.proofs.brake.brake.Goals as goal
 pub returns-in-Some-clause-ends : goal.returns-in-Some-clause-ends
 returns-in-Some-clause-ends g c =
     let some : command_of (map string_bytes c.args.words.now) ≡ Some c.in-Some.command = sym c.in-Some.ensures.value in
-    rw some c.run.ensures.ends
+    rw some c.run_command.ensures.ends
 
 pub returns-in-Some-clause-outcome : goal.returns-in-Some-clause-outcome
 returns-in-Some-clause-outcome g c = outcome_of _ _ _ _ _ _ _ (returns-in-Some-clause-ends g c)

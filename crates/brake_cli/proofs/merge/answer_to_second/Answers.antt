@@ -1,25 +1,35 @@
-use Rattle.std.proofs.Common.{◌≡◌}
 use Rattle.std.proofs.lemmas.Result.{IfOk-weaker}
 use Rattle.cert_merge.specs.Table.{table_file_data}
-use Rattle.command_runner.specs.declared.status.Status.TheVariants as status
-use Rattle.command_runner.specs.Answers.{answer_data, one_text}
-use Rattle.brake_cli.specs.TableCheck.{table_refused_line, AnswersTable}
-use Rattle.brake_cli.specs.TableStops.{IsTableRefusalAnd}
+use Rattle.command_runner.specs.Answers.{answer_data}
+use Rattle.command_runner.specs.Ends.{StoresFirst}
+use Rattle.command_runner.proofs.Rests.{nothing_first}
+use Rattle.brake_cli.specs.TableCheck.{AnswersTable}
 use Rattle.brake_cli.specs.MergeAnswer.{AnswersBoth}
+use Rattle.brake_cli.proofs.PlanAnswers.{begun_weaker}
+use Rattle.brake_cli.proofs.Begun.{first_weaker}
 use Rattle.brake_cli.proofs.TableAnswers.{table_accepted, table_refused}
 use Rattle.brake_cli.proofs.merge.answer_to_second.Goals as goal
 
 pub returns-in-Ok-clause-answer : goal.returns-in-Ok-clause-answer
-returns-in-Ok-clause-answer c =
+returns-in-Ok-clause-answer g c =
     let P = AnswersBoth c.args.name.now (table_file_data c.args.a.now) in
     let text = c.args.text.now in
     let b = table_file_data c.in-Ok.b in
-    IfOk-weaker c.answer_to_both.result (λ answer. P b (answer_data answer)) (λ answer. AnswersTable 2 P text (answer_data answer))
-    (λ answer is. table_accepted 2 P text b (answer_data answer) c.in-Ok.ensures.value is) c.answer_to_both.ensures.answer
+    let before = g.H.Shelf.state c.args.shelf.now in
+    let after = g.H.Shelf.state c.answer_to_both.new.shelf in
+    IfOk-weaker c.answer_to_both.result (λ answer. StoresFirst (P b) (answer_data answer) before after) (λ answer. StoresFirst (AnswersTable 2 P text) (answer_data answer) before after)
+    (λ answer first. first_weaker (P b) (AnswersTable 2 P text) (answer_data answer) before after (λ whole is. table_accepted 2 P text b whole c.in-Ok.ensures.value is) first) c.answer_to_both.ensures.answer
 
-pub returns-in-Err-clause-answer : goal.returns-in-Err-clause-answer
-returns-in-Err-clause-answer c =
+pub returns-in-Ok-clause-begins : goal.returns-in-Ok-clause-begins
+returns-in-Ok-clause-begins g c =
     let P = AnswersBoth c.args.name.now (table_file_data c.args.a.now) in
     let text = c.args.text.now in
-    IfOk-weaker c.table_stopped.result (λ answer. IsTableRefusalAnd c.in-Err.stop (λ refusal. answer_data answer ≡ one_text status.CertRefused (table_refused_line 2 refusal))) (λ answer. AnswersTable 2 P text (answer_data answer))
-    (λ answer told. table_refused 2 P text c.in-Err.stop (answer_data answer) c.in-Err.ensures.value told) c.table_stopped.ensures.answer
+    let b = table_file_data c.in-Ok.b in
+    begun_weaker (P b) (AnswersTable 2 P text) c.answer_to_both.result (g.H.Shelf.state c.args.shelf.now) (g.H.Shelf.state c.answer_to_both.new.shelf) (λ whole is. table_accepted 2 P text b whole c.in-Ok.ensures.value is) c.answer_to_both.ensures.begins
+
+pub returns-in_ok-table_stopped-in-Err-clause-answer : goal.returns-in_ok-table_stopped-in-Err-clause-answer
+returns-in_ok-table_stopped-in-Err-clause-answer g c =
+    let P = AnswersBoth c.args.name.now (table_file_data c.args.a.now) in
+    let text = c.args.text.now in
+    let answer = answer_data c.in_ok-table_stopped-in-Err.field-0 in
+    nothing_first (AnswersTable 2 P text) answer (g.H.Shelf.state c.args.shelf.now) (table_refused 2 P text c.in-Err.stop answer c.in-Err.ensures.value c.in_ok-table_stopped-in-Err.ensures.answer)

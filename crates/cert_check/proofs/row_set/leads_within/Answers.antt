@@ -1,4 +1,4 @@
-use Rattle.std.proofs.Common.{false, sym, ◌∙◌}
+use Rattle.std.proofs.Common.{sym, ◌∙◌}
 use Rattle.cert_check.proofs.ActionLemmas.{leads_at}
 use Rattle.cert_check.proofs.row_set.leads_within.Goals as goal
 

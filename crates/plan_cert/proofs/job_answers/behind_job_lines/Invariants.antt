@@ -1,11 +1,15 @@
-use Rattle.std.proofs.Common.{◌≡◌, length}
+use Rattle.std.proofs.Common.{◌≡◌, ℕ, List, ◌++◌, length}
 use Rattle.plan_cert.specs.JobLines.{job_lines_data}
 use Rattle.plan_cert.specs.Items.{lines_in, job_items}
+use Rattle.plan_cert.specs.Reading.{IsBehind}
 use Rattle.plan_cert.proofs.job_answers.behind_job_lines.Given as goal
 
 -- what was taken is gone from the rest
 abbrev pub invariant-loop-line : goal.invariant-loop-line
-invariant-loop-line l = job_items l.number (job_lines_data l.initial.lines) (lines_in l.text) ≡ job_items l.at (job_lines_data l.lines) (lines_in l.rest)
+invariant-loop-line l = record {
+  same : (behind : List ℕ) → job_items l.number (job_lines_data l.initial.lines) (lines_in (l.text ++ behind)) ≡ job_items l.at (job_lines_data l.lines) (lines_in (l.rest ++ behind));
+  rest : IsBehind l.text l.rest;
+}
 
 abbrev pub decreases-loop-line : goal.decreases-loop-line
 decreases-loop-line l = length l.rest

@@ -1,8 +1,6 @@
 use Rattle.std.proofs.Common.{◌≡◌, List, ℕ, ◌++◌, Some, ap, ◌∙◌}
 use Rattle.std.proofs.lemmas.Bool.Decides.{Decides-eqb}
 use Rattle.std.proofs.lemmas.Slice.Eq.{strip_prefix_is}
-use Rattle.plan_cert.specs.Items.{lines_in}
-use Rattle.plan_cert.proofs.WholeLines.{cut_line}
 use Rattle.plan_cert.proofs.known_notes.behind_line.Goals as goal
 
 pub returns : goal.returns
@@ -10,4 +8,4 @@ returns c =
     let text = c.args.text.now in
     let line = c.args.line.now in
     let whole : text ≡ line ++ c.in_ok-behind.behind.now = strip_prefix_is Decides-eqb text line (Some c.in_ok-behind.behind) c.in_ok-behind.ensures.cases in
-    ap (λ (t : List ℕ). lines_in t) (whole ∙ ap (λ (behind : List ℕ). line ++ behind) c.in_ok-rest.ensures) ∙ cut_line line c.in_ok-rest.rest.now c.requires
+    record { whole = whole ∙ ap (λ (behind : List ℕ). line ++ behind) c.in_ok-rest.ensures; alone = c.requires }

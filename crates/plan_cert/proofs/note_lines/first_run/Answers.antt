@@ -1,5 +1,4 @@
-use Rattle.std.proofs.Common.{◌≡◌, ℕ, ◌++◌, List, Some, refl, sym, subst, arith, rules}
-use Rattle.brake_base.specs.declared.mask.Mask.{Mask}
+use Rattle.std.proofs.Common.{◌≡◌, ℕ, ◌++◌, Some, refl, sym, subst, arith, rules}
 use Rattle.std.proofs.lemmas.Bool.Decides.{Decides-eqb}
 use Rattle.std.proofs.lemmas.Slice.Eq.{strip_prefix_is}
 use Rattle.plan_cert.specs.NoteLines.{IsRun}

@@ -1,6 +1,4 @@
-use Rattle.std.proofs.Common.{◌≡◌, ℕ, ◌≤◌, get_or, Some, None, sym, ap, subst, ◌∙◌, arith}
-use Rattle.brake_base.specs.Actions.{IsActionAmong, number_of_action}
-use Rattle.plan_cert.specs.NoteLines.{IsHeld}
+use Rattle.std.proofs.Common.{ℕ, get_or, None, sym, ap, ◌∙◌, arith}
 use Rattle.plan_cert.proofs.NoteRuns.{held_among}
 use Rattle.plan_cert.proofs.note_run.next_note.Goals as goal
 

@@ -8,4 +8,4 @@ set_reasons-requires-clause-reasons c = c.requires.writable.reasons c.args.mask 
 pub returns : goal.returns
 returns c =
     writer_begun c.args.settled.now c.args.mask c.set.result.now c.args.stages (record { writer = c.set_reasons.new.writer; notes = c.in_ok-notes.notes })
-    c.in_ok-notes.ensures.stages (c.in_ok-notes.ensures.mask ∙ c.in_ok-writer.ensures.mask) c.set.ensures c.in_ok-notes.ensures.notes
+    c.set_reasons.ensures.stages (c.in_ok-notes.ensures.mask ∙ c.in_ok-writer.ensures.mask) c.set.ensures c.in_ok-notes.ensures.notes

@@ -1,5 +1,6 @@
-use Rattle.std.proofs.Common.{refl}
+use Rattle.std.proofs.Common.{List, ℕ, ap, sym}
+use Rattle.plan_cert.specs.Items.{items}
 use Rattle.plan_cert.proofs.reader.CertReader.of.Goals as goal
 
 pub invariant_of-result : goal.invariant_of-result
-invariant_of-result c = (refl, c.none.ensures, refl)
+invariant_of-result c = (ap (λ (t : List ℕ). items c.args.kind t) (sym c.new.ensures.rest), c.new.ensures.few)

@@ -1,0 +1,8 @@
+use Rattle.cert_check.proofs.rows.CheckedSet.turn_to.Goals as goal
+
+pub returns-then-ne-clause-set : goal.returns-then-ne-clause-set
+returns-then-ne-clause-set c = record {
+  actions = c.requires.set.actions;
+  proved = c.of-self.ensures.costs;
+  closing = c.none-self.ensures.found c.args.job.now c.of-self.result;
+}
