@@ -1,3 +1,4 @@
 pub mod LineWords
+pub mod FrontNumbers
 pub mod JobWords
 pub mod PlanWords

@@ -132,9 +132,13 @@ quarter_of word = if bytes_eq word (codes "1") then Some Q1
     else if bytes_eq word (codes "4") then Some Q4
     else None
 
--- a cost of at most 1,000,000,000 tenths of a second
+-- a cost of at most 1,000,000,000
 abbrev pub cost_of : List ℕ → Option Worth
 cost_of word = number_of word >>= λ cost. if nat_le cost 1000000000 then Some (Cost cost) else None
+
+-- that there is no way on
+abbrev pub blocked_of : List ℕ → Option Worth
+blocked_of word = if bytes_eq word (codes "none") then Some Blocked else None
 
 -- a cost, or that there is no way on
 abbrev pub worth_of : List ℕ → Option Worth

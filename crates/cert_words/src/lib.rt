@@ -2,6 +2,7 @@
 //! front: each is a value by its one spelling and its range.
 #![tactic(auto)]
 
+mod front_number;
 mod job_words;
 mod line_words;
 mod plan_words;

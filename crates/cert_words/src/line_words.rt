@@ -2,11 +2,13 @@
 ghost use Rattle.std.specs.Prelude.{◌≡◌, ◌↔◌, ◌==◌, ◌+◌, ◌≤◌, ◌<◌, not, ℕ, [], length, take, drop, IsTrue, IfSome};
 ghost use Rattle.std.specs.List.{prefix_len};
 ghost use Rattle.toml_fields.specs.Fields.{checked_name};
-ghost use Rattle.cert_words.specs.LineWords.{Reads, is_space, word_length, word_at, count_at, signed_at, pair_at, kind_at, side_of, dir_of, back_of, half_of, quarter_of, cost_of, worth_of};
+ghost use Rattle.cert_words.specs.LineWords.{Reads, is_space, word_length, word_at, count_at, signed_at, pair_at, kind_at, side_of, dir_of, back_of, half_of, quarter_of, blocked_of, worth_of};
+ghost use Rattle.brake_text.specs.Numbers.{number_of};
 
+use crate::front_number::number_in_front;
 use arrayvec::ArrayString;
 use brake_base::{Back, Half, Name, Quarter, Worth};
-use brake_text::{number, signed};
+use brake_text::signed;
 use part_file::{Dir, Side};
 use toml_fields::is_name;
 
@@ -44,14 +46,24 @@ pub fn is_end(text: &[u8]) -> bool
     text.is_empty()
 }
 
+/// The number that the next word is, and the text behind it.
+#[tactic(auto, unfolding(crate::specs::LineWords::kind_at, crate::specs::LineWords::word_at))]
+fn number_word(text: &[u8]) -> Option<(u64, &[u8])>
+    ensures { Reads (λ x. (x.0, x.1.now)) result (kind_at number_of text.now) }
+{
+    match text {
+        [b' ', rest @ ..] => number_in_front(rest),
+        _ => None,
+    }
+}
+
 /// A number from `low` on and below `end`, and the text behind it.
-#[tactic(auto, unfolding(crate::specs::LineWords::count_at))]
+#[tactic(auto, using(crate::proofs::NumberWords::counted))]
 pub fn count(text: &[u8], low: u64, end: u64) -> Option<(u64, &[u8])>
     ensures value { Reads (λ x. (x.0, x.1.now)) result (count_at low end text.now) }
     ensures below { IfSome result (λ x. x.0 < end) }
 {
-    let (word, rest) = word(text)?;
-    let n = number(word)?;
+    let (n, rest) = number_word(text)?;
     if low <= n && n < end {
         Some((n, rest))
     } else {
@@ -218,32 +230,34 @@ pub fn quarter(text: &[u8]) -> Option<(Quarter, &[u8])>
     Some((quarter, rest))
 }
 
-/// The cost that the word is, which is at most 1,000,000,000 tenths of a second.
-fn cost_of(word: &[u8]) -> Option<Worth>
-    ensures { result ≡ cost_of word.now }
+/// The worth where there is no way on.
+fn blocked_of(word: &[u8]) -> Option<Worth>
+    ensures { result ≡ blocked_of word.now }
 {
-    match number(word) {
-        Some(cost) if cost <= 1_000_000_000 => Some(Worth::Cost(cost)),
+    match word {
+        b"none" => Some(Worth::Blocked),
         _ => None,
     }
 }
 
-/// The cost that the word is, or that there is no way on.
-fn worth_of(word: &[u8]) -> Option<Worth>
-    ensures { result ≡ worth_of word.now }
+/// That there is no way on, and the text behind it.
+#[tactic(auto, unfolding(crate::specs::LineWords::kind_at))]
+fn blocked(text: &[u8]) -> Option<(Worth, &[u8])>
+    ensures { Reads (λ x. (x.0, x.1.now)) result (kind_at blocked_of text.now) }
 {
-    match word {
-        b"none" => Some(Worth::Blocked),
-        _ => cost_of(word),
-    }
+    let (word, rest) = word(text)?;
+    let worth = blocked_of(word)?;
+    Some((worth, rest))
 }
 
-/// A cost or that there is no way on, and the text behind it.
-#[tactic(auto, unfolding(crate::specs::LineWords::kind_at))]
+/// A cost of at most 1,000,000,000 tenths of a second or that there is no way on, and the text behind
+/// it.
 pub fn worth(text: &[u8]) -> Option<(Worth, &[u8])>
     ensures { Reads (λ x. (x.0, x.1.now)) result (kind_at worth_of text.now) }
 {
-    let (word, rest) = word(text)?;
-    let worth = worth_of(word)?;
-    Some((worth, rest))
+    match number_word(text) {
+        Some((cost, rest)) if cost <= 1_000_000_000 => Some((Worth::Cost(cost), rest)),
+        Some(_) => None,
+        None => blocked(text),
+    }
 }
