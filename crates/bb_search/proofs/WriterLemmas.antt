@@ -20,7 +20,7 @@ use Rattle.row_pool.specs.Rows.{Pool, PoolRow, keys, reason_at, common_at}
 use Rattle.row_text.specs.Notes.{SetNotes, IsAmong, number_at, note_at, notes_of}
 use Rattle.row_text.specs.Notes.{reason_at as reason_of}
 use Rattle.row_text.proofs.ActionPlaces.{number_of_place}
-use Rattle.row_text.proofs.SetLists.{one_more, skip, keep}
+use Rattle.plan_cert.proofs.NoteSets.{one_more, skip, keep}
 use Rattle.bb_search.specs.CertRows.{IsHeadOf}
 use Rattle.bb_search.specs.WrittenRows.{AreWritable, IsWriterOf, is_noted, noted_places, known, row_note, row_notes, row_text}
 use Rattle.bb_search.proofs.CertLemmas.{mapped}

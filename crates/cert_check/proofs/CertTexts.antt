@@ -7,7 +7,9 @@ use Rattle.plan_cert.specs.declared.item.CertFault.{CertFault}
 use Rattle.plan_cert.specs.declared.format.TextKind.TheVariants.{Certificate}
 use Rattle.plan_cert.specs.Cert.{CertData}
 use Rattle.plan_cert.specs.Items.{items}
-use Rattle.plan_cert.specs.CertReading.{CertFileData, no_cert, version_in, cert_of, with_job, cert_file_of}
+use Rattle.plan_cert.specs.CertReading.{CertFileData, no_cert, version_in, cert_of, with_job, file_of, cert_file_of}
+use Rattle.plan_cert.specs.declared.format.TextKind.{TextKind}
+use Rattle.plan_cert.proofs.Collecting.{file_is}
 use Rattle.plan_cert.proofs.Exactly.{read_file, text_of_given}
 use Rattle.cert_check.specs.declared.read_cert.ReadCert.{ReadCert}
 use Rattle.cert_check.specs.Texts.{IsTextOfCert, IsRefusedFor}
@@ -22,12 +24,6 @@ file_by text job (Err fault) = Err fault
 abbrev refusal : CertFault → Result CertFileData CertFault
 refusal fault = Err fault
 
--- a certificate's text begins with its job
-file_of : (text : List ℕ) (job : JobData) (more : List (Result Item CertFault)) (cert : CertData) → items Certificate text ≡ Ok (given.Job job) ∷ more → cert_of no_cert more ≡ Ok cert
-    → cert_file_of text ≡ Ok (record { job = job; cert = cert; version = version_in text })
-unfolding cert_file_of with_job
-file_of text job more cert begins completes = ap (with_job text) begins ∙ ap (file_by text job) completes
-
 -- ---- a text that was refused
 file_refused : (text : List ℕ) (answers : List (Result Item CertFault)) (fault : CertFault) → AreRefused answers fault → with_job text answers ≡ Err fault
 unfolding with_job
@@ -40,9 +36,12 @@ file_refused text (Ok (given.Row head) ∷ more) fault is = absurd is
 file_refused text (Ok (given.Note action reason) ∷ more) fault is = absurd is
 file_refused text (Ok given.End ∷ more) fault is = absurd is
 
+pub text_refused : (kind : TextKind) (text : List ℕ) (fault : CertFault) → AreRefused (items kind text) fault → file_of kind text ≡ Err fault
+unfolding file_of
+text_refused kind text fault is = file_refused text (items kind text) fault is
+
 pub no_cert_text : (text : List ℕ) (fault : CertFault) → AreRefused (items Certificate text) fault → IsRefusedFor text fault
-unfolding cert_file_of
-no_cert_text text fault is = refused_for text fault (file_refused text (items Certificate text) fault is)
+no_cert_text text fault is = refused_for text fault (text_refused Certificate text fault is)
 
 -- ---- a text that was read
 module _ (text : List ℕ) (read : ReadCert) (is : IsRead Certificate text read) where
@@ -50,7 +49,7 @@ module _ (text : List ℕ) (read : ReadCert) (is : IsRead Certificate text read)
   file = record { job = read.job; cert = is.cert; version = version_in text }
 
   gives : cert_file_of text ≡ Ok file
-  gives = file_of text read.job is.behind_job is.cert is.starts is.completes
+  gives = file_is Certificate text read.job is.behind_job is.cert is.starts is.completes
 
   pub cert_written : IsTextOfCert text read.job is.cert
   cert_written = record { version = version_in text; exact = text_of_given text file gives }

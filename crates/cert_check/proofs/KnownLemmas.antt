@@ -27,7 +27,8 @@ use Rattle.plan_cert.specs.Cert.{CertData}
 use Rattle.plan_cert.specs.Items.{items}
 use Rattle.plan_cert.specs.declared.item.PlanItem.{PlanItem}
 use Rattle.plan_cert.specs.PlanItem.{item_of, plan_answer}
-use Rattle.plan_cert.specs.CertReading.{cert_of, with_item, answers_left}
+use Rattle.plan_cert.specs.CertReading.{cert_of, with_item, with_known, note_by, answers_left}
+use Rattle.plan_cert.proofs.KnownRead.{known_read, known_behind as answer_behind, some_places}
 use Rattle.plan_cert.specs.Lines.{action_at}
 use Rattle.plan_cert.specs.NoteLines.{KnownReasons, IsKnownAt, AreKnownAll, number_at, reason_at, reason_by, or_cover, note_told, notes_told, LearnsFrom}
 use Rattle.plan_cert.proofs.ActionNumbers.{number_is, number_below, bend_of_number, action_of_number}
@@ -45,56 +46,15 @@ use Rattle.cert_check.proofs.ItemLemmas.{of_item, some_left}
 use Rattle.cert_check.proofs.NoteLemmas.{wide, place_within}
 
 -- ---- the notes that are told
--- the known note of the action of a place, at a row
-abbrev pub note_by : ℕ → KnownReasons → ℕ → Note
-note_by row known place = note_at row (number_at known.stages place) (or_cover (reason_at known place))
-
 abbrev pub notes_by : ℕ → KnownReasons → ActionSet → List Note
 notes_by row known set = map (note_by row known) (places_of set)
-
--- what was read, and these notes
-abbrev pub with_known : CertData → KnownReasons → List ℕ → CertData
-with_known c known places = record c { notes = c.notes ++ map (note_by (min (length c.rows - 1) (2 ^ 32 - 1)) known) places }
-
--- what is made of their answers
-pub known_read : (known : KnownReasons) (places : List ℕ) (before : CertData) (left : List (Result Item CertFault)) → cert_of before (map (note_told known) places ++ left) ≡ cert_of (with_known before known places) left
-known_read known [] before left = ap (λ (ns : List Note). cert_of (record before { notes = ns }) left) (sym (append-nil before.notes))
-known_read known (place ∷ places) before left =
-    let row = min (length before.rows - 1) (2 ^ 32 - 1) in
-    let item : Item = given.Note (number_at known.stages place) (or_cover (reason_at known place)) in
-    of_item before (map (note_told known) places ++ left) item refl
-    ∙ known_read known places (with_item before item) left
-    ∙ ap (λ (ns : List Note). cert_of (record before { notes = ns }) left) (append_assoc before.notes (note_by row known place ∷ []) (map (note_by row known) places))
 
 -- behind known notes an answer is left
 pub known_behind : (r next : Reading) (known : KnownReasons) (places : List ℕ) → 0 < length places → drop r.answered (items r.kind r.text) ≡ map (note_told known) places ++ drop next.answered (items r.kind r.text)
     → next ≡ record r { answered = r.answered + length places } → 0 < length (answers_left next)
 known_behind r next known places some told after =
-    let all = items r.kind r.text in
-    let k = length places - 1 in
-    let last = note_told known (get_or places k 0) in
-    let whole : length (drop r.answered all) ≡ length (map (note_told known) places ++ drop next.answered all) = ap (λ (xs : List (Result Item CertFault)). length xs) told in
-    let count = length-map places (note_told known) in
-    let within : r.answered + k < length all = omega (arith, whole, count, some, length-append (map (note_told known) places) (drop next.answered all), length-drop r.answered all) in
-    let short : k < length places = omega (arith, some) in
-    let here : get_or all (r.answered + k) last ≡ last =
-    sym (get_or-drop r.answered all k last) ∙ ap (λ (xs : List (Result Item CertFault)). get_or xs k last) told
-    ∙ get_or_append_left (map (note_told known) places) (drop next.answered all) last k (omega (arith, short, count)) ∙ get_or-map (note_told known) places k 0 last short in
-    let at : slice_get all (r.answered + k) ≡ Some last = slice_get-get_or all (r.answered + k) last within ∙ ap Some here in
-    let more = goes_on r.kind r.text (r.answered + k) (given.Note (number_at known.stages (get_or places k 0)) (or_cover (reason_at known (get_or places k 0)))) at refl in
-    subst (λ (q : Reading). 0 < length (answers_left q)) (sym after) (some_left (record r { answered = r.answered + length places }) (omega (arith, more, some)))
-
--- ---- a set that isn't empty
-none_any : (q : ℕ) (places : List ℕ) → places ≡ [] → list_any (λ k. k == q) places ≡ false
-none_any q places none = ap (list_any (λ k. k == q)) none
-
-some_or_none : (places : List ℕ) → (places ≡ [] → ⊥) → 0 < length places
-some_or_none [] some = absurd (some refl)
-some_or_none (place ∷ places) some = omega arith
-
-pub some_places : (set : ActionSet) → (IsNone set → ⊥) → 0 < length (places_of set)
-some_places set some =
-    some_or_none (places_of set) (λ none. some (λ place within. sym (any_place (λ k. k == place) set place within (λ k low is. refl)) ∙ none_any place (places_of set) none))
+    let here = told ∙ ap (λ (q : Reading). map (note_told known) places ++ drop q.answered (items r.kind r.text)) after in
+    subst (λ (q : Reading). 0 < length (answers_left q)) (sym after) (some_left (record r { answered = r.answered + length places }) (answer_behind r known places some here))
 
 -- ---- places and numbers
 eq_self : (m : ℕ) → (m == m) ≡ true

@@ -1,4 +1,4 @@
--- What the first answer of a certificate's reader tells.
+-- What the first answer of a reader tells.
 use Rattle.std.proofs.Common.{◌≡◌, ◌+◌, Some, Result, Ok, Err, refl}
 use Rattle.std.specs.Prelude.{slice_get}
 use Rattle.job_setup.specs.Setup.{JobData}
@@ -12,7 +12,7 @@ use Rattle.plan_cert.specs.CertReading.{BeginsWith}
 use Rattle.plan_cert.proofs.Collecting.{begins_refused, begins_job}
 
 -- a job, or a refusal
-pub begins : (r behind : Reading) (answer : Result JobData CertFault) → r.kind ≡ Certificate → r.answered ≡ 0 → slice_get (items r.kind r.text) r.answered ≡ Some (job_answer answer)
+pub begins : (r behind : Reading) (answer : Result JobData CertFault) → r.answered ≡ 0 → slice_get (items r.kind r.text) r.answered ≡ Some (job_answer answer)
     → behind ≡ record r { answered = r.answered + 1 } → BeginsWith r answer behind
-begins r behind (Ok job) kind start e after = begins_job r behind (given.Job job) job e refl after
-begins r behind (Err fault) kind start e after = begins_refused r fault kind start e
+begins r behind (Ok job) start e after = begins_job r behind job e after
+begins r behind (Err fault) start e after = begins_refused r fault start e

@@ -4,7 +4,6 @@ use Rattle.std.specs.Prelude.{◌⊎◌, if◌then◌else◌, slice_get}
 use Rattle.std.proofs.lemmas.Bool.{false≢true}
 use Rattle.job_setup.specs.Setup.{JobData}
 use Rattle.plan_cert.specs.declared.format.TextKind.{TextKind}
-use Rattle.plan_cert.specs.declared.format.TextKind.TheVariants.{Certificate}
 use Rattle.plan_cert.specs.declared.item.Item.{Item}
 use Rattle.plan_cert.specs.declared.item.Item.TheVariants as given
 use Rattle.plan_cert.specs.declared.item.CertFault.{CertFault}
@@ -12,7 +11,7 @@ use Rattle.plan_cert.specs.declared.item.CertFault.TheVariants as faults
 use Rattle.plan_cert.specs.Cert.{CertData}
 use Rattle.plan_cert.specs.Reading.{Reading}
 use Rattle.plan_cert.specs.Items.{items, lines_in}
-use Rattle.plan_cert.specs.CertReading.{answers_left, Collects, BeginsWith, cert_of, cert_file_of, with_job, with_item, is_last, no_cert, version_in}
+use Rattle.plan_cert.specs.CertReading.{answers_left, Collects, BeginsWith, cert_of, file_of, with_job, with_item, is_last, no_cert, version_in}
 use Rattle.plan_cert.proofs.WholeLines.{some_line}
 use Rattle.plan_cert.proofs.Endings.{Ends, ends_lines}
 
@@ -85,33 +84,31 @@ added cert answers i item e on =
     ∙ ap (λ (b : Bool). if b then Ok cert else cert_of (with_item cert item) (drop (i + 1) answers)) on
 
 -- the first answer
-pub first_refused : (text : List ℕ) (fault : CertFault) → slice_get (items Certificate text) 0 ≡ Some (Err fault) → cert_file_of text ≡ Err fault
-unfolding cert_file_of with_job
-first_refused text fault e = ap (λ (a : List (Result Item CertFault)). with_job text a) (left_is (items Certificate text) 0 (Err fault) e)
+first_refused : (kind : TextKind) (text : List ℕ) (fault : CertFault) → slice_get (items kind text) 0 ≡ Some (Err fault) → file_of kind text ≡ Err fault
+unfolding file_of with_job
+first_refused kind text fault e = ap (λ (a : List (Result Item CertFault)). with_job text a) (left_is (items kind text) 0 (Err fault) e)
 
 -- a job, and the certificate behind it
-pub file_of : (text : List ℕ) (job : JobData) (more : List (Result Item CertFault)) (cert : CertData) → items Certificate text ≡ Ok (given.Job job) ∷ more → cert_of no_cert more ≡ Ok cert
-    → cert_file_of text ≡ Ok (record { job = job; cert = cert; version = version_in text })
-unfolding cert_file_of with_job
-file_of text job more cert first behind =
+pub file_is : (kind : TextKind) (text : List ℕ) (job : JobData) (more : List (Result Item CertFault)) (cert : CertData) → items kind text ≡ Ok (given.Job job) ∷ more → cert_of no_cert more ≡ Ok cert
+    → file_of kind text ≡ Ok (record { job = job; cert = cert; version = version_in text })
+unfolding file_of with_job
+file_is kind text job more cert first behind =
     ap (λ (a : List (Result Item CertFault)). with_job text a) first
     ∙ ap (λ (r : Result CertData CertFault). elim r [ Ok c ↦ Ok (record { job = job; cert = c; version = version_in text }) | Err fault ↦ Err fault ]) behind
 
-pub file_refused : (text : List ℕ) (job : JobData) (more : List (Result Item CertFault)) (fault : CertFault) → items Certificate text ≡ Ok (given.Job job) ∷ more → cert_of no_cert more ≡ Err fault → cert_file_of text ≡ Err fault
-unfolding cert_file_of with_job
-file_refused text job more fault first behind =
+file_refused : (kind : TextKind) (text : List ℕ) (job : JobData) (more : List (Result Item CertFault)) (fault : CertFault) → items kind text ≡ Ok (given.Job job) ∷ more → cert_of no_cert more ≡ Err fault → file_of kind text ≡ Err fault
+unfolding file_of with_job
+file_refused kind text job more fault first behind =
     ap (λ (a : List (Result Item CertFault)). with_job text a) first
     ∙ ap (λ (r : Result CertData CertFault). elim r [ Ok c ↦ Ok (record { job = job; cert = c; version = version_in text }) | Err f ↦ Err f ]) behind
 
 -- what a reader's first answer tells
-pub begins_refused : (r : Reading) (fault : CertFault) → r.kind ≡ Certificate → r.answered ≡ 0 → slice_get (items r.kind r.text) r.answered ≡ Some (Err fault) → cert_file_of r.text ≡ Err fault
-begins_refused r fault kind start e =
-    first_refused r.text fault (subst (λ k. slice_get (items k r.text) 0 ≡ Some (Err fault)) kind (subst (λ n. slice_get (items r.kind r.text) n ≡ Some (Err fault)) start e))
+pub begins_refused : (r : Reading) (fault : CertFault) → r.answered ≡ 0 → slice_get (items r.kind r.text) r.answered ≡ Some (Err fault) → file_of r.kind r.text ≡ Err fault
+begins_refused r fault start e = first_refused r.kind r.text fault (subst (λ n. slice_get (items r.kind r.text) n ≡ Some (Err fault)) start e)
 
-pub begins_job : (r behind : Reading) (item : Item) (job : JobData) → slice_get (items r.kind r.text) r.answered ≡ Some (Ok item) → item ≡ given.Job job → behind ≡ record r { answered = r.answered + 1 } → BeginsWith r (Ok job) behind
-begins_job r behind item job e is after =
-    let first : slice_get (items r.kind r.text) r.answered ≡ Some (Ok (given.Job job)) = subst (λ i. slice_get (items r.kind r.text) r.answered ≡ Some (Ok i)) is e in
-    subst (λ b. BeginsWith r (Ok job) b) (sym after) (left_is (items r.kind r.text) r.answered (Ok (given.Job job)) first, goes_on r.kind r.text r.answered (given.Job job) first refl, omega arith)
+pub begins_job : (r behind : Reading) (job : JobData) → slice_get (items r.kind r.text) r.answered ≡ Some (Ok (given.Job job)) → behind ≡ record r { answered = r.answered + 1 } → BeginsWith r (Ok job) behind
+begins_job r behind job e after =
+    subst (λ b. BeginsWith r (Ok job) b) (sym after) (left_is (items r.kind r.text) r.answered (Ok (given.Job job)) e, goes_on r.kind r.text r.answered (given.Job job) e refl, omega arith)
 
 -- what an item adds
 pub collects : (r behind : Reading) (cert more : CertData) (item : Item) (last : Bool) → slice_get (items r.kind r.text) r.answered ≡ Some (Ok item) → last ≡ is_last item → more ≡ with_item cert item → behind ≡ record r { answered = r.answered + 1 }
@@ -121,14 +118,14 @@ collects r behind cert more item false e is adds after =
     subst (λ b. Collects (Ok false) cert r more b) (sym after)
     (added cert (items r.kind r.text) r.answered item e (sym is) ∙ ap (λ (c : CertData). cert_of c (drop (r.answered + 1) (items r.kind r.text))) (sym adds), goes_on r.kind r.text r.answered item e (sym is))
 
--- a certificate that is read, and one that is refused behind its job
-pub read_ok : (text : List ℕ) (job : JobData) (behind : Reading) (start cert : CertData) (version : ℕ) → BeginsWith (record { kind = Certificate; text = text; answered = 0 }) (Ok job) behind → start ≡ no_cert
-    → cert_of start (answers_left behind) ≡ Ok cert → version ≡ version_in text → cert_file_of text ≡ Ok (record { job = job; cert = cert; version = version })
-read_ok text job behind start cert version begins empty rest is =
-    file_of text job (answers_left behind) cert begins.0 (ap (λ (c : CertData). cert_of c (answers_left behind)) (sym empty) ∙ rest)
+-- a text that is read, and one that is refused behind its job
+pub read_ok : (kind : TextKind) (text : List ℕ) (job : JobData) (behind : Reading) (start cert : CertData) (version : ℕ) → BeginsWith (record { kind = kind; text = text; answered = 0 }) (Ok job) behind → start ≡ no_cert
+    → cert_of start (answers_left behind) ≡ Ok cert → version ≡ version_in text → file_of kind text ≡ Ok (record { job = job; cert = cert; version = version })
+read_ok kind text job behind start cert version begins empty rest is =
+    file_is kind text job (answers_left behind) cert begins.0 (ap (λ (c : CertData). cert_of c (answers_left behind)) (sym empty) ∙ rest)
     ∙ ap (λ (v : ℕ). Ok (record { job = job; cert = cert; version = v })) (sym is)
 
-pub read_err : (text : List ℕ) (job : JobData) (behind : Reading) (start : CertData) (fault : CertFault) → BeginsWith (record { kind = Certificate; text = text; answered = 0 }) (Ok job) behind → start ≡ no_cert
-    → (fault ≡ faults.NoMemory) ⊎ (cert_of start (answers_left behind) ≡ Err fault) → (fault ≡ faults.NoMemory) ⊎ (cert_file_of text ≡ Err fault)
-read_err text job behind start fault begins empty (inl memory) = inl memory
-read_err text job behind start fault begins empty (inr rest) = inr (file_refused text job (answers_left behind) fault begins.0 (ap (λ (c : CertData). cert_of c (answers_left behind)) (sym empty) ∙ rest))
+pub read_err : (kind : TextKind) (text : List ℕ) (job : JobData) (behind : Reading) (start : CertData) (fault : CertFault) → BeginsWith (record { kind = kind; text = text; answered = 0 }) (Ok job) behind → start ≡ no_cert
+    → (fault ≡ faults.NoMemory) ⊎ (cert_of start (answers_left behind) ≡ Err fault) → (fault ≡ faults.NoMemory) ⊎ (file_of kind text ≡ Err fault)
+read_err kind text job behind start fault begins empty (inl memory) = inl memory
+read_err kind text job behind start fault begins empty (inr rest) = inr (file_refused kind text job (answers_left behind) fault begins.0 (ap (λ (c : CertData). cert_of c (answers_left behind)) (sym empty) ∙ rest))

@@ -22,7 +22,9 @@ pub mod Naturals
 pub mod FoldShown
 pub mod FoldWritten
 pub mod FoldFormats
+pub mod Kept
 pub mod KnownLines
+pub mod KnownRead
 pub mod NoteSets
 pub mod NoteRuns
 pub mod NoteAnswers

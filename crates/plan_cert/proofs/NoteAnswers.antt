@@ -19,12 +19,12 @@ use Rattle.plan_cert.specs.declared.section.Section.{Section}
 use Rattle.plan_cert.specs.declared.section.Section.TheVariants as sections
 use Rattle.plan_cert.specs.declared.line_place.LinePlace.{LinePlace}
 use Rattle.plan_cert.specs.declared.job_facts.JobFacts.{JobFacts}
-use Rattle.plan_cert.specs.declared.known_notes.KnownNote.{KnownNote}
+use Rattle.plan_cert.specs.declared.known_note.KnownNote.{KnownNote}
 use Rattle.plan_cert.specs.declared.note_run.NoteRun.{NoteRun}
 use Rattle.plan_cert.specs.Items.{lines_in, plan_items}
 use Rattle.plan_cert.specs.Reading.{LeavesPlan, LeavesIn, LeavesAt, Leaves}
 use Rattle.plan_cert.specs.NoteLines.{KnownReasons, reason_by, note_told, notes_told, IsKnownAt, AreKnownAll, KnowsNoMore, KnowsAtMost, LearnsFrom, reason_of, known_reasons, IsHeld, AreHeld, numbers_on, IsTaken, GivesAll}
-use Rattle.plan_cert.proofs.KnownLines.{none_read, read_back}
+use Rattle.plan_cert.proofs.Kept.{none_kept, one_kept}
 use Rattle.plan_cert.proofs.NoteSets.{no_places}
 use Rattle.plan_cert.proofs.NoteRuns.{reason_is}
 use Rattle.plan_cert.proofs.PlanItems.{leaves_same}
@@ -32,7 +32,7 @@ use Rattle.plan_cert.proofs.Begun.{leaves_next}
 
 -- ---- notes that are held
 pub none_held : (facts : JobFacts) (n : ℕ) → AreHeld facts (replicate n None)
-none_held facts n = λ number note read. absurd (none_read n number note read)
+none_held facts n = none_kept (IsHeld facts) n
 
 pub none_by : (n number : ℕ) → get_or (map reason_of (replicate n None)) number None ≡ None
 none_by zero zero = refl
@@ -41,12 +41,7 @@ none_by (suc n) zero = refl
 none_by (suc n) (suc number) = none_by n number
 
 pub held_more : (facts : JobFacts) (held : List (Option KnownNote)) (number : ℕ) (note : KnownNote) → IsHeld facts number note → AreHeld facts held → AreHeld facts (set held number (Some note))
-held_more facts held number note is are = λ other found read. elim (eqb_tells other number) [
-  | inl here ↦
-      let one = read_back held number note found (ap (λ (n : ℕ). get_or (set held number (Some note)) n None) (sym here.1) ∙ read) in
-      subst (λ (m : ℕ). IsHeld facts m found) (sym here.1) (subst (λ (n : KnownNote). IsHeld facts number n) (same_Some note found one) is)
-  | inr there ↦ are other found (sym (get_or-set_other held number other (Some note) None there.1) ∙ read)
-]
+held_more facts held number note is are = one_kept (IsHeld facts) held number note is are
 
 got : (held : List (Option KnownNote)) (number : ℕ) (note : KnownNote) (known : Reason) → reason_of (get_or (set held number (Some note)) number None) ≡ Some known → Some note.reason ≡ Some known
 got [] zero note known is = absurd (none-some known is)

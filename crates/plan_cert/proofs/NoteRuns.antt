@@ -22,7 +22,7 @@ use Rattle.plan_cert.specs.declared.item.CertFault.{CertFault}
 use Rattle.plan_cert.specs.declared.format.Format.{Format}
 use Rattle.plan_cert.specs.declared.section.Section.TheVariants as sections
 use Rattle.plan_cert.specs.declared.job_facts.JobFacts.{JobFacts}
-use Rattle.plan_cert.specs.declared.known_notes.KnownNote.{KnownNote}
+use Rattle.plan_cert.specs.declared.known_note.KnownNote.{KnownNote}
 use Rattle.plan_cert.specs.declared.set_leads.SetLeads.{SetLeads}
 use Rattle.plan_cert.specs.declared.note_run.NoteRun.{NoteRun}
 use Rattle.plan_cert.specs.declared.note_run.NoteBlock.{NoteBlock}
@@ -38,7 +38,7 @@ use Rattle.plan_cert.proofs.WholeLines.{cut_line, some_line}
 
 -- the action of a note that is held
 pub held_among : (facts : JobFacts) (number : ℕ) (note : KnownNote) → IsHeld facts number note → IsActionAmong facts.bends facts.stages note.action
-held_among facts number note held = known_among note facts.bends facts.stages held.known held.bends held.stages
+held_among facts number note held = known_among note facts.bends facts.stages held.known
 
 -- one of as many bends and stages as a set of actions may have
 pub among_more : (bends stages most all : ℕ) (action : Action) → bends ≤ most → stages ≤ all → IsActionAmong bends stages action → IsActionAmong most all action
@@ -173,7 +173,7 @@ note_taken facts format held leads job key least note kept are_held are_leads fo
     let number = number_of_action facts.stages note.action in
     let is = are_held number note stands.is_held in
     let among = held_among facts number note is in
-    gives_again facts format key least note (given.Note number note.reason, sections.Notes key (number + 1)) is.known is.bends is.stages
+    gives_again facts format key least note (given.Note number note.reason, sections.Notes key (number + 1)) is.known
     (λ job kept. noted_is facts job key least note kept stands.from_least
     (subst (λ (m : Mask). is_lead job m note.action.bend ≡ true) (sym folded) (are_leads job note.action.bend kept among.first among.last stands.is_lead)))
     job kept

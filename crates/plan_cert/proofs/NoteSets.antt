@@ -1,5 +1,5 @@
 -- The places of a set with one action more, and the numbers of places.
-use Rattle.std.proofs.Common.{◌≡◌, ◌≢◌, ℕ, zero, suc, ◌+◌, ◌-◌, ◌*◌, ◌/◌, ◌%◌, ◌<◌, ◌≤◌, Bool, true, false, ◌&&◌, ◌||◌, ◌==◌, List, [], ◌∷◌, ◌++◌, length, filter, refl, ap, sym, subst, ◌∙◌, arith, inl, inr, cond, nat_lt, lt-ltb, All}
+use Rattle.std.proofs.Common.{◌≡◌, ◌≢◌, ℕ, zero, suc, ◌+◌, ◌-◌, ◌*◌, ◌/◌, ◌%◌, ◌<◌, ◌≤◌, Bool, true, false, ◌&&◌, ◌||◌, not, ◌==◌, List, [], ◌∷◌, ◌++◌, length, filter, refl, ap, sym, subst, ◌∙◌, arith, inl, inr, cond, nat_lt, lt-ltb, All}
 use Rattle.std.specs.List.{list_any}
 use Rattle.std.specs.Prelude.{◌⊎◌}
 use Rattle.std.proofs.Math.Nat.{mul-le-mul_right}
@@ -16,19 +16,36 @@ use Rattle.stage_lanes.specs.ActionSets.{place_of, has_place, ArePlaces, IsNone,
 use Rattle.plan_cert.specs.NoteLines.{number_at}
 use Rattle.plan_cert.proofs.ActionNumbers.{number_below}
 
-skip : (f : ℕ → Bool) (k : ℕ) → f k ≡ false → filter f (k ∷ []) ≡ []
+pub skip : (f : ℕ → Bool) (k : ℕ) → f k ≡ false → filter f (k ∷ []) ≡ []
 skip f k fail = ap (λ (t : Bool). cond t (k ∷ []) []) fail
 
-keep : (f : ℕ → Bool) (k : ℕ) → f k ≡ true → filter f (k ∷ []) ≡ k ∷ []
+pub keep : (f : ℕ → Bool) (k : ℕ) → f k ≡ true → filter f (k ∷ []) ≡ k ∷ []
 keep f k pass = ap (λ (t : Bool). cond t (k ∷ []) []) pass
 
-one_more : (f : ℕ → Bool) (n : ℕ) → filter f (numbers_below (suc n)) ≡ filter f (numbers_below n) ++ filter f (n ∷ [])
+-- one number more
+pub one_more : (f : ℕ → Bool) (n : ℕ) → filter f (numbers_below (suc n)) ≡ filter f (numbers_below n) ++ filter f (n ∷ [])
 one_more f n = filter-append f (numbers_below n) (n ∷ [])
 
 none_below : (f : ℕ → Bool) (n : ℕ) → ((k : ℕ) → k < n → f k ≡ false) → filter f (numbers_below n) ≡ []
 none_below f zero fail = refl
 none_below f (suc n) fail =
     one_more f n ∙ ap (λ (ks : List ℕ). ks ++ filter f (n ∷ [])) (none_below f n (λ k lt. fail k (omega (arith, lt)))) ∙ skip f n (fail n (omega arith))
+
+-- the first number that passes a test, and those that pass the test without it
+first_below : (f g : ℕ → Bool) (p n : ℕ) → f p ≡ true → g p ≡ false → ((k : ℕ) → k < p → f k ≡ false) → ((k : ℕ) → k < p → g k ≡ false)
+    → ((k : ℕ) → p < k → k < n → f k ≡ g k) → p < n → filter f (numbers_below n) ≡ p ∷ filter g (numbers_below n)
+first_below f g p zero pass fail none none_too same below = absurd (omega (arith, below))
+first_below f g p (suc n) pass fail none none_too same below = elim (cases_eq n p) [
+  | inl here ↦
+      one_more f n ∙ ap (λ (ks : List ℕ). ks ++ filter f (n ∷ [])) (none_below f n (λ k lt. none k (omega (arith, lt, here))))
+      ∙ keep f n (ap f here ∙ pass) ∙ ap (λ (k : ℕ). k ∷ []) here
+      ∙ sym (ap (λ (ks : List ℕ). p ∷ ks) (one_more g n ∙ ap (λ (ks : List ℕ). ks ++ filter g (n ∷ [])) (none_below g n (λ k lt. none_too k (omega (arith, lt, here)))) ∙ skip g n (ap g here ∙ fail)))
+  | inr apart ↦
+      one_more f n
+      ∙ ap (λ (ks : List ℕ). ks ++ filter f (n ∷ [])) (first_below f g p n pass fail none none_too (λ k above lt. same k above (omega (arith, lt))) (omega (arith, below, apart)))
+      ∙ ap (λ (t : Bool). (p ∷ filter g (numbers_below n)) ++ cond t (n ∷ []) []) (same n (omega (arith, below, apart)) (omega arith))
+      ∙ sym (ap (λ (ks : List ℕ). p ∷ ks) (one_more g n))
+]
 
 same_below : (f g : ℕ → Bool) (n : ℕ) → ((k : ℕ) → k < n → f k ≡ g k) → filter f (numbers_below n) ≡ filter g (numbers_below n)
 same_below f g zero same = refl
@@ -40,6 +57,32 @@ same_below f g (suc n) same =
 pub no_places : (set : ActionSet) → IsNone set → places_of set ≡ []
 unfolding places_of
 no_places set none = none_below (has_place set) 192 none
+
+without : (t : Bool) → false ≡ (t && not true)
+without true = refl
+without false = refl
+
+kept : (t : Bool) → t ≡ (t && not false)
+kept true = refl
+kept false = refl
+
+-- a set's places are that of its first action and then those of the set without it
+pub first_place : (set rest : ActionSet) (place : ℕ) → place < 192 → has_place set place ≡ true → ((other : ℕ) → other < place → has_place set other ≡ false)
+    → ArePlaces rest (λ other. has_place set other && not (other == place)) → places_of set ≡ place ∷ places_of rest
+unfolding places_of
+first_place set rest place within is none left =
+    first_below (has_place set) (has_place rest) place 192 is
+    (left place within ∙ ap (λ (t : Bool). has_place set place && not t) (same place) ∙ sym (without (has_place set place)))
+    none
+    (λ other lt. left other (omega (arith, lt, within)) ∙ ap (λ (t : Bool). t && not (other == place)) (none other lt))
+    (λ other above lt. kept (has_place set other) ∙ sym (left other lt ∙ ap (λ (t : Bool). has_place set other && not t) (apart other place above)))
+    within
+  where
+    same : (m : ℕ) → (m == m) ≡ true
+    same m = grind arith
+
+    apart : (m n : ℕ) → n < m → (m == n) ≡ false
+    apart m n lt = grind arith
 
 or_false : (t : Bool) → (t || false) ≡ t
 or_false true = refl

@@ -12,6 +12,7 @@ use Rattle.handling_cost.specs.StepCost.{IsActionAt}
 use Rattle.handling_cost.specs.Plan.{IsReasonFor}
 use Rattle.plan_cert.specs.Lines.{action_at}
 use Rattle.plan_cert.proofs.ActionNumbers.{bend_of_number}
+use Rattle.plan_cert.proofs.Kept.{none_kept, one_kept}
 
 -- the action of a number whose bend is a lead can be tried
 pub tried_at : (job : JobData) (key : Key) (number : ℕ) → number < 2 * bend_count job * stage_count job → IsTrue (is_lead job key.mask (action_at (stage_count job) number).bend) → IsActionAt job key (action_at (stage_count job) number)
@@ -22,26 +23,9 @@ tried_at job key number below lead =
 abbrev pub AreHeldAt : JobData → Mask → List (Option Reason) → Type 0
 AreHeldAt job mask held = (number : ℕ) (reason : Reason) → get_or held number None ≡ Some reason → IsReasonFor job mask (action_at (stage_count job) number) reason
 
-none_read : (n i : ℕ) (reason : Reason) → get_or (replicate n None) i None ≡ Some reason → ⊥
-none_read zero i reason read = none-some reason read
-none_read (suc n) zero reason read = none-some reason read
-none_read (suc n) (suc i) reason read = none_read n i reason read
-
 pub held_none : (job : JobData) (mask : Mask) (n : ℕ) → AreHeldAt job mask (replicate n None)
-held_none job mask n number reason read = absurd (none_read n number reason read)
-
-read_back : (held : List (Option Reason)) (number : ℕ) (reason found : Reason) → get_or (set held number (Some reason)) number None ≡ Some found → Some reason ≡ Some found
-read_back [] zero reason found read = absurd (none-some found read)
-read_back [] (suc number) reason found read = absurd (none-some found read)
-read_back (other ∷ held) zero reason found read = read
-read_back (other ∷ held) (suc number) reason found read = read_back held number reason found read
+held_none job mask n = none_kept (λ number reason. IsReasonFor job mask (action_at (stage_count job) number) reason) n
 
 pub held_on : (job : JobData) (mask : Mask) (held : List (Option Reason)) (number : ℕ) (reason : Reason) → IsReasonFor job mask (action_at (stage_count job) number) reason → AreHeldAt job mask held
     → AreHeldAt job mask (set held number (Some reason))
-held_on job mask held number reason is known other found read = elim (eqb_tells other number) [
-  | inl here ↦
-      let one = read_back held number reason found (ap (λ (n : ℕ). get_or (set held number (Some reason)) n None) (sym here.1) ∙ read) in
-      subst (λ (n : ℕ). IsReasonFor job mask (action_at (stage_count job) n) found) (sym here.1)
-      (subst (λ (r : Reason). IsReasonFor job mask (action_at (stage_count job) number) r) (same_Some reason found one) is)
-  | inr there ↦ known other found (sym (get_or-set_other held number other (Some reason) None there.1) ∙ read)
-]
+held_on job mask held number reason is known = one_kept (λ n r. IsReasonFor job mask (action_at (stage_count job) n) r) held number reason is known

@@ -238,7 +238,7 @@ reason_reads job small = record {
     kind : ReadsWords (InRange 1 10) (λ n. number n ∷ []) (count_at 1 10)
     kind = range_reads 1 10 (omega arith)
 
-note_reads : (job : JobData) → IsSmall job → ReadsAll (λ n. IsActionOf job n.0 × IsReasonInRange job n.1) (λ n. words_of (note_line n.0 n.1)) (note_in (bend_count job) (stage_count job))
+pub note_reads : (job : JobData) → IsSmall job → ReadsAll (λ n. IsActionOf job n.0 × IsReasonInRange job n.1) (λ n. words_of (note_line n.0 n.1)) (note_in (bend_count job) (stage_count job))
 unfolding note_in
 note_reads job small = then_reads (action_reads job small) (reason_reads job small)
 

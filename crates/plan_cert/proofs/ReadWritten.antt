@@ -21,7 +21,7 @@ use Rattle.plan_cert.specs.CertItems.{cert_items, IsReadFrom}
 use Rattle.plan_cert.specs.Formats.{format_of}
 use Rattle.plan_cert.specs.PlanReading.{first_section}
 use Rattle.plan_cert.specs.Items.{lines_in, plan_items, items_of_lines, items}
-use Rattle.plan_cert.specs.CertReading.{CertFileData, cert_file_of, version_in}
+use Rattle.plan_cert.specs.CertReading.{CertFileData, file_of, cert_file_of, version_in}
 use Rattle.plan_cert.proofs.FormatLines.{JobIn}
 use Rattle.plan_cert.proofs.WholeLines.{some_line}
 use Rattle.plan_cert.proofs.JobSplits.{Shaped, Begins, lines_begin}
@@ -29,7 +29,7 @@ use Rattle.plan_cert.proofs.Endings.{first_on}
 use Rattle.plan_cert.proofs.Runs.{Run, ends_with, not_refused, plan_runs}
 use Rattle.plan_cert.proofs.StepsTold.{steps_told}
 use Rattle.plan_cert.proofs.ReadWell.{small_of, body_items, IsCertificate, cert_run, accepted_file}
-use Rattle.plan_cert.proofs.Collecting.{ends_items, file_of}
+use Rattle.plan_cert.proofs.Collecting.{ends_items, file_is}
 use Rattle.plan_cert.proofs.TextLines.{line_bytes}
 use Rattle.plan_cert.proofs.Follows.{line_of_item}
 use Rattle.plan_cert.proofs.PlanLinesSpelled.{body_lines}
@@ -150,7 +150,7 @@ cert_text text all e =
     w.text_is ∙ ap (λ (is : List Item). lines_text (format_lines w.format w.job (map (line_of_item (stage_count w.job)) is))) well.shown ∙ ap (λ (ls : List CertLine). lines_text (format_lines w.format w.job ls)) (body_lines (stage_count w.job) cert) in
     record {
       file = record { job = w.job; cert = cert; version = version_in text };
-      given = file_of text w.job (ends_with body) cert w.gives well.gives;
+      given = file_is Certificate text w.job (ends_with body) cert w.gives well.gives;
       read = record { job = w.valid; form = well.form; items = w.gives ∙ ap (λ (is : List Item). Ok (given.Job w.job) ∷ ends_with is) well.shown ∙ answers_are w.job cert };
       is = record { job = w.valid; form = well.form; spelled = in_version w.format text w.job cert certificate w.tells (subst (λ is. Run w.format w.job (first_section w.format) is) well.shown w.run) lines };
     }
@@ -160,7 +160,7 @@ same_file : (a b : CertFileData) (x : Result CertFileData CertFault) → x ≡ O
 same_file a b x one two = cc
 
 pub text_of_file : (text : List ℕ) (file : CertFileData) → cert_file_of text ≡ Ok file → IsReadFrom file text × IsTextOf file text
-unfolding cert_file_of
+unfolding file_of
 text_of_file text file e =
     let (all, is) = accepted_file text file (items Certificate text) (ends_items Certificate text) e in
     let found = cert_text text all is in

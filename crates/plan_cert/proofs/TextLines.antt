@@ -36,7 +36,7 @@ others (byte ∷ bytes) all =
 both : (xs ys : List ℕ) → list_all is_other xs ≡ true → list_all is_other ys ≡ true → list_all is_other (xs ++ ys) ≡ true
 both xs ys one two = list_all-append is_other xs ys ∙ and_from (list_all is_other xs) (list_all is_other ys) one two
 
-spelled_other : (words : List (List ℕ)) → ArePlain words → list_all is_other (spelled words) ≡ true
+pub spelled_other : (words : List (List ℕ)) → ArePlain words → list_all is_other (spelled words) ≡ true
 spelled_other [] plain = refl
 spelled_other (word ∷ words) plain = both word (spelled words) (others word (plain_bytes word plain.0)) (spelled_other words plain.1)
 
@@ -71,7 +71,7 @@ keyword_other end_line = refl
 no_feed : (bytes : List ℕ) → list_all is_other bytes ≡ true → All (λ byte. is_line_feed byte ≡ false) bytes
 no_feed bytes all i d within = not-true (is_line_feed (get_or bytes i d)) (AllPass-from_list_all is_other bytes all i d within)
 
-one_line : (line : CertLine) (rest : List ℕ) → ArePlain (words_of line) → lines_in (line_text line ++ rest) ≡ line_bytes line ∷ lines_in rest
+pub one_line : (line : CertLine) (rest : List ℕ) → ArePlain (words_of line) → lines_in (line_text line ++ rest) ≡ line_bytes line ∷ lines_in rest
 unfolding line_text
 one_line line rest plain =
     ap (λ (t : List ℕ). lines_in t) (append_assoc (line_bytes line) (10 ∷ []) rest)

@@ -33,7 +33,7 @@ use Rattle.plan_cert.proofs.FormatLines.{JobIn}
 use Rattle.plan_cert.specs.Formats.{format_of}
 use Rattle.plan_cert.proofs.TextLines.{line_bytes}
 use Rattle.plan_cert.proofs.PlanWritten.{oks, fold_steps, fold_rows, own_notes, all_own}
-use Rattle.plan_cert.proofs.Collecting.{file_of}
+use Rattle.plan_cert.proofs.Collecting.{file_is}
 
 -- the items of the texts that are written
 written_in : (format : Format) (job : JobData) (cert : CertData) → format_of Certificate (line_bytes (format_line format)) ≡ Some format → IsCertificate format → IsJob job → JobIn format job → IsWellFormed job cert → HasEnough format job cert
@@ -82,11 +82,11 @@ version_1 job cert = refl
 -- the text of version 2 gives the job and the certificate
 pub written_is_read : (job : JobData) (cert : CertData) → IsJob job → IsWellFormed job cert → cert_file_of (cert_text2 job cert) ≡ Ok (record { job = job; cert = cert; version = 2 })
 written_is_read job cert valid form =
-    file_of (cert_text2 job cert) job (oks (body_items cert) ++ Ok given.End ∷ []) cert (items_2 job cert valid form) (cert_back job cert valid form)
+    file_is Certificate (cert_text2 job cert) job (oks (body_items cert) ++ Ok given.End ∷ []) cert (items_2 job cert valid form) (cert_back job cert valid form)
     ∙ ap (λ (v : ℕ). Ok (record { job = job; cert = cert; version = v })) (version_2 job cert)
 
 -- that of version 1 does too
 pub old_is_read : (job : JobData) (cert : CertData) → IsJob job → IsWellFormed job cert → HasText1 job cert → cert_file_of (cert_text1 job cert) ≡ Ok (record { job = job; cert = cert; version = 1 })
 old_is_read job cert valid form has =
-    file_of (cert_text1 job cert) job (oks (body_items cert) ++ Ok given.End ∷ []) cert (items_1 job cert valid form has) (cert_back job cert valid form)
+    file_is Certificate (cert_text1 job cert) job (oks (body_items cert) ++ Ok given.End ∷ []) cert (items_1 job cert valid form has) (cert_back job cert valid form)
     ∙ ap (λ (v : ℕ). Ok (record { job = job; cert = cert; version = v })) (version_1 job cert)

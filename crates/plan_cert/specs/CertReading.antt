@@ -1,12 +1,14 @@
 -- A whole certificate from the items of its text.
 use Rattle.std.specs.Prelude.{◌≡◌, ◌⊎◌, ℕ, ◌-◌, ◌^◌, ◌<◌, min, Bool, true, false, nat_lt, List, []}
 use Rattle.std.specs.Prelude.{◌∷◌, ◌++◌, length, take, drop, bytes_eq, codes, Result, Ok, Err}
-use Rattle.std.specs.Prelude.{if◌then◌else◌}
+use Rattle.std.specs.Prelude.{map, if◌then◌else◌}
 use Rattle.job_setup.specs.Setup.{JobData}
 use Rattle.brake_base.specs.declared.stroke.Step.{Step}
 use Rattle.brake_base.specs.declared.stroke.Worth.TheVariants.{Blocked}
 use Rattle.brake_base.specs.declared.reason.Reason.{Reason}
 use Rattle.plan_cert.specs.declared.cert_reading.CertFile.{CertFile}
+use Rattle.plan_cert.specs.declared.cert.Note.{Note}
+use Rattle.plan_cert.specs.declared.format.TextKind.{TextKind}
 use Rattle.plan_cert.specs.declared.format.TextKind.TheVariants.{Certificate}
 use Rattle.plan_cert.specs.declared.item.Item.{Item}
 use Rattle.plan_cert.specs.declared.item.Item.TheVariants as given
@@ -15,6 +17,7 @@ use Rattle.plan_cert.specs.declared.item.CertFault.TheVariants as faults
 use Rattle.plan_cert.specs.Reading.{Reading}
 use Rattle.plan_cert.specs.Cert.{CertData, cert_data}
 use Rattle.plan_cert.specs.Items.{items}
+use Rattle.plan_cert.specs.NoteLines.{KnownReasons, number_at, reason_at, or_cover}
 
 -- a job, a certificate of it, and the version of its text
 pub record CertFileData : Type 0 where
@@ -38,15 +41,32 @@ with_step c step = if nat_lt (length c.steps) 12
     then record c { steps = c.steps ++ step ∷ [] }
     else c
 
--- a note is of the last row; its count stands still at the greatest u32, which no certificate
--- reaches
+-- the number of the last row; it stands still at the greatest u32, which no certificate reaches
+abbrev pub last_row : CertData → ℕ
+last_row c = min (length c.rows - 1) (2 ^ 32 - 1)
+
+-- a note is of the last row
 abbrev pub with_note : CertData → ℕ → Reason → CertData
 with_note c action reason = record c {
   notes = c.notes ++ record {
-    row = min (length c.rows - 1) (2 ^ 32 - 1);
+    row = last_row c;
     action = action;
     reason = reason;
   } ∷ [];
+}
+
+-- the note of the action of a place at a row, with the reason that is known against it
+abbrev pub note_by : ℕ → KnownReasons → ℕ → Note
+note_by row known place = record {
+  row = row;
+  action = number_at known.stages place;
+  reason = or_cover (reason_at known place);
+}
+
+-- so many known notes of the last row
+abbrev pub with_known : CertData → KnownReasons → List ℕ → CertData
+with_known c known places = record c {
+  notes = c.notes ++ map (note_by (last_row c) known) places;
 }
 
 -- what an item adds
@@ -80,9 +100,13 @@ with_job text (Ok (given.Job job) ∷ more) = elim (cert_of no_cert more) [
 with_job text (Err fault ∷ more) = Err fault
 with_job text _ = Err faults.Unended
 
--- what a text gives: the job, the certificate and the version, or the first refusal
-unfoldable pub cert_file_of : List ℕ → Result CertFileData CertFault
-cert_file_of text = with_job text (items Certificate text)
+-- what a text of a kind gives: the job, the certificate and the version, or the first refusal
+unfoldable pub file_of : TextKind → List ℕ → Result CertFileData CertFault
+file_of kind text = with_job text (items kind text)
+
+-- what the text of a certificate gives
+abbrev pub cert_file_of : List ℕ → Result CertFileData CertFault
+cert_file_of text = file_of Certificate text
 
 -- the answers that a reader has still to give
 abbrev pub answers_left : Reading → List (Result Item CertFault)
@@ -90,6 +114,12 @@ answers_left r = drop r.answered (items r.kind r.text)
 
 abbrev pub AnswersLeft : Reading → Type 0
 AnswersLeft r = r.answered < length (items r.kind r.text)
+
+-- the reader gave more answers
+pub record IsFurther (reader behind : Reading) : Type 0 where
+  pub kind : behind.kind ≡ reader.kind
+  pub text : behind.text ≡ reader.text
+  pub further : reader.answered < behind.answered
 
 -- an item was added: the last one, or one behind which the others are still to be added; or the
 -- certificate is refused
@@ -105,4 +135,4 @@ abbrev pub BeginsWith : Reading → Result JobData CertFault → Reading → Typ
 BeginsWith reader (Ok job) behind =
     (answers_left reader ≡ Ok (given.Job job) ∷ answers_left behind) × AnswersLeft behind
     × (0 < behind.answered)
-BeginsWith reader (Err fault) behind = cert_file_of reader.text ≡ Err fault
+BeginsWith reader (Err fault) behind = file_of reader.kind reader.text ≡ Err fault

@@ -18,7 +18,7 @@ pub mod Facts
 pub mod Items
 pub mod PlanItem
 pub mod Reading
-pub mod KnownNotes
+pub mod KnownNote
 pub mod NoteLines
 pub mod CertReading
 pub mod CertItems

@@ -19,14 +19,14 @@ use Rattle.plan_cert.specs.declared.item.CertFault.{CertFault}
 use Rattle.plan_cert.specs.declared.section.Section.TheVariants as sections
 use Rattle.plan_cert.specs.declared.line_place.LinePlace.{LinePlace}
 use Rattle.plan_cert.specs.declared.job_facts.JobFacts.{JobFacts}
-use Rattle.plan_cert.specs.declared.known_notes.KnownNote.{KnownNote}
+use Rattle.plan_cert.specs.declared.known_note.KnownNote.{KnownNote}
 use Rattle.plan_cert.specs.declared.set_leads.SetLeads.{SetLeads}
 use Rattle.plan_cert.specs.declared.note_run.NoteRun.{NoteRun}
 use Rattle.plan_cert.specs.declared.note_run.NoteBlock.{NoteBlock}
 use Rattle.plan_cert.specs.Facts.{KeepsFacts, HasFew}
 use Rattle.plan_cert.specs.Items.{lines_in, next_number, plan_items}
 use Rattle.plan_cert.specs.Reading.{IsBehind, LeavesAt}
-use Rattle.plan_cert.specs.KnownNotes.{IsKnown}
+use Rattle.plan_cert.specs.KnownNote.{IsKnown}
 
 -- on a machine of so many stages, the known reasons by the numbers of their actions
 pub record KnownReasons : Type 0 where
@@ -103,9 +103,7 @@ known_reasons stages held = record {
 
 -- a known note of the job, held at its action's number
 pub record IsHeld (facts : JobFacts) (number : ℕ) (note : KnownNote) : Type 0 where
-  pub known : IsKnown note
-  pub bends : note.bends ≡ facts.bends
-  pub stages : note.stages ≡ facts.stages
+  pub known : IsKnown facts.bends facts.stages note
   pub at : number_of_action facts.stages note.action ≡ number
 
 -- each note is so

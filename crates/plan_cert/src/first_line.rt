@@ -13,7 +13,7 @@ fn first_line_feed(text: &[u8]) -> Option<usize>
 
 /// The first line of a text without its line feed, and what stands behind it. `None` where the
 /// text has no line feed.
-pub(crate) fn whole_line(text: &[u8]) -> Option<(&[u8], &[u8])>
+pub fn whole_line(text: &[u8]) -> Option<(&[u8], &[u8])>
     ensures some { IfSome result (λ x. IsCut text.now x.0.now x.1.now) }
     ensures shorter { IfSome result (λ x. length x.1.now < length text.now) }
     ensures none { IsNone result → lines_in text.now ≡ text.now ∷ [] }

@@ -14,7 +14,7 @@ mod job_line;
 mod job_lines;
 mod job_reading;
 mod job_section;
-mod known_notes;
+mod known_note;
 mod line_place;
 mod note_lines;
 mod note_run;
@@ -29,7 +29,8 @@ mod words;
 mod writing;
 
 pub use cert::{Cert, Note, RowHead};
-pub use cert_reading::{CertFile, read_cert};
+pub use cert_reading::{CertFile, read_cert, read_file};
+pub use first_line::whole_line;
 pub use format::TextKind;
 pub use item::{CertFault, Item, PlanItem};
 pub use job_lines::write_job;

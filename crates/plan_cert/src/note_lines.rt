@@ -6,23 +6,26 @@ ghost use Rattle.job_setup.specs.Setup.{JobData};
 ghost use Rattle.plan_cert.specs.declared.item.Item.{Item};
 ghost use Rattle.plan_cert.specs.declared.item.CertFault.{CertFault};
 ghost use Rattle.plan_cert.specs.declared.job_facts.JobFacts.{JobFacts};
-ghost use Rattle.plan_cert.specs.declared.known_notes.KnownNote.{KnownNote};
-ghost use Rattle.stage_lanes.specs.ActionSets.{places_of};
+ghost use Rattle.plan_cert.specs.declared.known_note.KnownNote.{KnownNote};
+ghost use Rattle.brake_base.specs.Actions.{IsActionAmong};
+ghost use Rattle.stage_lanes.specs.ActionSets.{place_of, places_of};
 ghost use Rattle.plan_cert.specs.Facts.{HasFew, KeepsFacts};
 ghost use Rattle.plan_cert.specs.PlanItem.{item_of, plan_answer};
 ghost use Rattle.plan_cert.specs.Reading.{LeavesAt, IsBehind};
-ghost use Rattle.plan_cert.specs.NoteLines.{KnownReasons, reason_by, KnowsNoMore, KnowsAtMost, LearnsFrom, IsHeld, IsRun, IsBlock, IsTaken, notes_told, AreKnownAll, GivesAll, numbers_on};
+ghost use Rattle.plan_cert.specs.CertReading.{note_by};
+ghost use Rattle.plan_cert.specs.NoteLines.{KnownReasons, reason_by, or_cover, KnowsNoMore, KnowsAtMost, LearnsFrom, IsHeld, IsRun, IsBlock, IsTaken, notes_told, AreKnownAll, GivesAll, numbers_on};
 
+use crate::cert::Note;
 use crate::first_line::whole_line;
 use crate::format::Format;
 use crate::item::{CertFault, PlanItem};
 use crate::job_facts::JobFacts;
-use crate::known_notes::{KnownNote, is_of, note_of};
+use crate::known_note::{KnownNote, is_of, note_of};
 use crate::note_run::{NoteBlock, NoteRun, take_lines};
 use crate::plan_reader::PlanReader;
 use crate::section::Section;
 use crate::set_leads::SetLeads;
-use brake_base::{Mask, Reason, action_number};
+use brake_base::{Action, Mask, Reason, action_number};
 use stage_lanes::ActionSet;
 use std::marker::Model;
 
@@ -198,6 +201,37 @@ impl<'a> NoteLines<'a> {
         }
     }
 
+    /// The number of stages.
+    fn stages(&self) -> u8
+        ensures value { result ≡ self.now.stages }
+        ensures few { result ≤ 6 }
+    {
+        self.facts.stages
+    }
+
+    /// The reason that is known against the action of a number, or Cover where none is.
+    fn reason(&self, number: u8) -> Reason
+        ensures { result ≡ or_cover (reason_by self.now number) }
+    {
+        match self.notes.get(usize::from(number)) {
+            Some(Some(note)) => note.reason,
+            _ => Reason::Cover,
+        }
+    }
+
+    /// The note of an action at a row, with the reason that is known against it.
+    pub(crate) fn note(&self, row: u32, action: Action) -> Note
+        requires { IsActionAmong 12 self.now.stages action }
+        ensures { result ≡ note_by row self.now (place_of action) }
+    {
+        let number = action_number(action, self.stages());
+        Note {
+            row,
+            action: number,
+            reason: self.reason(number),
+        }
+    }
+
     /// Keeps the first note of the text, where it is of this number and says this.
     fn keep_told(&mut self, text: &'a [u8], number: u8, reason: Reason)
         ensures { KnowsAtMost self.old number reason self.new }
@@ -296,6 +330,11 @@ fn number_behind(number: u32, count: u8) -> u32
     number.saturating_add(u32::from(count))
 }
 
+/// Whether the text begins as the line of a note does.
+fn begins_with_note(text: &[u8]) -> bool {
+    matches!(text, [b'x', ..])
+}
+
 /// Takes the known notes that come next behind a row. It tells their actions and how many they are.
 pub(crate) fn take_notes<'a>(
     reader: &mut PlanReader<'a>,
@@ -315,7 +354,7 @@ pub(crate) fn take_notes<'a>(
     ensures same { known.new ≡ known.old }
 {
     match reader.place.section {
-        Section::Notes(key, least) => {
+        Section::Notes(key, least) if begins_with_note(reader.rest) => {
             let run = known.take(&reader.place.facts, key.mask, least, reader.rest);
             reader.rest = run.rest;
             reader.place.number = number_behind(reader.place.number, run.count);

@@ -5,7 +5,7 @@ ghost use Rattle.plan_cert.specs.Facts.{HasFew};
 ghost use Rattle.plan_cert.specs.NoteLines.{AreHeld, MayStand, IsRun, IsBlock, line_of};
 
 use crate::job_facts::JobFacts;
-use crate::known_notes::{KnownNote, behind_line_feed};
+use crate::known_note::{KnownNote, behind_line_feed};
 use brake_base::{Mask, action_number};
 use stage_lanes::ActionSet;
 

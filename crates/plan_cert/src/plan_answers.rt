@@ -9,39 +9,13 @@ ghost use Rattle.plan_cert.specs.Reading.{IsBehind, LeavesAt, GivesNext, HoldsBe
 
 use crate::first_line::whole_line;
 use crate::item::{CertFault, PlanItem};
-use crate::known_notes::known_line;
 use crate::line_place::{LinePlace, next_number};
 use crate::plan_reader::{PlanReader, refuse};
 use crate::plan_reading::{is_end_line, may_leave, take_plan_line};
 use crate::section::Section;
 
-/// The answer behind the job: that of a line that is known, or else of one that is read.
+/// The answer behind the job: what its line gives, or the refusal.
 pub(crate) fn answer_behind_job(reader: &mut PlanReader) -> Result<PlanItem, CertFault>
-    requires few { HasFew reader.old.place.facts }
-    ensures given { (behind : List ℕ) (answers : List (Result Item CertFault))
-        → LeavesAt reader.old.place (reader.old.rest.now ++ behind) answers → 0 < length answers
-        → HoldsBefore (plan_answer result) behind
-        → GivesNext answers (plan_answer result) reader.new.place
-        (reader.new.rest.now ++ behind) }
-    ensures few { HasFew reader.new.place.facts }
-    ensures rest { IsBehind reader.old.rest.now reader.new.rest.now }
-    ensures shorter { IfOk result
-        (λ _. length reader.new.rest.now < length reader.old.rest.now) }
-{
-    let place = reader.place;
-    match known_line(&reader.known, &place.facts, &place.section, reader.rest) {
-        Some((item, section, rest)) => {
-            reader.rest = rest;
-            reader.place.number = next_number(place.number);
-            reader.place.section = section;
-            Ok(item)
-        }
-        None => read_answer(reader),
-    }
-}
-
-/// The answer behind the job, of which the line is read.
-fn read_answer(reader: &mut PlanReader) -> Result<PlanItem, CertFault>
     requires few { HasFew reader.old.place.facts }
     ensures given { (behind : List ℕ) (answers : List (Result Item CertFault))
         → LeavesAt reader.old.place (reader.old.rest.now ++ behind) answers → 0 < length answers
@@ -57,7 +31,6 @@ fn read_answer(reader: &mut PlanReader) -> Result<PlanItem, CertFault>
     match whole_line(reader.rest) {
         Some((line, rest)) => {
             let (answer, section) = plan_item(&place, line, rest);
-            reader.known.keep_at(&place.section, line, place.facts.bends, place.facts.stages);
             reader.rest = rest;
             reader.place.number = next_number(place.number);
             reader.place.section = section;

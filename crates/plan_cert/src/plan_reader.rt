@@ -12,7 +12,6 @@ ghost use Rattle.plan_cert.specs.NoteLines.{notes_told, AreKnownAll, LearnsFrom,
 use crate::format::TextKind;
 use crate::item::{CertFault, PlanItem};
 use crate::job_answers::first_answer;
-use crate::known_notes::KnownNotes;
 use crate::line_place::LinePlace;
 use crate::note_lines::{NoteLines, take_notes};
 use crate::plan_answers::answer_behind_job;
@@ -27,7 +26,6 @@ use stage_lanes::ActionSet;
 pub struct PlanReader<'a> {
     pub(crate) place: LinePlace,
     pub(crate) rest: &'a [u8],
-    pub(crate) known: KnownNotes<'a>,
 }
 
 /// Refuses the text, so that no answer is left behind the fault.
@@ -69,11 +67,7 @@ impl<'a> PlanReader<'a> {
         ensures place { result.place ≡ place }
         ensures rest { result.rest.now ≡ piece.now }
     {
-        PlanReader {
-            place,
-            rest: piece,
-            known: KnownNotes::none(),
-        }
+        PlanReader { place, rest: piece }
     }
 
     /// Where the reader stands.

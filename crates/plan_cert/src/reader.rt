@@ -81,7 +81,8 @@ impl<'a> CertReader<'a> {
         CertReader::of(TextKind::Table, text)
     }
 
-    fn of(kind: TextKind, text: &'a [u8]) -> Self
+    /// A reader of a text of this kind.
+    pub(crate) fn of(kind: TextKind, text: &'a [u8]) -> Self
         ensures { result ≡ record { kind = kind; text = text.now; answered = 0 } }
     {
         CertReader {

@@ -16,7 +16,8 @@ use Rattle.row_text.specs.Notes.{SetNotes, IsAmong, AreOfStages, number_at, note
 use Rattle.row_text.specs.Blocks.{block_text}
 use Rattle.row_text.specs.Writer.{AreLines}
 use Rattle.row_text.proofs.ActionPlaces.{among_eight, place_below, action_of_place, number_of_place, stage_of_place, action_at_number, same_place}
-use Rattle.row_text.proofs.SetLists.{same_texts, first_place, no_places}
+use Rattle.plan_cert.proofs.NoteSets.{first_place, no_places}
+use Rattle.row_text.proofs.SetLists.{same_texts}
 
 pub stages_of_some : (stages : ℕ) (set other : ActionSet) → IsAmong set other → AreOfStages stages other → AreOfStages stages set
 stages_of_some stages set other among are place within is = are place within (among place within is)

@@ -8,4 +8,4 @@ action_number-requires-clause-action c =
     let facts = c.args.facts.now in
     let note = c.in_ok-note.note in
     among_more facts.bends facts.stages 12 facts.stages note.action c.requires.bends (omega arith)
-    (known_among note facts.bends facts.stages c.in_ok-note.ensures.known c.in_ok-note.ensures.bends c.in_ok-note.ensures.stages)
+    (known_among note facts.bends facts.stages c.in_ok-note.ensures)

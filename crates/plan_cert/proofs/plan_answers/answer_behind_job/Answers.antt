@@ -1,20 +1,24 @@
-use Rattle.std.proofs.Common.{Ok, refl, ◌++◌}
-use Rattle.plan_cert.specs.PlanItem.{placed}
-use Rattle.plan_cert.proofs.PlanItems.{line_given, item_taken}
-use Rattle.plan_cert.proofs.WholeLines.{behind_cut, cut_shorter}
+use Rattle.std.proofs.Common.{Err, refl, sym, subst, List, ℕ}
+use Rattle.plan_cert.specs.PlanItem.{plan_answer}
+use Rattle.plan_cert.specs.declared.item.CertFault.{CertFault}
+use Rattle.plan_cert.specs.Reading.{IsBehind, HoldsBefore}
+use Rattle.plan_cert.proofs.PlanItems.{line_given, line_unended}
+use Rattle.plan_cert.proofs.WholeLines.{all_behind, behind_cut}
 use Rattle.plan_cert.proofs.plan_answers.answer_behind_job.Goals as goal
 
 pub returns-in-Some-clause-given : goal.returns-in-Some-clause-given
 returns-in-Some-clause-given c = λ behind answers left some holds.
     let old = c.args.reader.now in
-    let read = c.in-Some.ensures in
-    let rest = c.in-Some.rest.now in
-    let taken = placed (c.in-Some.item, c.in-Some.section) in
-    line_given old.place (record { number = c.next_number-reader.result; section = c.in-Some.section; facts = old.place.facts }) answers old.rest.now read.line rest behind (Ok taken.0, taken.1) left some read.cut
-    (λ job kept. item_taken old.place.facts.format job old.place.number old.place.section read.line (rest ++ behind) taken (read.gives job kept)) c.next_number-reader.ensures refl refl
+    let given = c.plan_item-answer.result in
+    line_given old.place (record { number = c.next_number-reader.result; section = given.1; facts = old.place.facts }) answers old.rest.now c.in-Some.line.now c.in-Some.rest.now behind (plan_answer given.0, given.1)
+    left some c.in-Some.ensures.some (λ job kept. c.plan_item-answer.ensures job behind kept holds) c.next_number-reader.ensures refl refl
 
 pub returns-in-Some-clause-rest : goal.returns-in-Some-clause-rest
-returns-in-Some-clause-rest c = behind_cut c.args.reader.now.rest.now c.in-Some.ensures.line c.in-Some.rest.now c.in-Some.ensures.cut
+returns-in-Some-clause-rest c = behind_cut c.args.reader.now.rest.now c.in-Some.line.now c.in-Some.rest.now c.in-Some.ensures.some
 
-pub returns-in-Some-clause-shorter : goal.returns-in-Some-clause-shorter
-returns-in-Some-clause-shorter c = cut_shorter c.args.reader.now.rest.now c.in-Some.ensures.line c.in-Some.rest.now c.in-Some.ensures.cut
+pub returns-in-None-clause-given : goal.returns-in-None-clause-given
+returns-in-None-clause-given c = λ behind answers left some holds.
+    line_unended c.args.reader.now.place c.refuse.new.reader.place answers (Err c.refuse.result) c.args.reader.now.rest.now behind _ left some (subst (λ (fault : CertFault). HoldsBefore (Err fault) behind) c.refuse.ensures.fault holds) (c.in-None.ensures.none refl) (c.refuse.ensures.given _)
+
+pub returns-in-None-clause-rest : goal.returns-in-None-clause-rest
+returns-in-None-clause-rest c = subst (λ (t : List ℕ). IsBehind c.args.reader.now.rest.now t) (sym c.refuse.ensures.rest) (all_behind c.args.reader.now.rest.now)

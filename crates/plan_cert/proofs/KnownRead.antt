@@ -1,0 +1,80 @@
+-- Known notes that are taken at once: what is made of their answers, and that others stand behind them.
+use Rattle.std.proofs.Common.{◌≡◌, ℕ, ◌+◌, ◌-◌, ◌<◌, ◌==◌, Bool, false, List, [], ◌∷◌, ◌++◌, length, drop, map, get_or, Some, Result, Ok, refl, sym, ap, subst, ◌∙◌, arith}
+use Rattle.std.specs.Prelude.{if◌then◌else◌, slice_get}
+use Rattle.std.specs.List.{list_any}
+use Rattle.std.proofs.lemmas.List.{append_assoc, append-nil, length-append, length-drop, length-map, get_or-drop, get_or-map, get_or_append_left}
+use Rattle.std.proofs.lemmas.Option.{slice_get-get_or}
+use Rattle.stage_lanes.specs.declared.actions.ActionSet.{ActionSet}
+use Rattle.stage_lanes.specs.ActionSets.{IsNone, places_of}
+use Rattle.plan_cert.specs.declared.cert.Note.{Note}
+use Rattle.plan_cert.specs.declared.item.Item.{Item}
+use Rattle.plan_cert.specs.declared.item.Item.TheVariants as given
+use Rattle.plan_cert.specs.declared.item.CertFault.{CertFault}
+use Rattle.plan_cert.specs.Reading.{Reading}
+use Rattle.plan_cert.specs.Cert.{CertData}
+use Rattle.plan_cert.specs.Items.{items}
+use Rattle.plan_cert.specs.CertReading.{cert_of, with_item, with_known, note_by, last_row, answers_left, AnswersLeft, Collects, IsFurther}
+use Rattle.plan_cert.specs.NoteLines.{KnownReasons, number_at, reason_at, or_cover, note_told}
+use Rattle.plan_cert.proofs.Collecting.{goes_on}
+use Rattle.plan_cert.proofs.NoteSets.{any_place, no_places}
+
+-- what is made of the answers of known notes
+pub known_read : (known : KnownReasons) (places : List ℕ) (before : CertData) (left : List (Result Item CertFault)) → cert_of before (map (note_told known) places ++ left) ≡ cert_of (with_known before known places) left
+unfolding cert_of
+known_read known [] before left = ap (λ (ns : List Note). cert_of (record before { notes = ns }) left) (sym (append-nil before.notes))
+known_read known (place ∷ places) before left =
+    let item : Item = given.Note (number_at known.stages place) (or_cover (reason_at known place)) in
+    known_read known places (with_item before item) left
+    ∙ ap (λ (ns : List Note). cert_of (record before { notes = ns }) left)
+    (append_assoc before.notes (note_by (last_row before) known place ∷ []) (map (note_by (last_row before) known) places))
+
+-- behind known notes an answer is left
+pub known_behind : (r : Reading) (known : KnownReasons) (places : List ℕ) → 0 < length places
+    → drop r.answered (items r.kind r.text) ≡ map (note_told known) places ++ drop (r.answered + length places) (items r.kind r.text) → r.answered + length places < length (items r.kind r.text)
+known_behind r known places some told =
+    let all = items r.kind r.text in
+    let k = length places - 1 in
+    let behind = drop (r.answered + length places) all in
+    let last = note_told known (get_or places k 0) in
+    let whole : length (drop r.answered all) ≡ length (map (note_told known) places ++ behind) = ap (λ (xs : List (Result Item CertFault)). length xs) told in
+    let count = length-map places (note_told known) in
+    let within : r.answered + k < length all = omega (arith, whole, count, some, length-append (map (note_told known) places) behind, length-drop r.answered all) in
+    let short : k < length places = omega (arith, some) in
+    let here : get_or all (r.answered + k) last ≡ last =
+    sym (get_or-drop r.answered all k last) ∙ ap (λ (xs : List (Result Item CertFault)). get_or xs k last) told
+    ∙ get_or_append_left (map (note_told known) places) behind last k (omega (arith, short, count)) ∙ get_or-map (note_told known) places k 0 last short in
+    let at : slice_get all (r.answered + k) ≡ Some last = slice_get-get_or all (r.answered + k) last within ∙ ap Some here in
+    let more = goes_on r.kind r.text (r.answered + k) (given.Note (number_at known.stages (get_or places k 0)) (or_cover (reason_at known (get_or places k 0)))) at refl in
+    omega (arith, more, some)
+
+-- a set that isn't empty has a place
+some_or_none : (places : List ℕ) → (places ≡ [] → ⊥) → 0 < length places
+some_or_none [] some = absurd (some refl)
+some_or_none (place ∷ places) some = omega arith
+
+pub some_places : (set : ActionSet) → (IsNone set → ⊥) → 0 < length (places_of set)
+some_places set some =
+    some_or_none (places_of set) (λ none. some (λ place within. sym (any_place (λ k. k == place) set place within (λ k low is. refl)) ∙ ap (list_any (λ k. k == place)) none))
+
+-- the known notes of a set are read
+module _ (r behind : Reading) (known : KnownReasons) (set : ActionSet) (isnt : IsNone set → ⊥) (after : behind ≡ record r { answered = r.answered + length (places_of set) }) where
+  pub known_further : IsFurther r behind
+  known_further = subst (IsFurther r) (sym after) (record { kind = refl; text = refl; further = let some = some_places set isnt in omega (arith, some) })
+
+  pub known_collects : (cert more : CertData) → drop r.answered (items r.kind r.text) ≡ map (note_told known) (places_of set) ++ drop behind.answered (items r.kind r.text) → more ≡ with_known cert known (places_of set)
+      → Collects (Ok false) cert r more behind
+  known_collects cert more told adds =
+      let places = places_of set in
+      let left = drop (r.answered + length places) (items r.kind r.text) in
+      let here : drop r.answered (items r.kind r.text) ≡ map (note_told known) places ++ left =
+      told ∙ ap (λ (b : Reading). map (note_told known) places ++ drop b.answered (items r.kind r.text)) after in
+      subst (λ (b : Reading). Collects (Ok false) cert r more b) (sym after) (
+        ap (cert_of cert) here ∙ known_read known places cert left ∙ ap (λ (c : CertData). cert_of c left) (sym adds),
+        known_behind r known places (some_places set isnt) here,
+      )
+
+-- no known note is read
+pub none_read : (r behind : Reading) (set : ActionSet) → IsNone set → behind ≡ record r { answered = r.answered + length (places_of set) } → behind ≡ r
+none_read r behind set none after =
+    let count : r.answered + length (places_of set) ≡ r.answered = let empty = ap (λ (places : List ℕ). length places) (no_places set none) in omega (arith, empty) in
+    after ∙ ap (λ (n : ℕ). record r { answered = n }) count
