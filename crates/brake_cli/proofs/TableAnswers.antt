@@ -27,10 +27,11 @@ use Rattle.command_runner.specs.Answers.{StoredData, AnswerData, answer_data, on
 use Rattle.command_runner.specs.Delivery.{AreStored, AreStoredUpTo}
 use Rattle.command_runner.specs.Ends.{StoresFirst, StoresBeginning}
 use Rattle.brake_cli.specs.PlanAnswer.{IsStoredOf}
+use Rattle.brake_cli.specs.declared.table_check.CheckedText.{CheckedText}
 use Rattle.brake_cli.specs.declared.table_check.TableStop.{TableStop}
 use Rattle.brake_cli.specs.declared.table_check.TableStop.TheVariants as stop
 use Rattle.brake_cli.specs.TableCheck.{TableChecksTo, table_refused_line, AnswersTable}
-use Rattle.brake_cli.specs.TableStops.{of_cert_fault, of_table_fault, of_prove_fault, ChecksTable, IsTableRefusalAnd}
+use Rattle.brake_cli.specs.TableStops.{of_cert_fault, of_table_fault, of_prove_fault, checked_file, ChecksTable, IsCheckedText, IsTableRefusalAnd}
 use Rattle.brake_cli.specs.TableAnswer.{IsTrueTable, told_answer, stored_table_answer, AnswersOneJob}
 use Rattle.brake_cli.specs.ProveAnswer.{IsProved}
 use Rattle.brake_cli.specs.MergeAnswer.{IsMergedAnswer}
@@ -76,6 +77,12 @@ proved_checked text proved file of written = record {
 -- the answer to a table that is accepted
 pub table_accepted : (place : ℕ) (P : TableFileData → AnswerData → Type 0) (text : List ℕ) (file : TableFileData) (answer : AnswerData) → TableChecksTo text (Ok file) → P file answer → AnswersTable place P text answer
 table_accepted place P text file answer checks is = (Ok file, checks, is)
+
+-- and where its text is at hand
+pub text_accepted : (place : ℕ) (P : TableFileData → AnswerData → Type 0) (text : List ℕ) (checked : CheckedText) (table : TableData) (answer : AnswerData) → checked.text.now ≡ text → IsCheckedText table checked
+    → P (checked_file checked table) answer → AnswersTable place P text answer
+text_accepted place P text checked table answer same checks is =
+    table_accepted place P text (checked_file checked table) answer (subst (λ (t : List ℕ). IsCheckedTable t (checked_file checked table)) same checks) is
 
 -- and to one that is refused
 pub table_refused : (place : ℕ) (P : TableFileData → AnswerData → Type 0) (text : List ℕ) (why : TableStop) (answer : AnswerData) → ChecksTable text (Err why)

@@ -3,42 +3,43 @@ ghost use Rattle.std.specs.Prelude.{◌≡◌, ◌⊎◌, length, map, IfOk, OnE
 ghost use Rattle.std.specs.Vec.{vec_items};
 ghost use Rattle.brake_io.specs.Rose.{Rose};
 ghost use Rattle.brake_io.specs.Meanings.{NoCountFalls};
-ghost use Rattle.cert_merge.specs.Table.{table_data, table_file_data};
+ghost use Rattle.cert_merge.specs.Table.{TableData};
 ghost use Rattle.command_runner.specs.Answers.{answer_data};
 ghost use Rattle.command_runner.specs.Fetching.{HasDueCall};
 ghost use Rattle.command_runner.specs.Delivery.{IsCutShort};
 ghost use Rattle.command_runner.specs.Ends.{StoresFirst, StoresBeginning};
 ghost use Rattle.brake_cli.specs.PlanAnswer.{IsStoredOf};
 ghost use Rattle.brake_cli.specs.TableCheck.{AnswersTable};
-ghost use Rattle.brake_cli.specs.TableAnswer.{IsTrueTable};
+ghost use Rattle.brake_cli.specs.TableStops.{checked_file, IsCheckedText};
 ghost use Rattle.brake_cli.specs.MergeAnswer.{IsMergedAnswer, AnswersBoth, IsMergeAnswer};
 
 use crate::job_files::{content_at, is_one_job};
-use crate::table_answer::{other_job, stored_table_answer};
-use crate::table_check::{checked_table, table_stopped};
+use crate::table_answer::{merged_text_answer, other_job};
+use crate::table_check::{CheckedText, checked_text, table_stopped};
 use brake_io::{Shelf, StoreFault};
-use cert_merge::{TableFile, merge};
+use cert_merge::merge_texts;
 use command_runner::Answer;
 use std::alloc::Global;
 
-/// The answer to two closed tables of one job.
+/// The answer to the texts of two closed tables of one job.
 fn merged_answer<H: Shelf>(
     alloc: Global,
     name: &str,
-    a: &TableFile,
-    b: &TableFile,
+    a: &CheckedText,
+    b: &CheckedText,
     shelf: &mut H,
 ) -> Result<Answer, StoreFault>
     requires one_job { a.now.job ≡ b.now.job }
-    requires a { IsTrueTable a.now.job (table_data a.now.table) }
-    requires b { IsTrueTable b.now.job (table_data b.now.table) }
-    ensures answer { IfOk result (λ answer. StoresFirst (IsMergedAnswer name.now (table_file_data a.now)
-        (table_file_data b.now))
+    requires checked { (x : TableData) × (y : TableData)
+        × IsCheckedText x a.now × IsCheckedText y b.now }
+    ensures answer { (x y : TableData) → IsCheckedText x a.now → IsCheckedText y b.now
+        → IfOk result (λ answer. StoresFirst
+        (IsMergedAnswer name.now (checked_file a.now x) (checked_file b.now y))
         (answer_data answer) (H.state shelf.old) (H.state shelf.new)) }
     ensures status { IfOk result (λ answer. ¬ IsCutShort answer.status) }
-    ensures begins { OnErr result ((H.state shelf.new ≡ H.state shelf.old) ⊎ StoresBeginning
-        (IsStoredOf (IsMergedAnswer name.now (table_file_data a.now)
-        (table_file_data b.now)))
+    ensures begins { (x y : TableData) → IsCheckedText x a.now → IsCheckedText y b.now
+        → OnErr result ((H.state shelf.new ≡ H.state shelf.old) ⊎ StoresBeginning
+        (IsStoredOf (IsMergedAnswer name.now (checked_file a.now x) (checked_file b.now y)))
         (H.state shelf.old) (H.state shelf.new)) }
     ensures never_falls { NoCountFalls (H.state shelf.old) (H.state shelf.new) }
     ensures failed { IsErrOf result StoreFault.Failed →
@@ -46,27 +47,28 @@ fn merged_answer<H: Shelf>(
     ensures cause { IsErrOf result StoreFault.Failed →
         HasDueCall (H.state shelf.old) (H.state shelf.new) }
 {
-    let merged = merge(alloc, &a.table, &b.table)?;
-    stored_table_answer(alloc, name, &a.job, merged, shelf)
+    let merged = merge_texts(alloc, &a.job, a.text, b.text)?;
+    merged_text_answer(alloc, name, &a.job, &merged, shelf)
 }
 
-/// The answer to two closed tables, which are to be of one job.
+/// The answer to the texts of two closed tables, which are to be of one job.
 fn answer_to_both<H: Shelf>(
     alloc: Global,
     name: &str,
-    a: &TableFile,
-    b: &TableFile,
+    a: &CheckedText,
+    b: &CheckedText,
     shelf: &mut H,
 ) -> Result<Answer, StoreFault>
-    requires a { IsTrueTable a.now.job (table_data a.now.table) }
-    requires b { IsTrueTable b.now.job (table_data b.now.table) }
-    ensures answer { IfOk result (λ answer. StoresFirst (AnswersBoth name.now (table_file_data a.now)
-        (table_file_data b.now))
+    requires checked { (x : TableData) × (y : TableData)
+        × IsCheckedText x a.now × IsCheckedText y b.now }
+    ensures answer { (x y : TableData) → IsCheckedText x a.now → IsCheckedText y b.now
+        → IfOk result (λ answer. StoresFirst
+        (AnswersBoth name.now (checked_file a.now x) (checked_file b.now y))
         (answer_data answer) (H.state shelf.old) (H.state shelf.new)) }
     ensures status { IfOk result (λ answer. ¬ IsCutShort answer.status) }
-    ensures begins { OnErr result ((H.state shelf.new ≡ H.state shelf.old) ⊎ StoresBeginning
-        (IsStoredOf (AnswersBoth name.now (table_file_data a.now)
-        (table_file_data b.now)))
+    ensures begins { (x y : TableData) → IsCheckedText x a.now → IsCheckedText y b.now
+        → OnErr result ((H.state shelf.new ≡ H.state shelf.old) ⊎ StoresBeginning
+        (IsStoredOf (AnswersBoth name.now (checked_file a.now x) (checked_file b.now y)))
         (H.state shelf.old) (H.state shelf.new)) }
     ensures never_falls { NoCountFalls (H.state shelf.old) (H.state shelf.new) }
     ensures failed { IsErrOf result StoreFault.Failed →
@@ -82,22 +84,23 @@ fn answer_to_both<H: Shelf>(
     }
 }
 
-/// The answer to a closed table and to the text of the second one.
+/// The answer to the text of a closed table and to that of the second one, which isn't checked yet.
 fn answer_to_second<H: Shelf>(
     alloc: Global,
     name: &str,
-    a: &TableFile,
+    a: &CheckedText,
     text: &[u8],
     shelf: &mut H,
 ) -> Result<Answer, StoreFault>
-    requires { IsTrueTable a.now.job (table_data a.now.table) }
-    ensures answer { IfOk result (λ answer. StoresFirst (AnswersTable 2
-        (AnswersBoth name.now (table_file_data a.now)) text.now)
+    requires { (x : TableData) × IsCheckedText x a.now }
+    ensures answer { (x : TableData) → IsCheckedText x a.now
+        → IfOk result (λ answer. StoresFirst
+        (AnswersTable 2 (AnswersBoth name.now (checked_file a.now x)) text.now)
         (answer_data answer) (H.state shelf.old) (H.state shelf.new)) }
     ensures status { IfOk result (λ answer. ¬ IsCutShort answer.status) }
-    ensures begins { OnErr result ((H.state shelf.new ≡ H.state shelf.old) ⊎ StoresBeginning
-        (IsStoredOf (AnswersTable 2
-        (AnswersBoth name.now (table_file_data a.now)) text.now))
+    ensures begins { (x : TableData) → IsCheckedText x a.now
+        → OnErr result ((H.state shelf.new ≡ H.state shelf.old) ⊎ StoresBeginning
+        (IsStoredOf (AnswersTable 2 (AnswersBoth name.now (checked_file a.now x)) text.now))
         (H.state shelf.old) (H.state shelf.new)) }
     ensures never_falls { NoCountFalls (H.state shelf.old) (H.state shelf.new) }
     ensures failed { IsErrOf result StoreFault.Failed →
@@ -105,7 +108,7 @@ fn answer_to_second<H: Shelf>(
     ensures cause { IsErrOf result StoreFault.Failed →
         HasDueCall (H.state shelf.old) (H.state shelf.new) }
 {
-    match checked_table(alloc, text) {
+    match checked_text(alloc, text) {
         Ok(b) => answer_to_both(alloc, name, a, &b, shelf),
         Err(stop) => Ok(table_stopped(alloc, 2, stop)?),
     }
@@ -132,7 +135,7 @@ pub fn answer<H: Shelf>(
     ensures cause { IsErrOf result StoreFault.Failed →
         HasDueCall (H.state shelf.old) (H.state shelf.new) }
 {
-    match checked_table(alloc, content_at(contents, 0)) {
+    match checked_text(alloc, content_at(contents, 0)) {
         Ok(a) => answer_to_second(alloc, name, &a, content_at(contents, 1), shelf),
         Err(stop) => Ok(table_stopped(alloc, 1, stop)?),
     }

@@ -1,7 +1,8 @@
 //! What is told of a table.
 ghost use Rattle.std.specs.Prelude.{◌≡◌, ◌⊎◌, ◌<◌, ◌≤◌, ◌^◌, [], codes, IfOk, OnOk, OnErr, IsErrOf};
 ghost use Rattle.plan_cert.specs.WellFormed.{IsWorth};
-ghost use Rattle.cert_merge.specs.Table.{table_data, IsTable};
+ghost use Rattle.cert_merge.specs.Table.{TableData, table_data, IsTable};
+ghost use Rattle.cert_merge.specs.MergedTexts.{IsToldOf};
 ghost use Rattle.brake_io.specs.Rose.{Rose};
 ghost use Rattle.brake_io.specs.Meanings.{NoCountFalls};
 ghost use Rattle.command_runner.specs.declared.status.Status.TheVariants as status;
@@ -14,7 +15,7 @@ use crate::plan::claim_status;
 use brake_base::Worth;
 use brake_io::{Shelf, StoreFault};
 use brake_text::put_word;
-use cert_merge::{SettledText, Table, TablePieces, proved_at_start};
+use cert_merge::{MergedText, MergedTexts, SettledText, Table, TablePieces, proved_at_start};
 use command_runner::{Answer, Status, refusal, store_pieces};
 use job_setup::Job;
 use plan_cert::put_count;
@@ -103,6 +104,40 @@ pub fn stored_table_answer<H: Shelf>(
 {
     let answer = told_answer(alloc, table.rows.len(), proved_at_start(job, &table))?;
     let mut text = TablePieces::open(alloc, job, table)?;
+    store_pieces(alloc, name, &mut text, shelf)?;
+    Ok(answer)
+}
+
+/// What is left of the answer to the merge of two tables once its text is stored under this name. The
+/// text is stored here, in pieces.
+pub fn merged_text_answer<H: Shelf>(
+    alloc: Global,
+    name: &str,
+    job: &Job,
+    merged: &MergedTexts,
+    shelf: &mut H,
+) -> Result<Answer, StoreFault>
+    requires told { (table : TableData) × IsToldOf job.now table merged.now }
+    requires worth { IsWorth merged.now.at_start }
+    ensures answer { (table : TableData) → IsToldOf job.now table merged.now
+        → IfOk result (λ answer. answer_data answer ≡ table_answer [] job.now table) }
+    ensures status { IfOk result (λ answer. ¬ IsCutShort answer.status) }
+    ensures ok { (table : TableData) → IsToldOf job.now table merged.now
+        → OnOk result (AreStored (stored_table name.now job.now table)
+        (H.state shelf.old) (H.state shelf.new)) }
+    ensures err { (table : TableData) → IsToldOf job.now table merged.now
+        → OnErr result ((H.state shelf.new ≡ H.state shelf.old)
+        ⊎ AreStoredUpTo (stored_table name.now job.now table)
+        (H.state shelf.old) (H.state shelf.new)) }
+    ensures never_falls { NoCountFalls (H.state shelf.old) (H.state shelf.new) }
+    ensures faults { OnOk result ((H.state shelf.new).faults ≡ (H.state shelf.old).faults) }
+    ensures failed { IsErrOf result StoreFault.Failed →
+        Rose (H.state shelf.old).faults (H.state shelf.new).faults }
+    ensures cause { IsErrOf result StoreFault.Failed →
+        HasDueCall (H.state shelf.old) (H.state shelf.new) }
+{
+    let answer = told_answer(alloc, merged.rows.heads.len(), merged.at_start)?;
+    let mut text = MergedText::open(alloc, job, merged)?;
     store_pieces(alloc, name, &mut text, shelf)?;
     Ok(answer)
 }

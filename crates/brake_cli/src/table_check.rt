@@ -8,12 +8,13 @@ ghost use Rattle.command_runner.specs.Delivery.{IsCutShort};
 ghost use Rattle.cert_merge.specs.Table.{table_data};
 ghost use Rattle.brake_cli.specs.TableAnswer.{IsTrueTable};
 ghost use Rattle.brake_cli.specs.TableCheck.{table_refusal_words, table_refused_line};
-ghost use Rattle.brake_cli.specs.TableStops.{ChecksTable, IsTableRefusalAnd};
+ghost use Rattle.brake_cli.specs.TableStops.{ChecksTable, ChecksText, IsTableRefusalAnd};
 
 use brake_text::put_word;
 use cert_check::CheckFault;
 use cert_merge::{ProveFault, TableFault, TableFile, prove_text, read_table};
 use command_runner::{Answer, Status};
+use job_setup::Job;
 use plan_cert::{CertFault, put_count};
 use std::alloc::{AllocError, AllocFailed, Global};
 
@@ -83,6 +84,24 @@ pub fn checked_table(alloc: Global, text: &[u8]) -> Result<TableFile, TableStop>
     prove_text(alloc, text)?;
     let file = read_table(alloc, text)?;
     Ok(file)
+}
+
+/// The text of a closed table, with the job that it gives.
+#[derive(Drop)]
+pub struct CheckedText<'a> {
+    pub job: Job,
+    pub text: &'a [u8],
+}
+
+/// The same check, where the table's text is all that is kept of it.
+pub fn checked_text<'a>(alloc: Global, text: &'a [u8]) -> Result<CheckedText<'a>, TableStop>
+    ensures value { ChecksText text.now result }
+{
+    let proved = prove_text(alloc, text)?;
+    Ok(CheckedText {
+        job: proved.job,
+        text,
+    })
 }
 
 /// A number, and behind it those of a row and an action.

@@ -139,7 +139,7 @@ is_joined : (a b : Settled) (s t : Bool) → is_at_most b.worth a.worth ≡ s �
 unfolding join_by
 is_joined a b s t e f = λ i. if e i then (if f i then united a b else a) else b
 
-same_worth : (a b : Settled) → is_at_most b.worth a.worth ≡ true → is_at_most a.worth b.worth ≡ true → a.worth ≡ b.worth
+pub same_worth : (a b : Settled) → is_at_most b.worth a.worth ≡ true → is_at_most a.worth b.worth ≡ true → a.worth ≡ b.worth
 same_worth a b e f = at_most_both a.worth b.worth (most_told _ _ f) (most_told _ _ e)
 
 united_commutes : (a b : Settled) → a.worth ≡ b.worth → united a b ≡ united b a

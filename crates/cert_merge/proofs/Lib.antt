@@ -11,7 +11,7 @@ pub mod Writing
 pub mod MergedForm
 pub mod MergedClosed
 pub mod MergeLaws
-pub mod TableCollecting
+pub mod MergeOf
 pub mod TableExact
 pub mod TableWritten
 pub mod TableChecking
@@ -33,3 +33,11 @@ pub mod PutRows
 pub mod PieceTexts
 pub mod TableTold
 pub mod TableLeft
+pub mod NoteBytes
+pub mod RowCuts
+pub mod UnitedRows
+pub mod JoinedRows
+pub mod MergingTexts
+pub mod SaidTexts
+pub mod MergedParts
+pub mod MergeToldOf

@@ -54,7 +54,7 @@ pub record IsSaidOf (job : JobData) (key : Key) (said : Settled) : Type 0 where
   pub fits : Fits key said
 
 -- a reason of two that are joined is one of them
-one_reason : (a b : Option Reason) (reason : Reason) → first_reason a b ≡ Some reason → (a ≡ Some reason) ⊎ (b ≡ Some reason)
+pub one_reason : (a b : Option Reason) (reason : Reason) → first_reason a b ≡ Some reason → (a ≡ Some reason) ⊎ (b ≡ Some reason)
 one_reason None b reason e = inr e
 one_reason (Some a) None reason e = inl e
 one_reason (Some a) (Some b) reason e = by_test (stands_before (reason_place b) (reason_place a)) e
@@ -83,7 +83,7 @@ fits_none None never = refl
 fits_none (Some reason) never = absurd (never reason refl)
 
 -- what a well formed table says of its keys
-table_says : (job : JobData) (t : TableData) → IsTable job t → Each (IsSaidOf job) (table_said t)
+pub table_says : (job : JobData) (t : TableData) → IsTable job t → Each (IsSaidOf job) (table_said t)
 unfolding most_actions
 table_says job t is = said_each (IsSaidOf job) t.notes 0 t.rows says
   where
@@ -116,6 +116,9 @@ module _ (job : JobData) (a b : TableData) (is_a : IsTable job a) (is_b : IsTabl
   each_kept : (P Q : Key → Settled → Type 0) → ((key : Key) (said : Settled) → P key said → Q key said) → (rows : Rows) → Each P rows → Each Q rows
   each_kept P Q to [] all = tt
   each_kept P Q to (row ∷ rows) all = (to row.0 row.1 all.0, each_kept P Q to rows all.1)
+
+  pub merged_fits : Each Fits (merge_rows (table_said a) (table_said b))
+  merged_fits = each_kept (IsSaidOf job) Fits (λ key said is. is.fits) (merge_rows (table_said a) (table_said b)) each
 
   -- the merge is well formed
   pub merged_form : AreRows job (heads (merge_rows (table_said a) (table_said b))) (flat 0 (merge_rows (table_said a) (table_said b)))

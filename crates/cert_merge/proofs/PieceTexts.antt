@@ -46,7 +46,7 @@ noted_at : (row action : ℕ) (reason : Option Reason) → AreAt row (noted_as r
 noted_at row action None = tt
 noted_at row action (Some reason) = (refl, tt)
 
-notes_at : (row : ℕ) (reasons : ℕ → Option Reason) (count : ℕ) → AreAt row (notes_upto row reasons count)
+pub notes_at : (row : ℕ) (reasons : ℕ → Option Reason) (count : ℕ) → AreAt row (notes_upto row reasons count)
 notes_at row reasons zero = tt
 notes_at row reasons (suc count) = at_all row (notes_upto row reasons count) (noted_as row count (reasons count)) (notes_at row reasons count) (noted_at row count (reasons count))
 
@@ -62,7 +62,7 @@ same_lines stages row other reasons (suc count) =
     ∙ (λ i. same_lines stages row other reasons count i ++ same_line stages row other count (reasons count) i)
     ∙ sym (map-append (line_of_note stages) (notes_upto other reasons count) (noted_as other count (reasons count)))
 
-no_lines : (stages : ℕ) → rows_text stages (written []) ≡ []
+pub no_lines : (stages : ℕ) → rows_text stages (written []) ≡ []
 unfolding rows_lines
 no_lines stages = refl
 

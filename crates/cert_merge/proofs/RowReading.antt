@@ -21,44 +21,22 @@ use Rattle.cert_check.specs.declared.read_cert.ReadCert.{ReadCert}
 use Rattle.cert_check.specs.ReadCert.{AreRefused, IsGivenBy, IsRead, IsRowFirst, ReadAnswer}
 use Rattle.cert_check.proofs.ReadLemmas.{rows_first}
 use Rattle.cert_merge.specs.Table.{TableData, TableFileData}
-use Rattle.cert_merge.specs.TableTexts.{with_job, table_file_of, IsTextOfTable}
+use Rattle.cert_merge.specs.TableTexts.{as_table, IsTextOfTable}
 use Rattle.cert_merge.specs.ReadRows.{IsReadTable, RowsRead}
-use Rattle.cert_merge.proofs.TableCollecting.{file_of}
-use Rattle.cert_merge.proofs.TableExact.{of_cert, rows_of, same_rows, as_cert, items_give, text_of_given, no_table}
-
--- ---- a text that was refused
-abbrev file_by : JobData → Result TableData CertFault → Result TableFileData CertFault
-file_by job (Ok table) = Ok (record { job = job; table = table })
-file_by job (Err fault) = Err fault
-
-abbrev refusal : CertFault → Result TableFileData CertFault
-refusal fault = Err fault
-
-answers_refused : (answers : List (Result Item CertFault)) (fault : CertFault) → AreRefused answers fault → with_job answers ≡ Err fault
-unfolding with_job
-answers_refused [] fault is = absurd is
-answers_refused (Err own ∷ more) fault is = ap refusal is
-answers_refused (Ok (given.Job job) ∷ more) fault is = ap (file_by job) (same_rows no_cert more ∙ ap rows_of is)
-answers_refused (Ok (given.Claim claim) ∷ more) fault is = absurd is
-answers_refused (Ok (given.Step step) ∷ more) fault is = absurd is
-answers_refused (Ok (given.Row head) ∷ more) fault is = absurd is
-answers_refused (Ok (given.Note action reason) ∷ more) fault is = absurd is
-answers_refused (Ok given.End ∷ more) fault is = absurd is
-
-text_refused : (text : List ℕ) (fault : CertFault) → AreRefused (items Table text) fault → table_file_of text ≡ Err fault
-unfolding table_file_of
-text_refused text fault is = answers_refused (items Table text) fault is
+use Rattle.plan_cert.proofs.Collecting.{file_is}
+use Rattle.cert_check.proofs.CertTexts.{text_refused}
+use Rattle.cert_merge.proofs.TableExact.{as_cert, items_give, text_of_given, no_table}
 
 -- ---- a text that was read
 module _ (text : List ℕ) (read : ReadCert) (is : IsRead Table text read) where
   abbrev t : TableData
-  t = of_cert is.cert
+  t = record { rows = is.cert.rows; notes = is.cert.notes }
 
   abbrev file : TableFileData
   file = record { job = read.job; table = t }
 
   written : IsTextOfTable file text
-  written = text_of_given text file (file_of text read.job is.behind_job t is.starts (same_rows no_cert is.behind_job ∙ ap rows_of is.completes))
+  written = text_of_given text file (ap as_table (file_is Table text read.job is.behind_job is.cert is.starts is.completes))
 
   -- the answers behind the job
   behind_are : is.behind_job ≡ map Ok (rows_items t.rows t.notes ++ given.End ∷ [])
@@ -97,7 +75,7 @@ module _ (text : List ℕ) (read : ReadCert) (is : IsRead Table text read) where
 
 -- ---- what the reading of a table's text comes to
 pub rows_read : (text : List ℕ) (result : Result ReadCert CheckFault) → ReadAnswer Table text result → RowsRead text result
-rows_read text (Ok read) is = (of_cert is.cert, table_read text read is)
-rows_read text (Err (Cert fault)) is = no_table text fault (text_refused text fault is)
+rows_read text (Ok read) is = (record { rows = is.cert.rows; notes = is.cert.notes }, table_read text read is)
+rows_read text (Err (Cert fault)) is = no_table text fault (ap as_table (text_refused Table text fault is))
 rows_read text (Err NoMemory) is = tt
 rows_read text (Err _) is = is

@@ -34,7 +34,7 @@ use Rattle.plan_cert.proofs.ReasonRanges.{reason_ranged}
 use Rattle.plan_cert.proofs.RowOrder.{few_stages}
 use Rattle.row_text.specs.Notes.{SetNotes, IsAmong, number_at, reason_at, note_at, notes_of, GoOnAs}
 use Rattle.row_text.proofs.ActionPlaces.{number_of_place, place_below, stage_of_place, same_place}
-use Rattle.row_text.proofs.SetLists.{one_more, keep, skip}
+use Rattle.plan_cert.proofs.NoteSets.{one_more, keep, skip}
 use Rattle.cert_merge.specs.declared.set_writer.SetWriter.{SetWriter}
 use Rattle.cert_merge.specs.declared.settled_sets.SettledSet.{SettledSet}
 use Rattle.cert_merge.specs.declared.settled_sets.SettledSets.{SettledSets}

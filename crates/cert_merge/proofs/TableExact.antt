@@ -15,50 +15,17 @@ use Rattle.plan_cert.specs.declared.item.CertFault.TheVariants as faults
 use Rattle.plan_cert.specs.Cert.{CertData}
 use Rattle.plan_cert.specs.Items.{items}
 use Rattle.plan_cert.specs.CertItems.{rows_items}
-use Rattle.plan_cert.specs.CertReading.{no_cert, cert_of, with_item as with_cert_item, is_last}
+use Rattle.plan_cert.specs.CertReading.{CertFileData, no_cert, cert_of, file_of}
 use Rattle.plan_cert.specs.ExactItems.{IsReadToEnd}
 use Rattle.plan_cert.proofs.NoteOrder.{ascend}
 use Rattle.plan_cert.proofs.RowOrder.{few_rows}
-use Rattle.plan_cert.proofs.Endings.{Ends}
-use Rattle.plan_cert.proofs.Collecting.{ends_items}
+use Rattle.plan_cert.proofs.Collecting.{ends_items, file_is}
+use Rattle.plan_cert.proofs.ReadWell.{accepted_file}
 use Rattle.plan_cert.proofs.PlanWritten.{oks, fold_rows, own_notes, all_own}
 use Rattle.plan_cert.proofs.WholeTexts.{reads_table_texts}
 use Rattle.cert_merge.specs.Table.{TableData, TableFileData}
-use Rattle.cert_merge.specs.TableTexts.{empty_table, with_item, table_of, with_job, table_file_of, IsTextOfTable, GivesBack}
+use Rattle.cert_merge.specs.TableTexts.{table_file, as_table, table_file_of, IsTextOfTable, GivesBack}
 use Rattle.cert_merge.specs.ProvedTable.{IsNoTable}
-use Rattle.cert_merge.proofs.TableCollecting.{file_of}
-
--- the rows and notes of a certificate
-abbrev pub of_cert : CertData → TableData
-of_cert c = record { rows = c.rows; notes = c.notes }
-
-abbrev pub rows_of : Result CertData CertFault → Result TableData CertFault
-rows_of (Ok c) = Ok (of_cert c)
-rows_of (Err fault) = Err fault
-
-same_item : (c : CertData) (item : Item) → with_item (of_cert c) item ≡ of_cert (with_cert_item c item)
-same_item c (given.Job job) = refl
-same_item c (given.Claim claim) = refl
-same_item c (given.Step step) = by_test (nat_lt (length c.steps) 12)
-  where
-    by_test : (b : Bool) → of_cert c ≡ of_cert (if b then record c { steps = c.steps ++ step ∷ [] } else c)
-    by_test true = refl
-    by_test false = refl
-same_item c (given.Row row) = refl
-same_item c (given.Note action reason) = refl
-same_item c given.End = refl
-
--- items give the rows and notes that they give a certificate
-pub same_rows : (c : CertData) (answers : List (Result Item CertFault)) → table_of (of_cert c) answers ≡ rows_of (cert_of c answers)
-unfolding table_of cert_of
-same_rows c [] = refl
-same_rows c (Err fault ∷ more) = refl
-same_rows c (Ok item ∷ more) = by_test (is_last item) (ap (λ (t : TableData). table_of t more) (same_item c item) ∙ same_rows (with_cert_item c item) more)
-  where
-    by_test : (b : Bool) → table_of (with_item (of_cert c) item) more ≡ rows_of (cert_of (with_cert_item c item) more)
-        → (if b then Ok (of_cert c) else table_of (with_item (of_cert c) item) more) ≡ rows_of (if b then Ok c else cert_of (with_cert_item c item) more)
-    by_test true e = refl
-    by_test false e = e
 
 end_only : (c : CertData) → cert_of c (Ok given.End ∷ []) ≡ Ok c
 unfolding cert_of
@@ -89,59 +56,27 @@ text_gives text file is =
     let behind : List (Result Item CertFault) = oks (rows_items rows notes) ++ Ok given.End ∷ [] in
     let first : items Table text ≡ Ok (given.Job file.job) ∷ behind =
     (reads_table_texts text).each file.job rows notes is ∙ ap (λ (a : List (Result Item CertFault)). Ok (given.Job file.job) ∷ a) (map-append Ok (rows_items rows notes) (given.End ∷ [])) in
-    file_of text file.job behind file.table first (same_rows no_cert behind ∙ ap rows_of (items_give file text is))
+    ap as_table (file_is Table text file.job behind (as_cert file.table) first (items_give file text is))
 
-last_is : (item : Item) → is_last item ≡ true → item ≡ given.End
-last_is given.End e = refl
-last_is (given.Job job) e = absurd (false≢true e)
-last_is (given.Claim claim) e = absurd (false≢true e)
-last_is (given.Step step) e = absurd (false≢true e)
-last_is (given.Row row) e = absurd (false≢true e)
-last_is (given.Note action reason) e = absurd (false≢true e)
-
--- items that give a table end with the end
-to_end : (t u : TableData) (answers : List (Result Item CertFault)) → Ends answers → table_of t answers ≡ Ok u → (body : List Item) × (answers ≡ oks (body ++ given.End ∷ []))
-unfolding table_of
-to_end t u [] ends e = absurd ends
-to_end t u (Err fault ∷ more) ends e = absurd (cc)
-to_end t u (Ok item ∷ more) (inl last) e = ([], λ i. Ok (last_is item last.0 i) ∷ last.1 i)
-to_end t u (Ok item ∷ more) (inr rest) e =
-    let on : table_of (with_item t item) more ≡ Ok u = sym (ap (λ (b : Bool). if b then Ok t else table_of (with_item t item) more) rest.0) ∙ e in
-    let behind = to_end (with_item t item) u more rest.1 on in
-    (item ∷ behind.0, ap (λ (a : List (Result Item CertFault)). Ok item ∷ a) behind.1)
-
--- a file is given
-abbrev Gives : Result TableFileData CertFault → TableFileData → Type 0
-Gives r file = r ≡ Ok file
-
-begins_with : (answers : List (Result Item CertFault)) (file : TableFileData) → Ends answers → with_job answers ≡ Ok file → (body : List Item) × (answers ≡ oks (body ++ given.End ∷ []))
-unfolding with_job
-begins_with [] file ends e = absurd ends
-begins_with (Err fault ∷ more) file ends e = absurd (cc)
-begins_with (Ok (given.Job job) ∷ more) file (inl last) e = absurd (false≢true last.0)
-begins_with (Ok (given.Job job) ∷ more) file (inr rest) e = by_table (table_of empty_table more) refl e
-  where
-    by_table : (r : Result TableData CertFault) → table_of empty_table more ≡ r → Gives (elim r [ Ok t ↦ Ok (record { job = job; table = t }) | Err fault ↦ Err fault ]) file → (body : List Item) × ((Ok (given.Job job) ∷ more) ≡ oks (body ++ given.End ∷ []))
-    by_table (Ok t) is e =
-        let behind = to_end empty_table t more rest.1 is in
-        (given.Job job ∷ behind.0, ap (λ (a : List (Result Item CertFault)). Ok (given.Job job) ∷ a) behind.1)
-    by_table (Err fault) is e = absurd (cc)
-begins_with (Ok (given.Claim claim) ∷ more) file ends e = absurd (cc)
-begins_with (Ok (given.Step step) ∷ more) file ends e = absurd (cc)
-begins_with (Ok (given.Row row) ∷ more) file ends e = absurd (cc)
-begins_with (Ok (given.Note action reason) ∷ more) file ends e = absurd (cc)
-begins_with (Ok given.End ∷ more) file ends e = absurd (cc)
+-- what gives a file is read to its end
+to_end : (text : List ℕ) (read : CertFileData) → file_of Table text ≡ Ok read → IsReadToEnd Table text
+unfolding file_of
+to_end text read is =
+    let its = accepted_file text read (items Table text) (ends_items Table text) is in
+    (its.0, its.1 ∙ sym (map-append Ok its.0 (given.End ∷ [])))
 
 -- what a text gives is the table of which it is the text
 pub text_of_given : (text : List ℕ) (file : TableFileData) → table_file_of text ≡ Ok file → IsTextOfTable file text
-unfolding table_file_of
-text_of_given text file e =
-    let read : IsReadToEnd Table text = begins_with (items Table text) file (ends_items Table text) e in
-    let its = (reads_table_texts text).only read in
-    let other : TableFileData = record { job = its.0; table = record { rows = its.1; notes = its.2 } } in
-    let again : table_file_of text ≡ Ok other = text_gives text other its.3 in
-    let same : file ≡ other = same_Some file other (ap result_ok (sym e ∙ again)) in
-    subst (λ (f : TableFileData). IsTextOfTable f text) (sym same) its.3
+text_of_given text file e = by_file (file_of Table text) refl e
+  where
+    by_file : (r : Result CertFileData CertFault) → file_of Table text ≡ r → as_table r ≡ Ok file → IsTextOfTable file text
+    by_file (Err fault) is e = absurd (cc)
+    by_file (Ok read) is e =
+        let its = (reads_table_texts text).only (to_end text read is) in
+        let other : TableFileData = record { job = its.0; table = record { rows = its.1; notes = its.2 } } in
+        let same : table_file read ≡ other = same_Some (table_file read) other (ap result_ok (sym (ap as_table is) ∙ text_gives text other its.3)) in
+        let here : file ≡ table_file read = same_Some file (table_file read) (ap result_ok (sym e)) in
+        subst (λ (f : TableFileData). IsTextOfTable f text) (sym (here ∙ same)) its.3
 
 ok_not_err : (r : Result TableFileData CertFault) (file : TableFileData) (fault : CertFault) → r ≡ Ok file → r ≡ Err fault → ⊥
 ok_not_err r file fault one two = absurd (cc)

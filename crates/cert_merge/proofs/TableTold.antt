@@ -11,7 +11,7 @@ use Rattle.plan_cert.specs.Lines.{CertLine, lines_text, row_line}
 use Rattle.plan_cert.specs.CertText.{line_of_note}
 use Rattle.plan_cert.specs.WellFormed.{NoteIsBefore}
 use Rattle.row_text.specs.Notes.{SetNotes, IsAmong, note_at, notes_of}
-use Rattle.row_text.proofs.SetLists.{no_places}
+use Rattle.plan_cert.proofs.NoteSets.{no_places}
 use Rattle.cert_merge.specs.declared.table_writer.Span.{Span}
 use Rattle.cert_merge.specs.declared.table_writer.TableWriter.{TableWriter}
 use Rattle.cert_merge.specs.Merged.{reason_noted}

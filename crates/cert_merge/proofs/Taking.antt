@@ -33,7 +33,7 @@ key_outside (first ∷ rows) zero within e = absurd (cc)
 key_outside (first ∷ rows) (suc row) within e = key_outside rows row (omega (arith, within)) e
 
 -- the key of the first row
-abbrev first_key : Rows → Option Key
+abbrev pub first_key : Rows → Option Key
 first_key [] = None
 first_key (row ∷ rows) = Some row.0
 
@@ -93,7 +93,7 @@ merge_none [] = refl
 merge_none (x ∷ xs) = refl
 
 -- the first row of the merge
-takes_first : (x : Key × Settled) (xs ys : Rows) → next_of (Some x.0) (first_key ys) ≡ First → merge_rows (x ∷ xs) ys ≡ x ∷ merge_rows xs ys
+pub takes_first : (x : Key × Settled) (xs ys : Rows) → next_of (Some x.0) (first_key ys) ≡ First → merge_rows (x ∷ xs) ys ≡ x ∷ merge_rows xs ys
 takes_first x xs [] e = ap (λ (rows : Rows). x ∷ rows) (sym (merge_none xs))
 takes_first x xs (y ∷ ys) e = by_tests (key_before x.0 y.0) (key_before y.0 x.0) e
   where
@@ -103,7 +103,7 @@ takes_first x xs (y ∷ ys) e = by_tests (key_before x.0 y.0) (key_before y.0 x.
     by_tests false true e = absurd (not_first e)
     by_tests false false e = absurd (both_not_first e)
 
-takes_second : (y : Key × Settled) (xs ys : Rows) → next_of (first_key xs) (Some y.0) ≡ Second → merge_rows xs (y ∷ ys) ≡ y ∷ merge_rows xs ys
+pub takes_second : (y : Key × Settled) (xs ys : Rows) → next_of (first_key xs) (Some y.0) ≡ Second → merge_rows xs (y ∷ ys) ≡ y ∷ merge_rows xs ys
 takes_second y [] ys e = refl
 takes_second y (x ∷ xs) ys e = by_tests (key_before x.0 y.0) (key_before y.0 x.0) e
   where
@@ -113,7 +113,7 @@ takes_second y (x ∷ xs) ys e = by_tests (key_before x.0 y.0) (key_before y.0 x
     by_tests false true e = refl
     by_tests false false e = absurd (both_not_second e)
 
-takes_both : (x y : Key × Settled) (xs ys : Rows) → next_of (Some x.0) (Some y.0) ≡ Both → (merge_rows (x ∷ xs) (y ∷ ys) ≡ (x.0, joined x.1 y.1) ∷ merge_rows xs ys) × (x.0 ≡ y.0)
+pub takes_both : (x y : Key × Settled) (xs ys : Rows) → next_of (Some x.0) (Some y.0) ≡ Both → (merge_rows (x ∷ xs) (y ∷ ys) ≡ (x.0, joined x.1 y.1) ∷ merge_rows xs ys) × (x.0 ≡ y.0)
 takes_both x y xs ys e = by_tests (key_before x.0 y.0) (key_before y.0 x.0) refl refl e
   where
     by_tests : (s t : Bool) → key_before x.0 y.0 ≡ s → key_before y.0 x.0 ≡ t → (if s then First else if t then Second else Both) ≡ Both

@@ -13,11 +13,11 @@ use Rattle.cert_merge.specs.Entries.{Settled, joined}
 use Rattle.cert_merge.specs.MergeSteps.{Rows, IsOrderly, key_before, merge_rows, left_of, row_said, table_said, heads, head_of, flat, notes_upto, most_actions, written, with_row}
 use Rattle.cert_merge.proofs.Cuts.{length_said}
 
-heads_push : (rows : Rows) (row : Key × Settled) → heads (rows ++ row ∷ []) ≡ heads rows ++ head_of row ∷ []
+pub heads_push : (rows : Rows) (row : Key × Settled) → heads (rows ++ row ∷ []) ≡ heads rows ++ head_of row ∷ []
 heads_push [] row = refl
 heads_push (r ∷ rows) row = ap (λ (hs : List RowHead). head_of r ∷ hs) (heads_push rows row)
 
-flat_push : (from : ℕ) (rows : Rows) (row : Key × Settled) → flat from (rows ++ row ∷ []) ≡ flat from rows ++ notes_upto (from + length rows) row.1.reasons most_actions
+pub flat_push : (from : ℕ) (rows : Rows) (row : Key × Settled) → flat from (rows ++ row ∷ []) ≡ flat from rows ++ notes_upto (from + length rows) row.1.reasons most_actions
 flat_push from [] row =
     let none : from ≡ from + 0 = omega arith in
     append-nil (notes_upto from row.1.reasons most_actions) ∙ ap (λ (n : ℕ). notes_upto n row.1.reasons most_actions) none

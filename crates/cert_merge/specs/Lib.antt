@@ -17,3 +17,7 @@ pub mod TableRows
 pub mod TablePieces
 pub mod SettledPieces
 pub mod SettledText
+pub mod RowTexts
+pub mod UnitedRows
+pub mod MergedRows
+pub mod MergedTexts

@@ -3,9 +3,13 @@
 
 mod checked;
 mod merged;
+mod merged_rows;
+mod merged_text;
+mod merged_texts;
 mod noted_row;
 mod proved;
 mod read_rows;
+mod row_texts;
 mod set_actions;
 mod set_worths;
 mod set_writer;
@@ -17,9 +21,13 @@ mod table;
 mod table_pieces;
 mod table_writer;
 mod texts;
+mod united_rows;
 
 pub use checked::{TableFault, check_table, proved_at_start};
 pub use merged::merge;
+pub use merged_rows::MergedRows;
+pub use merged_text::MergedText;
+pub use merged_texts::{MergedTexts, merge_texts};
 pub use proved::{ProveFault, ProvedTable, prove_text, prove_text_from};
 pub use settled::settle;
 pub use settled_pieces::SettledPieces;

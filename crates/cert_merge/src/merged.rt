@@ -19,7 +19,7 @@ struct Taken {
 
 /// Which of two tables has the next key.
 #[derive(Clone, Copy)]
-enum Next {
+pub(crate) enum Next {
     First,
     Second,
     Both,
@@ -101,7 +101,7 @@ fn key_at(table: &Table, row: usize) -> Option<Key>
 }
 
 /// Which of two next keys comes first.
-fn next_of(first: Option<Key>, second: Option<Key>) -> Next
+pub(crate) fn next_of(first: Option<Key>, second: Option<Key>) -> Next
     ensures { result ≡ next_of first second }
 {
     match (first, second) {
@@ -144,7 +144,10 @@ fn joined(first: &NotedRow, second: &NotedRow) -> NotedRow
 }
 
 /// The reasons of both, of two against one action the first.
-fn united(first: &[Option<Reason>; 144], second: &[Option<Reason>; 144]) -> [Option<Reason>; 144]
+pub(crate) fn united(
+    first: &[Option<Reason>; 144],
+    second: &[Option<Reason>; 144],
+) -> [Option<Reason>; 144]
     ensures { (action : ℕ) → slice_index_or result action None
         ≡ first_reason (slice_index_or first.now action None)
         (slice_index_or second.now action None) }

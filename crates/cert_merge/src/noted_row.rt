@@ -94,7 +94,7 @@ pub(crate) fn put_row(table: &mut Table, row: &NotedRow) -> Result<(), AllocErro
 }
 
 /// Puts a note for each reason, in the order of the actions.
-fn put_reasons(
+pub(crate) fn put_reasons(
     notes: &mut Vec<Note>,
     row: u32,
     reasons: &[Option<Reason>; 144],

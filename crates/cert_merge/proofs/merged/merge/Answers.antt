@@ -2,22 +2,10 @@ use Rattle.std.proofs.Common.{◌≡◌, sym, subst}
 use Rattle.cert_merge.specs.declared.table.Table.{Table}
 use Rattle.cert_merge.specs.Table.{TableData, table_data}
 use Rattle.cert_merge.specs.Merged.{IsMerged, KeepsForm, KeepsClosed}
-use Rattle.cert_merge.specs.MergeSteps.{merge_rows, table_said, written}
-use Rattle.cert_merge.proofs.MergedForm.{orderly, is_merged, merged_form}
-use Rattle.cert_merge.proofs.MergedClosed.{merged_closed}
+use Rattle.cert_merge.proofs.MergedForm.{orderly, is_merged}
+use Rattle.cert_merge.proofs.MergeOf.{merge_of, keeps_form, keeps_closed}
 use Rattle.cert_merge.proofs.MergeLaws.{merge_laws, ok_map}
 use Rattle.cert_merge.proofs.merged.merge.Goals as goal
-
--- the rows of the merge, written
-abbrev merge_of : TableData → TableData → TableData
-merge_of a b = written (merge_rows (table_said a) (table_said b))
-
-keeps_form : (a b : TableData) → KeepsForm a b (merge_of a b)
-keeps_form a b job is_a is_b = record { valid = is_a.valid; rows = merged_form job a b is_a is_b }
-
-keeps_closed : (a b : TableData) → KeepsClosed a b (merge_of a b)
-keeps_closed a b job is_a is_b closed_a closed_b =
-    merged_closed job a b (merge_of a b) is_a is_b (keeps_form a b job is_a is_b) (is_merged job a b is_a is_b) closed_a closed_b
 
 pub merge_from_front-requires-clause-first : goal.merge_from_front-requires-clause-first
 merge_from_front-requires-clause-first c = orderly c.requires.0 (table_data c.args.a.now) c.requires.1

@@ -1,0 +1,40 @@
+//! The merge of two tables of a job by their texts.
+ghost use Rattle.std.specs.Prelude.{IfOk};
+ghost use Rattle.plan_cert.specs.WellFormed.{IsWorth};
+ghost use Rattle.cert_merge.specs.Table.{TableData};
+ghost use Rattle.cert_merge.specs.MergedRows.{AreTextsOf};
+ghost use Rattle.cert_merge.specs.MergedTexts.{IsMergeOfTexts};
+
+use crate::checked::proved;
+use crate::merged_rows::{MergedRows, merged_rows};
+use brake_base::Worth;
+use handling_cost::start_key;
+use job_setup::Job;
+use std::alloc::{AllocError, Global};
+
+/// The merge of two tables, as parts of their texts, with what its rows prove of the start key, in tenths
+/// of a second.
+#[derive(Drop)]
+pub struct MergedTexts<'a> {
+    pub rows: MergedRows<'a>,
+    pub at_start: Worth,
+}
+
+/// The merge of two tables of a job, as `merge` gives it, by their texts. A row that stays is its bytes;
+/// rows of one key with one worth and other notes alone are put together note by note.
+pub fn merge_texts<'a>(
+    alloc: Global,
+    job: &Job,
+    first: &'a [u8],
+    second: &'a [u8],
+) -> Result<MergedTexts<'a>, AllocError>
+    requires { (a : TableData) × (b : TableData) × AreTextsOf job.now a b first.now second.now }
+    ensures merged { IfOk result (λ merged. (a b : TableData)
+        → AreTextsOf job.now a b first.now second.now → IsMergeOfTexts job.now a b merged) }
+    ensures small { IfOk result (λ merged. IsWorth merged.at_start) }
+{
+    job.recall_valid();
+    let rows = merged_rows(alloc, job, first, second)?;
+    let at_start = proved(job, rows.heads.as_slice(), &start_key());
+    Ok(MergedTexts { rows, at_start })
+}
