@@ -1,5 +1,5 @@
 -- From what the calls on tables say to what the commands answer.
-use Rattle.std.proofs.Common.{◌≡◌, ◌⊎◌, inl, inr, ℕ, List, [], ◌∷◌, ◌++◌, ◌∙◌, Result, Ok, Err, refl, sym, subst}
+use Rattle.std.proofs.Common.{◌≡◌, ◌⊎◌, inl, inr, ℕ, List, [], ◌++◌, ◌∙◌, Result, Ok, Err, sym, subst}
 use Rattle.std.specs.Prelude.{codes, IfOk, OnOk, OnErr}
 use Rattle.job_setup.specs.Setup.{JobData}
 use Rattle.plan_cert.specs.declared.item.CertFault.{CertFault}
@@ -10,14 +10,12 @@ use Rattle.cert_merge.specs.declared.proved.ProveFault.{ProveFault}
 use Rattle.cert_merge.specs.declared.proved.ProveFault.TheVariants as prove
 use Rattle.cert_merge.specs.declared.proved.ProvedTable.{ProvedTable}
 use Rattle.cert_merge.specs.ProvedTable.{IsCheckedTable, IsProvedText, ProvesText}
-use Rattle.cert_merge.specs.TableTexts.{table_file_of, empty_table, IsTextOfTable}
+use Rattle.cert_merge.specs.TableTexts.{table_file_of, IsTextOfTable}
 use Rattle.cert_merge.specs.TableChecks.{IsTableFault}
 use Rattle.cert_merge.specs.Merged.{IsMerged, KeepsForm, KeepsClosed}
 use Rattle.cert_merge.specs.declared.settled_text.SettledText.{SettledText}
-use Rattle.cert_merge.specs.Settled.{IsSettled, StaysClosed, ProvesLeast}
 use Rattle.cert_merge.specs.SettledText.{IsSettledText}
 use Rattle.cert_merge.proofs.TableExact.{one_table}
-use Rattle.cert_merge.proofs.SettledLaws.{empty_closed}
 use Rattle.cert_merge.proofs.TableChecking.{closed_is_true}
 use Rattle.command_runner.specs.declared.status.Status.TheVariants as status
 use Rattle.brake_io.specs.declared.shelf.StoreFault.{StoreFault}
@@ -125,23 +123,16 @@ merged_answers name a b merged answer same first second is_merged form closed is
   is_answer = is;
 }
 
--- the answer by what is settled over a closed base
-pub settled_answers : (name : List ℕ) (low high : ℕ) (base : TableData) (job : JobData) (settled : TableData) (answer : AnswerData) → IsClosedTable job base → IsSettled job base low high settled → IsTable job settled
-    → StaysClosed job base settled → ProvesLeast job base low high settled → answer ≡ stored_table_answer name job settled → IsSettledAnswer name low high base job answer
-settled_answers name low high base job settled answer base_closed is_settled form closed least is = record {
-  settled = settled;
-  is_settled = is_settled;
-  tells = true_table job settled form (closed base_closed);
-  least = least;
-  is_answer = is;
+-- the answer by what is settled over a closed base, of which the text is at hand
+pub settled_text_answers : (name : List ℕ) (low high : ℕ) (base : TableData) (job : JobData) (told : SettledText) (answer : AnswerData) → IsSettledText job base low high told → answer ≡ told_answer (one_stored name told.text) told.rows told.at_start
+    → IsSettledAnswer name low high base job answer
+settled_text_answers name low high base job told answer of is = record {
+  settled = of.table;
+  is_settled = of.settled;
+  tells = true_table job of.table of.form of.closed;
+  least = of.least;
+  is_answer = is ∙ (λ i. told_answer (one_stored name (of.tells.text_is i)) (of.tells.rows_are i) (of.tells.start_is i));
 }
-
--- the answer by what is settled over no base, of which the text is at hand
-pub settled_text_answers : (name : List ℕ) (low high : ℕ) (job : JobData) (told : SettledText) (answer : AnswerData) → IsSettledText job low high told → answer ≡ told_answer (one_stored name told.text) told.rows told.at_start
-    → IsSettledAnswer name low high empty_table job answer
-settled_text_answers name low high job told answer of is =
-    settled_answers name low high empty_table job of.table answer (empty_closed job) of.settled of.form of.closed of.least
-    (is ∙ (λ i. told_answer (one_stored name (of.tells.text_is i)) (of.tells.rows_are i) (of.tells.start_is i)))
 
 -- ---- an answer of which these texts are stored, and this is left
 module _ (IsIt : AnswerData → Type 0) (stored : List StoredData) (rest : AnswerData) (whole : IsIt (after_storing stored rest)) (all : stored ≡ stored ++ rest.stored) where

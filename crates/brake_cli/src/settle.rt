@@ -4,7 +4,8 @@ ghost use Rattle.std.specs.Vec.{vec_items};
 ghost use Rattle.job_setup.specs.Setup.{bend_count};
 ghost use Rattle.brake_io.specs.Rose.{Rose};
 ghost use Rattle.brake_io.specs.Meanings.{NoCountFalls};
-ghost use Rattle.cert_merge.specs.Table.{table_data, table_file_data, IsTable, IsClosedTable};
+ghost use Rattle.cert_merge.specs.SettledText.{IsClosedText};
+ghost use Rattle.cert_merge.specs.Table.{TableData};
 ghost use Rattle.cert_merge.specs.TableTexts.{empty_table};
 ghost use Rattle.command_runner.specs.declared.status.Status.TheVariants as status;
 ghost use Rattle.command_runner.specs.Answers.{answer_data, refusal};
@@ -13,15 +14,15 @@ ghost use Rattle.command_runner.specs.Delivery.{IsCutShort};
 ghost use Rattle.command_runner.specs.Ends.{StoresFirst, StoresBeginning};
 ghost use Rattle.brake_cli.specs.PlanAnswer.{IsStoredOf};
 ghost use Rattle.brake_cli.specs.TableCheck.{AnswersTable};
-ghost use Rattle.brake_cli.specs.TableAnswer.{IsTrueTable};
+ghost use Rattle.brake_cli.specs.TableStops.{checked_file, IsCheckedText};
 ghost use Rattle.brake_cli.specs.SettleAnswer.{IsRange, AnswersRange, IsSettledAnswer, AnswersBase, IsSettleAnswer, IsSettleOverAnswer};
 
 use crate::job_files::{content_at, is_one_job, job_at};
 use crate::refusal::stopped;
-use crate::table_answer::{other_job, settled_text_answer, stored_table_answer};
-use crate::table_check::{checked_table, table_stopped};
+use crate::table_answer::{other_job, settled_text_answer};
+use crate::table_check::{CheckedText, checked_text, table_stopped};
 use brake_io::{Shelf, StoreFault};
-use cert_merge::{Table, TableFile, settle, settle_text};
+use cert_merge::{settle_text, settle_text_over};
 use command_runner::{Answer, Status, refusal};
 use job_setup::Job;
 use std::alloc::{AllocError, Global};
@@ -51,25 +52,25 @@ fn range_refused(alloc: Global) -> Result<Answer, AllocError>
     refusal(alloc, Status::Refused, b"refused range", &[])
 }
 
-/// The answer to a range of a job over a closed base.
+/// The answer to a range of a job over the text of a closed base.
 fn settled_answer<H: Shelf>(
     alloc: Global,
     name: &str,
     range: Range,
-    base: &Table,
+    base: &[u8],
     job: &Job,
     shelf: &mut H,
 ) -> Result<Answer, StoreFault>
     requires range { IsRange range.low range.high job.now }
-    requires base { IsTable job.now (table_data base.now) }
-    requires closed { IsClosedTable job.now (table_data base.now) }
-    ensures answer { IfOk result (λ answer. StoresFirst (IsSettledAnswer name.now range.low range.high
-        (table_data base.now) job.now)
+    requires base { (table : TableData) × IsClosedText job.now table base.now }
+    ensures answer { (table : TableData) → IsClosedText job.now table base.now
+        → IfOk result (λ answer. StoresFirst
+        (IsSettledAnswer name.now range.low range.high table job.now)
         (answer_data answer) (H.state shelf.old) (H.state shelf.new)) }
     ensures status { IfOk result (λ answer. ¬ IsCutShort answer.status) }
-    ensures begins { OnErr result ((H.state shelf.new ≡ H.state shelf.old) ⊎ StoresBeginning
-        (IsStoredOf (IsSettledAnswer name.now range.low range.high
-        (table_data base.now) job.now))
+    ensures begins { (table : TableData) → IsClosedText job.now table base.now
+        → OnErr result ((H.state shelf.new ≡ H.state shelf.old) ⊎ StoresBeginning
+        (IsStoredOf (IsSettledAnswer name.now range.low range.high table job.now))
         (H.state shelf.old) (H.state shelf.new)) }
     ensures never_falls { NoCountFalls (H.state shelf.old) (H.state shelf.new) }
     ensures failed { IsErrOf result StoreFault.Failed →
@@ -77,28 +78,30 @@ fn settled_answer<H: Shelf>(
     ensures cause { IsErrOf result StoreFault.Failed →
         HasDueCall (H.state shelf.old) (H.state shelf.new) }
 {
-    let settled = settle(alloc, job, base, range.low, range.high)?;
-    stored_table_answer(alloc, name, job, settled, shelf)
+    let settled = settle_text_over(alloc, job, base, range.low, range.high)?;
+    settled_text_answer(alloc, name, settled, shelf)
 }
 
-/// The answer to a range of a job over a closed table, which is to be of this job.
+/// The answer to a range of a job over the text of a closed table, which is to be of this job.
 fn answer_to_base<H: Shelf>(
     alloc: Global,
     name: &str,
     range: Range,
     job: &Job,
-    base: &TableFile,
+    base: &CheckedText,
     shelf: &mut H,
 ) -> Result<Answer, StoreFault>
     requires range { IsRange range.low range.high job.now }
-    requires base { IsTrueTable base.now.job (table_data base.now.table) }
-    ensures answer { IfOk result (λ answer. StoresFirst (AnswersBase name.now range.low range.high job.now
-        (table_file_data base.now))
+    requires base { (table : TableData) × IsCheckedText table base.now }
+    ensures answer { (table : TableData) → IsCheckedText table base.now
+        → IfOk result (λ answer. StoresFirst (AnswersBase name.now range.low range.high job.now
+        (checked_file base.now table))
         (answer_data answer) (H.state shelf.old) (H.state shelf.new)) }
     ensures status { IfOk result (λ answer. ¬ IsCutShort answer.status) }
-    ensures begins { OnErr result ((H.state shelf.new ≡ H.state shelf.old) ⊎ StoresBeginning
+    ensures begins { (table : TableData) → IsCheckedText table base.now
+        → OnErr result ((H.state shelf.new ≡ H.state shelf.old) ⊎ StoresBeginning
         (IsStoredOf (AnswersBase name.now range.low range.high job.now
-        (table_file_data base.now)))
+        (checked_file base.now table)))
         (H.state shelf.old) (H.state shelf.new)) }
     ensures never_falls { NoCountFalls (H.state shelf.old) (H.state shelf.new) }
     ensures failed { IsErrOf result StoreFault.Failed →
@@ -108,7 +111,7 @@ fn answer_to_base<H: Shelf>(
 {
     let same = is_one_job(alloc, &base.job, job)?;
     if same {
-        settled_answer(alloc, name, range, &base.table, job, shelf)
+        settled_answer(alloc, name, range, base.text, job, shelf)
     } else {
         Ok(other_job(alloc)?)
     }
@@ -138,7 +141,7 @@ fn answer_over<H: Shelf>(
     ensures cause { IsErrOf result StoreFault.Failed →
         HasDueCall (H.state shelf.old) (H.state shelf.new) }
 {
-    match checked_table(alloc, text) {
+    match checked_text(alloc, text) {
         Ok(base) => answer_to_base(alloc, name, range, job, &base, shelf),
         Err(stop) => Ok(table_stopped(alloc, 5, stop)?),
     }

@@ -1,7 +1,7 @@
 //! What is told of a table.
 ghost use Rattle.std.specs.Prelude.{◌≡◌, ◌⊎◌, ◌<◌, ◌≤◌, ◌^◌, [], codes, IfOk, OnOk, OnErr, IsErrOf};
 ghost use Rattle.plan_cert.specs.WellFormed.{IsWorth};
-ghost use Rattle.cert_merge.specs.Table.{TableData, table_data, IsTable};
+ghost use Rattle.cert_merge.specs.Table.{TableData};
 ghost use Rattle.cert_merge.specs.MergedTexts.{IsToldOf};
 ghost use Rattle.brake_io.specs.Rose.{Rose};
 ghost use Rattle.brake_io.specs.Meanings.{NoCountFalls};
@@ -15,7 +15,7 @@ use crate::plan::claim_status;
 use brake_base::Worth;
 use brake_io::{Shelf, StoreFault};
 use brake_text::put_word;
-use cert_merge::{MergedText, MergedTexts, SettledText, Table, TablePieces, proved_at_start};
+use cert_merge::{MergedText, MergedTexts, SettledText};
 use command_runner::{Answer, Status, refusal, store_pieces};
 use job_setup::Job;
 use plan_cert::put_count;
@@ -77,37 +77,6 @@ pub fn told_answer(alloc: Global, rows: usize, worth: Worth) -> Result<Answer, A
     })
 }
 
-/// What is left of the answer to a table once its text is stored under this name. The text is stored
-/// here, in pieces.
-pub fn stored_table_answer<H: Shelf>(
-    alloc: Global,
-    name: &str,
-    job: &Job,
-    table: Table,
-    shelf: &mut H,
-) -> Result<Answer, StoreFault>
-    requires { IsTable job.now (table_data table) }
-    ensures answer { IfOk result (λ answer. answer_data answer
-        ≡ table_answer [] job.now (table_data table)) }
-    ensures status { IfOk result (λ answer. ¬ IsCutShort answer.status) }
-    ensures ok { OnOk result (AreStored (stored_table name.now job.now (table_data table))
-        (H.state shelf.old) (H.state shelf.new)) }
-    ensures err { OnErr result ((H.state shelf.new ≡ H.state shelf.old)
-        ⊎ AreStoredUpTo (stored_table name.now job.now (table_data table))
-        (H.state shelf.old) (H.state shelf.new)) }
-    ensures never_falls { NoCountFalls (H.state shelf.old) (H.state shelf.new) }
-    ensures faults { OnOk result ((H.state shelf.new).faults ≡ (H.state shelf.old).faults) }
-    ensures failed { IsErrOf result StoreFault.Failed →
-        Rose (H.state shelf.old).faults (H.state shelf.new).faults }
-    ensures cause { IsErrOf result StoreFault.Failed →
-        HasDueCall (H.state shelf.old) (H.state shelf.new) }
-{
-    let answer = told_answer(alloc, table.rows.len(), proved_at_start(job, &table))?;
-    let mut text = TablePieces::open(alloc, job, table)?;
-    store_pieces(alloc, name, &mut text, shelf)?;
-    Ok(answer)
-}
-
 /// What is left of the answer to the merge of two tables once its text is stored under this name. The
 /// text is stored here, in pieces.
 pub fn merged_text_answer<H: Shelf>(
@@ -150,15 +119,15 @@ pub fn settled_text_answer<H: Shelf>(
     settled: SettledText,
     shelf: &mut H,
 ) -> Result<Answer, StoreFault>
-    requires rows { settled.rows < 2 ^ 32 }
+    requires rows { settled.rows < 2 ^ 63 }
     requires worth { IsWorth settled.at_start }
     ensures answer { IfOk result (λ answer. answer_data answer
-        ≡ told_answer [] settled.rows settled.at_start) }
+        ≡ told_answer [] settled.entry.rows settled.entry.at_start) }
     ensures status { IfOk result (λ answer. ¬ IsCutShort answer.status) }
-    ensures ok { OnOk result (AreStored (one_stored name.now settled.text)
+    ensures ok { OnOk result (AreStored (one_stored name.now settled.entry.text)
         (H.state shelf.old) (H.state shelf.new)) }
     ensures err { OnErr result ((H.state shelf.new ≡ H.state shelf.old)
-        ⊎ AreStoredUpTo (one_stored name.now settled.text)
+        ⊎ AreStoredUpTo (one_stored name.now settled.entry.text)
         (H.state shelf.old) (H.state shelf.new)) }
     ensures never_falls { NoCountFalls (H.state shelf.old) (H.state shelf.new) }
     ensures faults { OnOk result ((H.state shelf.new).faults ≡ (H.state shelf.old).faults) }
@@ -167,7 +136,7 @@ pub fn settled_text_answer<H: Shelf>(
     ensures cause { IsErrOf result StoreFault.Failed →
         HasDueCall (H.state shelf.old) (H.state shelf.new) }
 {
-    let answer = told_answer(alloc, settled.rows as usize, settled.at_start)?;
+    let answer = told_answer(alloc, settled.rows, settled.at_start)?;
     let mut text = settled.text;
     store_pieces(alloc, name, &mut text, shelf)?;
     Ok(answer)

@@ -5,14 +5,12 @@ ghost use Rattle.plan_cert.specs.Lines.{spaced, number};
 ghost use Rattle.command_runner.specs.declared.status.Status.TheVariants as status;
 ghost use Rattle.command_runner.specs.Answers.{answer_data, one_text};
 ghost use Rattle.command_runner.specs.Delivery.{IsCutShort};
-ghost use Rattle.cert_merge.specs.Table.{table_data};
-ghost use Rattle.brake_cli.specs.TableAnswer.{IsTrueTable};
 ghost use Rattle.brake_cli.specs.TableCheck.{table_refusal_words, table_refused_line};
-ghost use Rattle.brake_cli.specs.TableStops.{ChecksTable, ChecksText, IsTableRefusalAnd};
+ghost use Rattle.brake_cli.specs.TableStops.{ChecksText, IsTableRefusalAnd};
 
 use brake_text::put_word;
 use cert_check::CheckFault;
-use cert_merge::{ProveFault, TableFault, TableFile, prove_text, read_table};
+use cert_merge::{ProveFault, TableFault, prove_text};
 use command_runner::{Answer, Status};
 use job_setup::Job;
 use plan_cert::{CertFault, put_count};
@@ -75,17 +73,6 @@ impl From<ProveFault> for TableStop {
     }
 }
 
-/// The job and the table of a table's text, whose rows all meet their condition, or the first
-/// refusal.
-pub fn checked_table(alloc: Global, text: &[u8]) -> Result<TableFile, TableStop>
-    ensures value { ChecksTable text.now result }
-    ensures truth { IfOk result (λ file. IsTrueTable file.job (table_data file.table)) }
-{
-    prove_text(alloc, text)?;
-    let file = read_table(alloc, text)?;
-    Ok(file)
-}
-
 /// The text of a closed table, with the job that it gives.
 #[derive(Drop)]
 pub struct CheckedText<'a> {
@@ -93,7 +80,7 @@ pub struct CheckedText<'a> {
     pub text: &'a [u8],
 }
 
-/// The same check, where the table's text is all that is kept of it.
+/// The text of a table whose rows all meet their condition, with its job, or the first refusal.
 pub fn checked_text<'a>(alloc: Global, text: &'a [u8]) -> Result<CheckedText<'a>, TableStop>
     ensures value { ChecksText text.now result }
 {

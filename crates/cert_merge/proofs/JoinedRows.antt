@@ -1,7 +1,5 @@
 -- Rows put behind others.
-use Rattle.std.proofs.Common.{◌≡◌, ◌↔◌, ℕ, suc, ◌+◌, ◌-◌, ◌<◌, ◌≤◌, Bool, true, false, IsTrue, List, [], ◌∷◌, ◌++◌, length, take, drop, All, refl, sym, ap, subst, ◌∙◌, arith, append-nil, get_or}
-use Rattle.std.specs.Prelude.{slice_range}
-use Rattle.std.specs.List.{flat_map}
+use Rattle.std.proofs.Common.{◌≡◌, ◌↔◌, ℕ, suc, ◌-◌, ◌≤◌, Bool, true, false, IsTrue, List, [], ◌∷◌, ◌++◌, length, take, drop, All, refl, sym, ap, subst, ◌∙◌, arith, append-nil, get_or}
 use Rattle.std.proofs.lemmas.Bool.{both_ways}
 use Rattle.std.proofs.lemmas.Grind.{flat_map-append}
 use Rattle.std.proofs.lemmas.List.{length-append, length-drop, take-append-le, drop-append-le, take_all}
@@ -19,7 +17,7 @@ use Rattle.cert_merge.specs.declared.row_texts.RowText.{RowText}
 use Rattle.cert_merge.specs.Entries.{Settled, is_at_most, joined, united}
 use Rattle.cert_merge.specs.MergeSteps.{Rows, head_of, heads}
 use Rattle.cert_merge.specs.MergedRows.{AreOfOneKey, HoldsRows, IsWithin, part_text, parts_text}
-use Rattle.cert_merge.specs.RowTexts.{IsTextOfRow, rows_text, said_text}
+use Rattle.cert_merge.specs.RowTexts.{rows_text, said_text}
 use Rattle.cert_merge.specs.UnitedRows.{AreOfOneRow}
 use Rattle.cert_merge.proofs.Joining.{joined_lower, joined_higher, joined_equal, most_told, most_tested, same_worth}
 use Rattle.cert_merge.proofs.UnitedRows.{same_reasons, said_same}

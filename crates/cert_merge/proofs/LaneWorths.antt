@@ -1,5 +1,5 @@
 -- The least over the next keys of a set, from lanes.
-use Rattle.std.proofs.Common.{◌≡◌, inl, inr, ℕ, ◌+◌, ◌*◌, ◌<◌, ◌≤◌, ◌==◌, nat_lt, Bool, true, false, List, [], length, set, get_or, replicate, Option, Some, None, refl, sym, ◌∙◌, ap, subst, arith}
+use Rattle.std.proofs.Common.{◌≡◌, inl, inr, ℕ, ◌+◌, ◌*◌, ◌<◌, ◌≤◌, ◌==◌, Bool, true, false, List, [], length, set, get_or, replicate, Option, Some, None, refl, sym, ◌∙◌, ap, subst, arith}
 use Rattle.std.specs.Prelude.{◌⊎◌, min, slice_index, if◌then◌else◌}
 use Rattle.std.proofs.lemmas.Bool.{cases_lt, lt-ltb, le-ltb}
 use Rattle.std.proofs.lemmas.Bool.Decides.{eqb_tells}
@@ -19,8 +19,8 @@ use Rattle.handling_cost.proofs.Small.{cost_to_small}
 use Rattle.set_facts.specs.LaneFacts.{HasWays}
 use Rattle.plan_cert.specs.WellFormed.{IsWorth}
 use Rattle.cert_merge.specs.declared.settled_sets.NextKey.{NextKey}
-use Rattle.cert_merge.specs.Settled.{IsLeastWorth, capped}
-use Rattle.cert_merge.specs.Settling.{AreReady, IsReady, IsAfterOne, IsLeastAfter, worth_after}
+use Rattle.cert_merge.specs.Settled.{IsLeastWorth}
+use Rattle.cert_merge.specs.Settling.{AreReady, IsAfterOne, IsLeastAfter}
 use Rattle.cert_merge.specs.SetWorths.{number_of, worth_of, IsFloor, IsLeastSum, lane_at, lanes_of, AreLaneRows, IsProvedAt, AreProved, cost_of_change, AreChangedFrom, AreChanged, IsSettledByLanes}
 use Rattle.cert_merge.proofs.Floors.{floor_moved, floor_none, floor_lower, floor_over}
 

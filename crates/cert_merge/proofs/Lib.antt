@@ -31,8 +31,6 @@ pub mod SetNotes
 pub mod TextEnds
 pub mod PutRows
 pub mod PieceTexts
-pub mod TableTold
-pub mod TableLeft
 pub mod NoteBytes
 pub mod RowCuts
 pub mod UnitedRows
@@ -41,3 +39,7 @@ pub mod MergingTexts
 pub mod SaidTexts
 pub mod MergedParts
 pub mod MergeToldOf
+pub mod CutRows
+pub mod BaseTaking
+pub mod SettledBase
+pub mod SettledOver

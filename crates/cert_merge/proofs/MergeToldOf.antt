@@ -1,16 +1,14 @@
 -- What the rows of a merge of two texts tell.
-use Rattle.std.proofs.Common.{◌≡◌, List, map, subst, sym, ap, ◌∙◌, refl, AllPairs}
+use Rattle.std.proofs.Common.{◌≡◌, List, subst, sym, ◌∙◌, refl}
 use Rattle.brake_base.specs.declared.stroke.Key.{Key}
 use Rattle.brake_base.specs.declared.stroke.Worth.{Worth}
-use Rattle.job_setup.specs.Setup.{JobData, stage_count}
+use Rattle.job_setup.specs.Setup.{JobData}
 use Rattle.handling_cost.specs.Plan.{start}
-use Rattle.plan_cert.specs.declared.cert.RowHead.{RowHead}
 use Rattle.plan_cert.specs.WellFormed.{AreRowsOf}
 use Rattle.cert_merge.specs.declared.merged_rows.MergedRows.{MergedRows}
-use Rattle.cert_merge.specs.declared.merged_texts.MergedTexts.{MergedTexts}
 use Rattle.cert_merge.specs.MergedRows.{AreMergedRows, AreTextsOf}
-use Rattle.cert_merge.specs.MergedTexts.{IsMergeOfTexts, IsToldOf}
-use Rattle.cert_merge.specs.MergeSteps.{merge_rows, table_said, written}
+use Rattle.cert_merge.specs.MergedTexts.{IsMergeOfTexts}
+use Rattle.cert_merge.specs.MergeSteps.{merge_rows, table_said}
 use Rattle.cert_merge.specs.Table.{TableData, IsTable}
 use Rattle.cert_merge.specs.TableChecks.{proved_by}
 use Rattle.cert_merge.specs.TableTexts.{IsTextOfTable}

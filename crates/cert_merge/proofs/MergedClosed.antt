@@ -108,7 +108,7 @@ IsMet job HasRow key worth action None = IsClosed job HasRow key (action_at (sta
 abbrev pub AreMet : JobData → (Key → Worth → Type 0) → Key → Settled → Type 0
 AreMet job HasRow key said = (action : ℕ) → action < 2 * bend_count job * stage_count job → IsActionAt job key (action_at (stage_count job) action) → IsMet job HasRow key said.worth action (said.reasons action)
 
-met_grown : (job : JobData) (R S : Key → Worth → Type 0) → Grows R S → (key : Key) (worth : Worth) (action : ℕ) (noted : Option Reason) → IsMet job R key worth action noted → IsMet job S key worth action noted
+pub met_grown : (job : JobData) (R S : Key → Worth → Type 0) → Grows R S → (key : Key) (worth : Worth) (action : ℕ) (noted : Option Reason) → IsMet job R key worth action noted → IsMet job S key worth action noted
 met_grown job R S grows key worth action (Some reason) met = met
 met_grown job R S grows key worth action None met = closed_grown job R S grows key (action_at (stage_count job) action) worth met
 
@@ -149,7 +149,7 @@ joined_most a b = by_worth (compared a b)
     by_worth (equal e f) = subst (λ (s : Settled). IsAtMost a.worth s.worth × IsAtMost b.worth s.worth) (sym (joined_equal a b e f)) (at_most_self a.worth, most_told b.worth a.worth e)
 
 -- each action at the rows of a closed table is met
-all_met : (job : JobData) (t : TableData) (is : IsTable job t) → IsClosedTable job t → (key : Key) (said : Settled) → settled_at t key ≡ Some said → AreMet job (HaveRow t.rows) key said
+pub all_met : (job : JobData) (t : TableData) (is : IsTable job t) → IsClosedTable job t → (key : Key) (said : Settled) → settled_at t key ≡ Some said → AreMet job (HaveRow t.rows) key said
 all_met job t is closed key said e action less at =
     let there = found t.notes 0 t.rows key said e in
     let none : 0 + there.row ≡ there.row = omega arith in

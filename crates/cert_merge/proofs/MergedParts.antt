@@ -1,5 +1,5 @@
 -- The text of parts, made in pieces.
-use Rattle.std.proofs.Common.{◌≡◌, ℕ, suc, ◌+◌, ◌<◌, ◌≤◌, false, List, [], ◌∷◌, ◌++◌, codes, length, drop, refl, sym, ap, ◌∙◌, arith, append_assoc, drop-cons, get_or}
+use Rattle.std.proofs.Common.{◌≡◌, ℕ, suc, ◌+◌, ◌<◌, ◌≤◌, false, List, [], ◌∷◌, ◌++◌, codes, length, drop, refl, sym, ap, ◌∙◌, arith, drop-cons, get_or}
 use Rattle.std.proofs.lemmas.List.{drop_all}
 use Rattle.job_setup.specs.Setup.{JobData, stage_count}
 use Rattle.plan_cert.specs.CertText.{table_text}
@@ -7,8 +7,7 @@ use Rattle.cert_merge.specs.declared.merged_rows.MergedRows.{MergedRows}
 use Rattle.cert_merge.specs.declared.merged_rows.Part.{Part}
 use Rattle.cert_merge.specs.MergeSteps.{Rows, flat, heads}
 use Rattle.cert_merge.specs.MergedRows.{HoldsRows, PartsGoOn, part_text, parts_text}
-use Rattle.cert_merge.specs.RowTexts.{rows_text}
-use Rattle.cert_merge.specs.TextLeft.{end_text, text_left, GoesOn}
+use Rattle.cert_merge.specs.TextLeft.{end_text, text_left}
 use Rattle.cert_merge.proofs.SaidTexts.{beginning_of, rows_written}
 use Rattle.cert_merge.proofs.TextEnds.{gone_further, not_begun}
 

@@ -61,7 +61,7 @@ pub said_none : (key : Key) (rows : Rows) → After key rows → said_of key row
 said_none key [] after = refl
 said_none key (row ∷ rows) after = said_later key row rows (λ same. key_never key row.0 (sym same) after.0) ∙ said_none key rows after.1
 
-merged_none : (a : Option Settled) → merged_at a None ≡ a
+pub merged_none : (a : Option Settled) → merged_at a None ≡ a
 merged_none None = refl
 merged_none (Some a) = refl
 

@@ -1,17 +1,16 @@
 -- The rows of two texts, taken in the order of their keys.
-use Rattle.std.proofs.Common.{◌≡◌, ℕ, ◌+◌, ◌<◌, ◌≤◌, Bool, true, false, List, [], ◌∷◌, ◌++◌, length, Option, Some, None, refl, sym, ap, subst, ◌∙◌, arith, append_assoc, append-nil, inl, inr}
+use Rattle.std.proofs.Common.{◌≡◌, ℕ, ◌≤◌, [], ◌∷◌, ◌++◌, Option, Some, None, refl, sym, ap, subst, ◌∙◌, append_assoc, append-nil, inl, inr}
 use Rattle.std.specs.Prelude.{◌⊎◌, IsSome, option_map}
 use Rattle.brake_base.specs.declared.stroke.Key.{Key}
-use Rattle.job_setup.specs.Setup.{JobData, bend_count, stage_count}
+use Rattle.job_setup.specs.Setup.{JobData, stage_count}
 use Rattle.plan_cert.specs.declared.cert.RowHead.{RowHead}
-use Rattle.cert_merge.specs.declared.merged.Next.{Next}
 use Rattle.cert_merge.specs.declared.merged.Next.TheVariants.{First, Second, Both}
 use Rattle.cert_merge.specs.declared.merged_rows.MergedRows.{MergedRows}
 use Rattle.cert_merge.specs.declared.row_texts.Side.{Side}
 use Rattle.cert_merge.specs.declared.row_texts.RowText.{RowText}
 use Rattle.cert_merge.specs.declared.row_texts.RowTexts.{RowTexts}
 use Rattle.cert_merge.specs.Entries.{Settled, joined}
-use Rattle.cert_merge.specs.MergeSteps.{Rows, merge_rows, next_of, head_of}
+use Rattle.cert_merge.specs.MergeSteps.{Rows, merge_rows, next_of}
 use Rattle.cert_merge.specs.MergedRows.{AreOfOneKey, AreSides, GoesOnBy, HoldsRows, IsUnderway}
 use Rattle.cert_merge.specs.RowTexts.{AreLeft, IsSide, IsTextOfRow, TakesRow, next_key}
 use Rattle.cert_merge.specs.UnitedRows.{AreOfJob}

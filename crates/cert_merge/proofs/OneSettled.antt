@@ -1,8 +1,7 @@
 -- There is one settled table: the greatest masks rest on the base alone, and each other on greater ones.
-use Rattle.std.proofs.Common.{◌≡◌, inl, inr, ℕ, zero, suc, ◌+◌, ◌*◌, ◌^◌, ◌<◌, ◌≤◌, IsTrue, Bool, true, false, Option, Some, None, refl, sym, ◌∙◌, ap, subst, arith}
+use Rattle.std.proofs.Common.{◌≡◌, inl, inr, ℕ, zero, suc, ◌+◌, ◌*◌, ◌^◌, ◌<◌, ◌≤◌, Bool, true, false, Option, Some, None, refl, sym, ◌∙◌, ap, subst, arith}
 use Rattle.std.specs.Prelude.{◌⊎◌}
 use Rattle.std.proofs.lemmas.Bool.{cases_lt, false≢true}
-use Rattle.std.proofs.lemmas.Option.{none-some}
 use Rattle.brake_base.specs.declared.mask.Mask.{Mask}
 use Rattle.brake_base.specs.declared.stroke.Key.{Key}
 use Rattle.brake_base.specs.declared.stroke.Action.{Action}
@@ -85,6 +84,12 @@ module _ (job : JobData) (P : Key → Worth) (key : Key) (a b : Settled) (first 
       let worth : a.worth ≡ b.worth = first.worth ∙ (ap capped same_least ∙ sym second.worth) in
       λ i. record { worth = worth i; reasons = same_reasons i }
 
+-- a key of which a table says something is one of the job
+pub key_of_row : (job : JobData) (x : TableData) → IsTable job x → (key : Key) (said : Settled) → settled_at x key ≡ Some said → IsKeyOf job key
+key_of_row job x is_x key said e =
+    let row = row_of job is_x.valid x.rows (table_rows job x is_x) key said.worth (said_have job x is_x key said e) in
+    row_key job (record { key = key; worth = said.worth }) (subst (IsRow job) (row.2 no_row) (is_x.rows.each_row row.0 no_row row.1))
+
 -- ---- so of each key, from the greatest mask downwards
 module _ (job : JobData) (base t u : TableData) (low high : ℕ) (is_t : IsTable job t) (is_u : IsTable job u) (of_t : IsSettled job base low high t) (of_u : IsSettled job base low high u) where
   proves_same : (key : Key) → settled_at t key ≡ settled_at u key → proved_by job t.rows key ≡ proved_by job u.rows key
@@ -122,11 +127,6 @@ module _ (job : JobData) (base t u : TableData) (low high : ℕ) (is_t : IsTable
     ]
   ]
 
-  key_of_row : (x : TableData) → IsTable job x → (key : Key) (said : Settled) → settled_at x key ≡ Some said → IsKeyOf job key
-  key_of_row x is_x key said e =
-      let row = row_of job is_x.valid x.rows (table_rows job x is_x) key said.worth (said_have job x is_x key said e) in
-      row_key job (record { key = key; worth = said.worth }) (subst (IsRow job) (row.2 no_row) (is_x.rows.each_row row.0 no_row row.1))
-
   pub one_settled : t ≡ u
   one_settled = merge_laws.one job t t t u is_t is_u (merge_laws.keeps t) (λ key. sym (same key) ∙ merge_laws.keeps t key)
     where
@@ -134,8 +134,8 @@ module _ (job : JobData) (base t u : TableData) (low high : ℕ) (is_t : IsTable
       same key = by_said (settled_at t key) (settled_at u key) refl refl
         where
           by_said : (a b : Option Settled) → settled_at t key ≡ a → settled_at u key ≡ b → settled_at t key ≡ settled_at u key
-          by_said (Some said) b e f = all_same (2 ^ bend_count job) key (key_of_row t is_t key said e) (omega arith)
-          by_said None (Some said) e f = all_same (2 ^ bend_count job) key (key_of_row u is_u key said f) (omega arith)
+          by_said (Some said) b e f = all_same (2 ^ bend_count job) key (key_of_row job t is_t key said e) (omega arith)
+          by_said None (Some said) e f = all_same (2 ^ bend_count job) key (key_of_row job u is_u key said f) (omega arith)
           by_said None None e f = e ∙ sym f
 
 pub settled_one : (job : JobData) (base t : TableData) (low high : ℕ) → IsTable job t → IsSettled job base low high t → IsOneSettled job base low high t

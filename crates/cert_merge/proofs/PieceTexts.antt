@@ -1,5 +1,5 @@
 -- The text of the keys that are left, and that of a table put together from it.
-use Rattle.std.proofs.Common.{◌≡◌, inl, inr, ℕ, zero, suc, ◌+◌, ◌-◌, ◌*◌, ◌/◌, ◌%◌, ◌^◌, ◌<◌, ◌≤◌, ◌==◌, not, Bool, true, false, if◌then◌else◌, List, [], ◌∷◌, ◌++◌, length, map, All, Option, Some, None, refl, sym, ◌∙◌, ap, subst, arith, append_assoc, append-nil, true≢false}
+use Rattle.std.proofs.Common.{◌≡◌, inl, inr, ℕ, zero, suc, ◌+◌, ◌-◌, ◌*◌, ◌/◌, ◌%◌, ◌^◌, ◌<◌, ◌≤◌, Bool, true, false, if◌then◌else◌, List, [], ◌∷◌, ◌++◌, length, map, All, Option, Some, None, refl, sym, ◌∙◌, ap, subst, arith, append_assoc, append-nil, length-append}
 use Rattle.std.specs.Prelude.{codes, slice_get, slice_index_or, min, nat_lt}
 use Rattle.std.proofs.Math.Nat.{pow-le-pow_right}
 use Rattle.std.proofs.lemmas.Bool.{cases_lt}
@@ -12,14 +12,11 @@ use Rattle.brake_base.specs.declared.stroke.Worth.{Worth}
 use Rattle.brake_base.specs.declared.reason.Reason.{Reason}
 use Rattle.job_setup.specs.Setup.{JobData, bend_count, stage_count}
 use Rattle.job_setup.specs.ValidJob.{IsJob}
-use Rattle.handling_cost.specs.StepCost.{IsKeyOf}
 use Rattle.plan_cert.specs.declared.cert.Note.{Note}
 use Rattle.plan_cert.specs.declared.cert.RowHead.{RowHead}
 use Rattle.plan_cert.specs.JobText.{job_text}
 use Rattle.plan_cert.specs.Lines.{CertLine, lines_text, row_line}
 use Rattle.plan_cert.specs.CertText.{line_of_note, rows_lines}
-use Rattle.plan_cert.specs.KeyPlaces.{key_place}
-use Rattle.plan_cert.specs.WellFormed.{IsWorth}
 use Rattle.plan_cert.proofs.RowOrder.{few_stages}
 use Rattle.handling_cost.proofs.Actions.{few_bends}
 use Rattle.row_text.proofs.MoreRows.{AreAt, more_text}
@@ -28,7 +25,7 @@ use Rattle.cert_merge.specs.declared.settled_sets.SettledSet.{SettledSet}
 use Rattle.cert_merge.specs.declared.settled_sets.SettledSets.{SettledSets}
 use Rattle.cert_merge.specs.Table.{TableData}
 use Rattle.cert_merge.specs.MergeSteps.{noted_as, notes_upto, most_actions, with_row, written}
-use Rattle.cert_merge.specs.Settling.{key_of, said_by, AreSettledBy, HasSets, IsAmong, IsKeyAt}
+use Rattle.cert_merge.specs.Settling.{key_of, AreSettledBy, HasSets, IsKeyAt}
 use Rattle.cert_merge.specs.SetRows.{CanBeWritten, IsSetOf, IsWriterOf, row_of, rows_text, IsRowPut}
 use Rattle.cert_merge.specs.SettledPieces.{AreRowsPut, row_text, place_text, rest_text, CanBePut, CanGoOn, GoesOnTo, IsWholeText}
 use Rattle.cert_merge.proofs.SetNotes.{worth_written}
@@ -160,6 +157,24 @@ none_left settled stages end next past =
     let none : end - next ≡ 0 = omega (arith, past) in
     ap (rest_text settled stages next) none
 
+no_piece : (old new piece : List ℕ) → new ≡ old ++ piece → length new ≤ length old → piece ≡ []
+no_piece old new [] is few = refl
+no_piece old new (byte ∷ piece) is few =
+    let long = ap (λ (t : List ℕ). length t) is ∙ length-append old (byte ∷ piece) in
+    let more : length (byte ∷ piece) ≡ suc (length piece) = refl in
+    absurd (omega (arith, long, few, more))
+
+-- where no byte is given, nothing is left of the rows
+pub none_gone : (settled : SettledSets) (stages end from next : ℕ) (old new : List ℕ) → GoesOnTo settled stages end from next old new → (next < end → length old < length new) → length new ≤ length old
+    → (new ≡ old) × (rest_text settled stages from (end - from) ≡ []) × (rest_text settled stages next (end - next) ≡ [])
+none_gone settled stages end from next old new on more few = elim (cases_lt next end) [
+  | inl less ↦ let grown = more less in absurd (omega (arith, grown, few))
+  | inr past ↦
+      let none = no_piece old new on.piece on.text few in
+      let rest = none_left settled stages end next past in
+      (on.text ∙ (ap (λ (t : List ℕ). old ++ t) none ∙ append-nil old), on.rest ∙ (λ i. none i ++ rest i), rest)
+]
+
 -- ---- how many keys there are
 -- of so many numbers, on a machine of so many stages
 abbrev keys_upto : ℕ → ℕ → ℕ
@@ -267,16 +282,16 @@ module _ (job : JobData) (is_job : IsJob job) (low high : ℕ) (settled : Settle
       ])
 
   -- all of a table's text is left
-  pub opened_whole : (beginning : List ℕ) (stages next end : ℕ) → beginning ≡ codes "brake-table 1\n" ++ job_text job → stages ≡ stage_count job → next ≡ low * 144 → end ≡ (high + 1) * 144 → IsWholeText job low high settled (text_left beginning (rest_text settled stages next (end - next)) false)
+  pub opened_whole : (beginning before behind : List ℕ) (stages next end : ℕ) → beginning ≡ codes "brake-table 1\n" ++ job_text job → stages ≡ stage_count job → next ≡ low * 144 → end ≡ (high + 1) * 144
+      → IsWholeText job low high settled before behind (text_left beginning (before ++ (rest_text settled stages next (end - next) ++ behind)) false)
   unfolding end_text
-  opened_whole beginning stages next end begins same at last =
+  opened_whole beginning before behind stages next end begins same at last =
       let count : next + (end - next) ≡ (high + 1) * 144 = omega (arith, at, last, order) in
       let none = sym (keys_of_sets (stage_count job) low) in
-      let rows = rows_from beginning (end - next) next 0 beginning count (omega (arith, at)) (put_none job low high settled next beginning beginning at refl) (let zero = none ∙ ap (keys_upto (stage_count job)) (sym at) in omega (arith, zero)) in (
-        beginning ++ rest_text settled stages next (end - next),
-        subst (λ (s : ℕ). AreRowsPut job low high settled (codes "brake-table 1\n" ++ job_text job) (beginning ++ rest_text settled s next (end - next)) ((high + 1 - low) * (24 * stage_count job))) (sym same)
-            (subst (λ (b : List ℕ). AreRowsPut job low high settled b (beginning ++ rest_text settled (stage_count job) next (end - next)) ((high + 1 - low) * (24 * stage_count job))) begins rows),
-        refl,
+      let rows = rows_from [] (end - next) next 0 [] count (omega (arith, at)) (put_none job low high settled next [] [] at refl) (let zero = none ∙ ap (keys_upto (stage_count job)) (sym at) in omega (arith, zero)) in (
+        rest_text settled stages next (end - next),
+        subst (λ (s : ℕ). AreRowsPut job low high settled [] (rest_text settled s next (end - next)) ((high + 1 - low) * (24 * stage_count job))) (sym same) rows,
+        (λ i. (begins i ++ (before ++ (rest_text settled stages next (end - next) ++ behind))) ++ codes "end\n"),
       )
 
   can_be_put : (place : ℕ) → low * 144 ≤ place → place < (high + 1) * 144 → place % 6 < stage_count job → CanBePut settled (key_of place)

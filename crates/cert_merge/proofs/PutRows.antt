@@ -1,6 +1,5 @@
 -- The rows of the keys of a range as text, one by one in the order of their keys.
-use Rattle.std.proofs.Common.{◌≡◌, inl, inr, ℕ, ◌+◌, ◌-◌, ◌*◌, ◌^◌, ◌<◌, ◌≤◌, List, [], ◌∷◌, ◌++◌, length, Option, Some, None, refl, sym, ◌∙◌, ap, subst, arith}
-use Rattle.std.specs.Prelude.{codes}
+use Rattle.std.proofs.Common.{◌≡◌, inl, inr, ℕ, ◌+◌, ◌-◌, ◌*◌, ◌^◌, ◌<◌, ◌≤◌, List, [], ◌++◌, length, Some, None, refl, sym, ◌∙◌, ap, arith}
 use Rattle.std.proofs.lemmas.List.{append-nil, length_push}
 use Rattle.std.proofs.lemmas.Option.{slice_get_cases}
 use Rattle.brake_base.specs.declared.mask.Mask.{Mask}
@@ -8,32 +7,20 @@ use Rattle.brake_base.specs.declared.stroke.Key.{Key}
 use Rattle.brake_base.specs.declared.stroke.Worth.{Worth}
 use Rattle.job_setup.specs.Setup.{JobData, bend_count, stage_count}
 use Rattle.job_setup.specs.ValidJob.{IsJob}
-use Rattle.handling_cost.specs.StepCost.{IsKeyOf}
-use Rattle.handling_cost.specs.Plan.{start}
-use Rattle.handling_cost.proofs.Keys.{start_in_range}
 use Rattle.sweep_check.proofs.Ascending.{pairs_nil}
 use Rattle.brake_base.specs.Keys.{KeyIsBefore}
-use Rattle.plan_cert.specs.declared.cert.RowHead.{RowHead}
-use Rattle.plan_cert.specs.WellFormed.{IsWorth, NoteIsBefore}
-use Rattle.plan_cert.specs.JobText.{job_text}
-use Rattle.plan_cert.specs.Lines.{lines_text}
-use Rattle.plan_cert.specs.CertText.{rows_lines, table_text}
+use Rattle.plan_cert.specs.WellFormed.{NoteIsBefore}
+use Rattle.plan_cert.specs.CertText.{rows_lines}
 use Rattle.cert_merge.specs.declared.settled_sets.SettledSet.{SettledSet}
 use Rattle.cert_merge.specs.declared.settled_sets.SettledSets.{SettledSets}
-use Rattle.cert_merge.specs.declared.settled_text.SettledText.{SettledText}
 use Rattle.cert_merge.specs.Table.{TableData, IsTable}
 use Rattle.cert_merge.specs.TableTexts.{empty_table}
-use Rattle.cert_merge.specs.MergeSteps.{row_said, with_row, written}
-use Rattle.cert_merge.specs.Settling.{proved_over, said_by, said_in, AreSettled, AreSettledBy, HasSets, IsAmong, IsKeyAt, SaysSettled}
+use Rattle.cert_merge.specs.MergeSteps.{with_row, written}
+use Rattle.cert_merge.specs.Settling.{AreSettledBy, HasSets, IsAmong, IsKeyAt}
 use Rattle.cert_merge.specs.SetRows.{IsSetOf, row_of, rows_text, IsRowPut}
-use Rattle.cert_merge.specs.SettledPieces.{AreRowsPut, IsWholeText}
-use Rattle.cert_merge.specs.SettledText.{IsSettledText}
+use Rattle.cert_merge.specs.SettledPieces.{AreRowsPut}
 use Rattle.cert_merge.proofs.SettledRows.{AreRowsBefore, in_range, range_among, none_before, row_on, none_on, notes_before, all_said}
-use Rattle.cert_merge.proofs.SettledTable.{settled_merge, agree}
-use Rattle.cert_merge.proofs.SettledLaws.{settled_closed, settled_least}
-use Rattle.cert_merge.proofs.OneSettled.{settled_one}
 use Rattle.cert_merge.proofs.SetNotes.{said_of_set}
-use Rattle.cert_merge.proofs.TableWritten.{table_written}
 
 -- a text goes on with the rows, so many, of the keys of the range before the one of a number
 pub record ArePutBefore (job : JobData) (low high : ℕ) (settled : SettledSets) (place : ℕ) (old new : List ℕ) (count : ℕ) : Type 0 where
@@ -98,28 +85,6 @@ empty_is_table job valid = record {
     note_order = pairs_nil NoteIsBefore;
   };
 }
-
-pub settled_text : (job : JobData) → IsJob job → (low high : ℕ) (settled : SettledSets) → HasSets low high settled → AreSettled job [] settled → (told : SettledText)
-    → IsWholeText job low high settled told.text → told.rows ≡ (high + 1 - low) * (24 * stage_count job) → told.at_start ≡ proved_over job [] settled start → IsWorth told.at_start → IsSettledText job low high told
-settled_text job is_job low high settled has are told whole counted proves small =
-    let put = whole.1 in
-    let table = put.table in
-    let is_base = empty_is_table job is_job in
-    let both = settled_merge job empty_table table table low high settled [] refl is_base has put.says are (λ key. refl) (λ j a b. b) in
-    record {
-      table = table;
-      small = small;
-      tells = record {
-        text_is = table_written job table.rows table.notes (stage_count job) [] (codes "brake-table 1\n") (codes "brake-table 1\n" ++ job_text job) whole.0 told.text refl refl refl refl put.text whole.2;
-        rows_are = counted ∙ put.counted;
-        start_is = proves ∙ agree job empty_table table table low high settled is_base both.1 has put.says are (λ key. refl) start (start_in_range job is_job);
-      };
-      settled = both.0;
-      one = settled_one job empty_table table low high both.1 both.0;
-      form = both.1;
-      closed = settled_closed job empty_table table low high is_base both.1 both.0;
-      least = settled_least job empty_table table low high is_base both.1 both.0;
-    }
 
 -- there is a set of each mask that is settled
 pub set_there : (settled : SettledSets) (mask : Mask) → IsAmong settled mask → (set : SettledSet) × IsSetOf settled mask set

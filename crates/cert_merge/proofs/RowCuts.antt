@@ -1,6 +1,6 @@
 -- A row is cut off a table's text.
-use Rattle.std.proofs.Common.{◌≡◌, ◌≢◌, ℕ, zero, suc, ◌+◌, ◌-◌, ◌<◌, ◌≤◌, ◌==◌, not, Bool, true, false, List, [], ◌∷◌, ◌++◌, codes, length, map, take, drop, get_or, Option, Some, None, All, refl, sym, ap, subst, ◌∙◌, arith, append_assoc}
-use Rattle.std.specs.List.{flat_map, list_all}
+use Rattle.std.proofs.Common.{◌≡◌, ◌≢◌, ℕ, suc, ◌+◌, ◌-◌, ◌≤◌, ◌==◌, not, Bool, true, false, List, [], ◌∷◌, ◌++◌, codes, length, map, take, drop, get_or, Option, Some, None, All, refl, sym, ap, subst, ◌∙◌, arith, append_assoc}
+use Rattle.std.specs.List.{list_all}
 use Rattle.std.proofs.Math.Seq.{take-append_seam}
 use Rattle.std.proofs.lemmas.Bool.{and_parts, eqb-false, not-true}
 use Rattle.std.proofs.lemmas.List.Sums.{AllPass-from_list_all}
@@ -8,14 +8,13 @@ use Rattle.std.proofs.lemmas.List.{append_cancel_left, length-append}
 use Rattle.std.proofs.lemmas.Option.{same_Some}
 use Rattle.brake_base.specs.declared.stroke.Key.{Key}
 use Rattle.brake_base.specs.declared.stroke.Worth.{Worth}
-use Rattle.brake_base.specs.declared.reason.Reason.{Reason}
 use Rattle.job_setup.specs.Setup.{JobData, bend_count, stage_count}
 use Rattle.cert_words.specs.LineWords.{word_length, word_at, count_at}
 use Rattle.cert_words.specs.PlanWords.{row_in, key_at}
 use Rattle.plan_cert.specs.declared.cert.RowHead.{RowHead}
 use Rattle.plan_cert.specs.declared.cert.Note.{Note}
 use Rattle.plan_cert.specs.Items.{lines_in}
-use Rattle.plan_cert.specs.Lines.{CertLine, line_text, lines_text, row_line, note_line, words_of, action_at}
+use Rattle.plan_cert.specs.Lines.{line_text, lines_text, row_line, words_of, action_at}
 use Rattle.plan_cert.specs.CertText.{line_of_note}
 use Rattle.plan_cert.specs.Reading.{IsCut}
 use Rattle.plan_cert.proofs.ActionNumbers.{bend_of_number}
@@ -26,8 +25,8 @@ use Rattle.plan_cert.proofs.WholeLines.{cut_line, some_line}
 use Rattle.cert_merge.specs.declared.row_texts.RowText.{RowText}
 use Rattle.cert_merge.specs.declared.row_texts.RowTexts.{RowTexts}
 use Rattle.cert_merge.specs.Entries.{Settled}
-use Rattle.cert_merge.specs.MergeSteps.{Rows, head_of, most_actions, notes_upto, noted_as}
-use Rattle.cert_merge.specs.RowTexts.{AreLeft, AreNoteLines, AreRowsOfJob, IsNoteOfJob, IsRowOfJob, IsTextOfRow, TakesRow, begins_with_note, note_bytes, note_lines, notes_text, rows_text, said_text}
+use Rattle.cert_merge.specs.MergeSteps.{Rows, head_of, most_actions, notes_upto}
+use Rattle.cert_merge.specs.RowTexts.{AreLeft, AreNoteLines, IsNoteOfJob, IsRowOfJob, TakesRow, begins_with_note, note_bytes, note_lines, notes_text, rows_text, said_text}
 use Rattle.cert_merge.proofs.Flat.{IsOneOf, all_map, notes_are as notes_upto_are}
 use Rattle.cert_merge.proofs.NoteBytes.{lines_before}
 

@@ -4,13 +4,9 @@ use Rattle.std.specs.Result.{result_ok}
 use Rattle.std.proofs.lemmas.List.{map-append}
 use Rattle.std.proofs.lemmas.List.Elements.{All-nil}
 use Rattle.std.proofs.lemmas.Option.{same_Some}
-use Rattle.job_setup.specs.Setup.{JobData}
-use Rattle.plan_cert.specs.declared.item.Item.{Item}
 use Rattle.plan_cert.specs.declared.item.Item.TheVariants as given
-use Rattle.plan_cert.specs.declared.item.CertFault.{CertFault}
 use Rattle.plan_cert.specs.declared.format.TextKind.TheVariants.{Table}
 use Rattle.plan_cert.specs.Cert.{CertData}
-use Rattle.plan_cert.specs.Items.{items}
 use Rattle.plan_cert.specs.CertItems.{rows_items}
 use Rattle.plan_cert.specs.CertReading.{no_cert, cert_of}
 use Rattle.plan_cert.specs.WellFormed.{IsStep}
@@ -18,7 +14,7 @@ use Rattle.plan_cert.proofs.WholeTexts.{reads_table_texts}
 use Rattle.cert_check.specs.declared.fault.CheckFault.{CheckFault}
 use Rattle.cert_check.specs.declared.fault.CheckFault.TheVariants.{Cert, NoMemory}
 use Rattle.cert_check.specs.declared.read_cert.ReadCert.{ReadCert}
-use Rattle.cert_check.specs.ReadCert.{AreRefused, IsGivenBy, IsRead, IsRowFirst, ReadAnswer}
+use Rattle.cert_check.specs.ReadCert.{IsGivenBy, IsRead, IsRowFirst, ReadAnswer}
 use Rattle.cert_check.proofs.ReadLemmas.{rows_first}
 use Rattle.cert_merge.specs.Table.{TableData, TableFileData}
 use Rattle.cert_merge.specs.TableTexts.{as_table, IsTextOfTable}

@@ -1,5 +1,5 @@
 -- The text of a table is that of what its rows say.
-use Rattle.std.proofs.Common.{◌≡◌, ℕ, zero, suc, ◌+◌, ◌<◌, ◌≤◌, true, List, [], ◌∷◌, ◌++◌, codes, length, map, take, drop, All, refl, sym, ap, subst, ◌∙◌, arith, append_assoc, append-nil, get_or}
+use Rattle.std.proofs.Common.{◌≡◌, ℕ, suc, ◌+◌, ◌<◌, ◌≤◌, true, List, [], ◌∷◌, ◌++◌, codes, length, drop, All, refl, sym, ap, subst, ◌∙◌, arith, append_assoc, append-nil}
 use Rattle.std.proofs.lemmas.List.{length-append, length-map}
 use Rattle.std.proofs.lemmas.List.Elements.{All-nil, All-append}
 use Rattle.std.proofs.Math.Seq.{drop-append_seam}
@@ -7,10 +7,9 @@ use Rattle.brake_base.specs.declared.stroke.Key.{Key}
 use Rattle.job_setup.specs.Setup.{JobData, bend_count, stage_count}
 use Rattle.handling_cost.proofs.Actions.{few_bends}
 use Rattle.plan_cert.specs.declared.cert.Note.{Note}
-use Rattle.plan_cert.specs.declared.cert.RowHead.{RowHead}
 use Rattle.plan_cert.specs.JobText.{job_text}
 use Rattle.plan_cert.specs.Lines.{CertLine, lines_text, row_line}
-use Rattle.plan_cert.specs.CertText.{line_of_note, rows_lines, table_text}
+use Rattle.plan_cert.specs.CertText.{rows_lines, table_text}
 use Rattle.plan_cert.proofs.RowOrder.{few_stages}
 use Rattle.row_text.proofs.MoreRows.{more_text}
 use Rattle.cert_merge.specs.declared.row_texts.RowTexts.{RowTexts}
@@ -18,7 +17,7 @@ use Rattle.cert_merge.specs.Entries.{Settled}
 use Rattle.cert_merge.specs.Table.{TableData, IsTable}
 use Rattle.cert_merge.specs.TableTexts.{IsTextOfTable}
 use Rattle.cert_merge.specs.MergeSteps.{Rows, flat, head_of, heads, merge_rows, most_actions, notes_upto, table_said, written}
-use Rattle.cert_merge.specs.RowTexts.{AreLeft, AreNoteLines, AreRowsOfJob, IsRowOfJob, note_lines, rows_text, said_text}
+use Rattle.cert_merge.specs.RowTexts.{AreLeft, AreNoteLines, AreRowsOfJob, rows_text, said_text}
 use Rattle.cert_merge.proofs.Flat.{IsOneOf, all_map, flat_says, notes_are}
 use Rattle.cert_merge.proofs.Merging.{Each}
 use Rattle.cert_merge.proofs.MergedForm.{IsSaidOf, is_merged, merged_fits, merged_form, table_says}
@@ -63,12 +62,15 @@ rows_more stages done (said ∷ rest) =
 abbrev pub beginning_of : JobData → List ℕ
 beginning_of job = codes "brake-table 1\n" ++ job_text job
 
+-- the text of rows is that of their lines as a table has them
+pub rows_text_written : (stages : ℕ) (rows : Rows) → rows_text stages rows ≡ lines_text (rows_lines stages (heads rows) (flat 0 rows))
+rows_text_written stages rows = sym (rows_more stages [] rows ∙ ap (λ (t : List ℕ). t ++ rows_text stages rows) (no_lines stages))
+
 -- the text of rows that are written, put together
 pub rows_written : (job : JobData) (stages : ℕ) (rows : Rows) → stages ≡ stage_count job → (beginning_of job ++ rows_text stages rows) ++ codes "end\n" ≡ table_text job (heads rows) (flat 0 rows)
 rows_written job stages rows same =
-    let all : rows_text stages rows ≡ written_text stages rows = sym (rows_more stages [] rows ∙ ap (λ (t : List ℕ). t ++ rows_text stages rows) (no_lines stages)) in
     table_written job (heads rows) (flat 0 rows) stages [] (codes "brake-table 1\n") (beginning_of job) (beginning_of job ++ rows_text stages rows) ((beginning_of job ++ rows_text stages rows) ++ codes "end\n")
-    same refl refl refl (ap (λ (t : List ℕ). beginning_of job ++ t) all) refl
+    same refl refl refl (ap (λ (t : List ℕ). beginning_of job ++ t) (rows_text_written stages rows)) refl
 
 -- ---- a table and what its rows say
 pub table_again : (job : JobData) (t : TableData) → IsTable job t → written (table_said t) ≡ t

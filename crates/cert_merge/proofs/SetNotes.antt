@@ -1,5 +1,5 @@
 -- The notes of a set's rows: what a writer of rows has of them, and what a table has.
-use Rattle.std.proofs.Common.{◌≡◌, inl, inr, ℕ, zero, suc, ◌+◌, ◌-◌, ◌*◌, ◌/◌, ◌%◌, ◌<◌, ◌≤◌, ◌||◌, ◌==◌, Bool, true, false, if◌then◌else◌, List, [], ◌∷◌, ◌++◌, length, map, filter, get_or, All, Option, Some, None, IsTrue, refl, sym, ◌∙◌, ap, subst, arith}
+use Rattle.std.proofs.Common.{◌≡◌, inl, inr, ℕ, zero, suc, ◌+◌, ◌-◌, ◌*◌, ◌/◌, ◌%◌, ◌<◌, ◌≤◌, ◌||◌, ◌==◌, Bool, true, false, if◌then◌else◌, List, [], ◌∷◌, ◌++◌, length, map, filter, get_or, Option, Some, None, IsTrue, refl, sym, ◌∙◌, ap, subst, arith}
 use Rattle.std.specs.Prelude.{◌⊎◌, ◌^◌, min, slice_get, option_map}
 use Rattle.std.proofs.lemmas.Bool.{cases_lt, cases_eq, or_left, or_right, false≢true}
 use Rattle.std.proofs.lemmas.Int.{clamps}
@@ -25,7 +25,6 @@ use Rattle.handling_cost.specs.StepCost.{IsKeyOf}
 use Rattle.handling_cost.proofs.Actions.{few_bends}
 use Rattle.handling_cost.proofs.Keys.{some_stage}
 use Rattle.plan_cert.specs.declared.cert.RowHead.{RowHead}
-use Rattle.plan_cert.specs.declared.cert.Note.{Note}
 use Rattle.plan_cert.specs.Lines.{action_at, lines_text}
 use Rattle.plan_cert.specs.CertText.{rows_lines}
 use Rattle.plan_cert.specs.WellFormed.{IsReasonInRange, IsWorth}
@@ -33,12 +32,11 @@ use Rattle.plan_cert.proofs.Actions.{few_actions}
 use Rattle.plan_cert.proofs.ReasonRanges.{reason_ranged}
 use Rattle.plan_cert.proofs.RowOrder.{few_stages}
 use Rattle.row_text.specs.Notes.{SetNotes, IsAmong, number_at, reason_at, note_at, notes_of, GoOnAs}
-use Rattle.row_text.proofs.ActionPlaces.{number_of_place, place_below, stage_of_place, same_place}
+use Rattle.row_text.proofs.ActionPlaces.{number_of_place, stage_of_place, same_place}
 use Rattle.plan_cert.proofs.NoteSets.{one_more, keep, skip}
 use Rattle.cert_merge.specs.declared.set_writer.SetWriter.{SetWriter}
 use Rattle.cert_merge.specs.declared.settled_sets.SettledSet.{SettledSet}
 use Rattle.cert_merge.specs.declared.settled_sets.SettledSets.{SettledSets}
-use Rattle.cert_merge.specs.Table.{TableData}
 use Rattle.cert_merge.specs.MergeSteps.{noted_as, notes_upto, most_actions, with_row}
 use Rattle.cert_merge.specs.Settling.{said_by, said_in, AreSettledBy, HasSets}
 use Rattle.cert_merge.specs.SetRows.{AreNotesOf, AreWritable, IsSetOf, CanBeWritten, IsWriterOf, row_of, rows_text, IsRowPut}

@@ -1,6 +1,6 @@
 -- What is settled over a closed base is closed, and of all keys it proves the least cost of a plan.
-use Rattle.std.proofs.Common.{◌≡◌, ℕ, zero, suc, ◌+◌, ◌-◌, ◌*◌, ◌^◌, ◌<◌, ◌≤◌, List, [], ◌∷◌, Option, Some, None, inl, inr, refl, sym, ◌∙◌, ap, subst, arith}
-use Rattle.std.specs.Prelude.{◌⊎◌, min, max, slice_get}
+use Rattle.std.proofs.Common.{◌≡◌, ℕ, zero, suc, ◌+◌, ◌-◌, ◌^◌, ◌<◌, ◌≤◌, List, [], ◌∷◌, Option, Some, None, inl, inr, refl, sym, ◌∙◌, ap, subst, arith}
+use Rattle.std.specs.Prelude.{min, max}
 use Rattle.std.proofs.lemmas.Bool.{cases_eq}
 use Rattle.std.proofs.lemmas.Int.{clamps}
 use Rattle.std.proofs.lemmas.Option.{same_Some}
@@ -16,7 +16,7 @@ use Rattle.brake_base.proofs.Worths.{at_most_through}
 use Rattle.job_setup.specs.Setup.{JobData, bend_count, stage_count}
 use Rattle.job_setup.specs.ValidJob.{IsJob}
 use Rattle.handling_cost.specs.StepCost.{IsKeyOf, IsActionAt, IsFull, cost_of, key_after, left}
-use Rattle.handling_cost.specs.Plan.{IsReasonFor, IsLegal, IsRest, IsPlan, total, start}
+use Rattle.handling_cost.specs.Plan.{IsReasonFor, IsLegal, IsRest, total, start}
 use Rattle.handling_cost.specs.Bound.{bound_of}
 use Rattle.handling_cost.specs.Claim.{IsTrueClaim}
 use Rattle.handling_cost.proofs.Actions.{few_bends, few_left, fewer_left}
@@ -36,7 +36,7 @@ use Rattle.cert_merge.specs.Merged.{settled_at}
 use Rattle.cert_merge.specs.Table.{TableData, IsTable, IsClosedTable}
 use Rattle.cert_merge.specs.TableTexts.{empty_table}
 use Rattle.cert_merge.specs.TableChecks.{CostsAtLeast, proved_by}
-use Rattle.cert_merge.specs.Settled.{IsNumberAt, IsFirstFor, worth_by, IsOpen, IsLeastWorth, capped, IsSettledBy, IsInRange, IsNewTable, IsSettled, IsWhole, StaysClosed, ProvesLeast}
+use Rattle.cert_merge.specs.Settled.{IsNumberAt, IsFirstFor, worth_by, capped, IsSettledBy, IsSettled, IsWhole, StaysClosed, ProvesLeast}
 use Rattle.cert_merge.proofs.MergedClosed.{IsMet, AreMet, merged_closed_over, said_have}
 use Rattle.cert_merge.proofs.ProvedWorths.{bound_proved, row_proved}
 use Rattle.cert_merge.proofs.TableChecking.{table_rows, closed_is_true}

@@ -1,31 +1,29 @@
 -- The rows of the keys of a range, one by one in the order of their keys.
-use Rattle.std.proofs.Common.{◌≡◌, inl, inr, ℕ, zero, suc, ◌+◌, ◌-◌, ◌*◌, ◌^◌, ◌<◌, ◌≤◌, Bool, true, false, List, [], ◌∷◌, ◌++◌, length, get_or, Option, Some, None, refl, sym, ◌∙◌, ap, subst, arith}
-use Rattle.std.specs.Prelude.{◌⊎◌, All, if◌then◌else◌}
+use Rattle.std.proofs.Common.{◌≡◌, inl, inr, ℕ, ◌+◌, ◌*◌, ◌^◌, ◌<◌, ◌≤◌, Bool, true, false, [], ◌∷◌, ◌++◌, length, Option, Some, None, refl, sym, ◌∙◌, ap, subst, arith}
+use Rattle.std.specs.Prelude.{All, if◌then◌else◌}
 use Rattle.std.proofs.lemmas.Bool.{cases_lt, cases_eq}
 use Rattle.std.proofs.lemmas.List.Elements.{All-nil}
-use Rattle.std.proofs.lemmas.Nat.{mul-le}
 use Rattle.std.proofs.lemmas.Option.{same_Some, none-some}
 use Rattle.brake_base.specs.declared.stroke.Key.{Key}
 use Rattle.brake_base.specs.declared.stroke.Worth.{Worth}
 use Rattle.brake_base.specs.declared.stroke.Worth.TheVariants.{Blocked}
 use Rattle.brake_base.specs.declared.reason.Reason.{Reason}
 use Rattle.brake_base.specs.Keys.{is_key, KeyIsBefore}
-use Rattle.brake_base.proofs.Keys.{key_is, key_is_itself}
+use Rattle.brake_base.proofs.Keys.{key_is}
 use Rattle.job_setup.specs.Setup.{JobData, bend_count, stage_count}
 use Rattle.job_setup.specs.ValidJob.{IsJob}
 use Rattle.handling_cost.specs.StepCost.{IsKeyOf}
 use Rattle.handling_cost.specs.Plan.{IsReasonFor}
-use Rattle.handling_cost.proofs.Actions.{few_bends}
 use Rattle.plan_cert.specs.declared.cert.RowHead.{RowHead}
 use Rattle.plan_cert.specs.declared.cert.Note.{Note}
 use Rattle.plan_cert.specs.Lines.{action_at}
-use Rattle.plan_cert.specs.KeyPlaces.{key_place, key_count}
-use Rattle.plan_cert.specs.WellFormed.{IsReasonInRange, IsRow, IsNote, AreRows}
+use Rattle.plan_cert.specs.KeyPlaces.{key_place}
+use Rattle.plan_cert.specs.WellFormed.{IsRow, IsNote, AreRows}
 use Rattle.plan_cert.proofs.ReasonRanges.{reason_ranged}
 use Rattle.plan_cert.proofs.RowOrder.{few_stages, few_rows, same_key}
 use Rattle.cert_merge.specs.declared.noted_row.NotedRow.{NotedRow}
 use Rattle.cert_merge.specs.declared.settled_sets.SettledSets.{SettledSets}
-use Rattle.cert_merge.specs.Table.{TableData, IsTable}
+use Rattle.cert_merge.specs.Table.{TableData}
 use Rattle.cert_merge.specs.Entries.{Settled, said_of}
 use Rattle.cert_merge.specs.Merged.{settled_at}
 use Rattle.cert_merge.specs.MergeSteps.{Rows, most_actions, row_said, head_of, heads, flat, written, with_row}
@@ -37,7 +35,7 @@ use Rattle.cert_merge.proofs.FlatForm.{IsOf, OfReasons, flat_ordered, flat_each,
 use Rattle.cert_merge.proofs.MergedForm.{IsNoteOf, IsSaidOf}
 use Rattle.cert_merge.proofs.Writing.{written_more}
 use Rattle.cert_merge.proofs.TableChecking.{most_numbers}
-use Rattle.cert_merge.proofs.SettledSets.{above_high, past_all, among_is}
+use Rattle.cert_merge.proofs.SettledSets.{among_is}
 use Rattle.cert_merge.proofs.SettledWorths.{settled_small}
 
 -- ---- rows that ascend, and another behind them
@@ -58,7 +56,7 @@ ascending_push [] row up before = (tt, tt)
 ascending_push (r ∷ rows) row up before = (after_push r.0 rows row up.0 before.0, ascending_push rows row up.1 before.1)
 
 -- what is said of a key by rows holds of a row
-said_among : (P : Key → Settled → Type 0) (key : Key) (said : Settled) (rows : Rows) → Each P rows → said_of key rows ≡ Some said → P key said
+pub said_among : (P : Key → Settled → Type 0) (key : Key) (said : Settled) (rows : Rows) → Each P rows → said_of key rows ≡ Some said → P key said
 said_among P key said [] all e = absurd (none-some said e)
 said_among P key said (row ∷ rows) all e = by_test (is_key row.0 key) refl e (said_among P key said rows all.1)
   where

@@ -1,6 +1,6 @@
 -- What a settled table proves is what the base and the settled keys prove, so that its new rows are settled's.
-use Rattle.std.proofs.Common.{◌≡◌, inl, inr, ℕ, ◌+◌, ◌-◌, ◌<◌, Bool, true, false, List, Option, Some, None, Result, Ok, Err, refl, sym, ◌∙◌, ap, subst, arith}
-use Rattle.std.specs.Prelude.{◌⊎◌, IfOk, max, slice_get, option_map}
+use Rattle.std.proofs.Common.{◌≡◌, inl, inr, ℕ, ◌-◌, false, List, Option, Some, None, Result, Ok, Err, refl, sym, ◌∙◌, ap, subst, arith}
+use Rattle.std.specs.Prelude.{IfOk, max, option_map}
 use Rattle.std.proofs.lemmas.Bool.{false≢true}
 use Rattle.std.proofs.lemmas.Int.{clamps}
 use Rattle.std.proofs.lemmas.Option.{none-some, slice_get_cases}
@@ -9,19 +9,18 @@ use Rattle.brake_base.specs.declared.stroke.Worth.{Worth}
 use Rattle.brake_base.specs.declared.stroke.Worth.TheVariants.{Cost, Blocked}
 use Rattle.brake_base.specs.Worths.{IsAtMost, greater}
 use Rattle.brake_base.proofs.Worths.{at_most_self, at_most_both, at_most_either, greater_either, greater_first, greater_second}
-use Rattle.job_setup.specs.Setup.{JobData, bend_count}
-use Rattle.job_setup.specs.ValidJob.{IsJob}
+use Rattle.job_setup.specs.Setup.{JobData}
 use Rattle.handling_cost.specs.StepCost.{IsKeyOf}
 use Rattle.handling_cost.specs.Bound.{bound_of}
 use Rattle.plan_cert.specs.declared.cert.RowHead.{RowHead}
 use Rattle.plan_cert.specs.GoodCert.{HaveRow}
 use Rattle.cert_merge.specs.declared.settled_sets.SettledSet.{SettledSet}
 use Rattle.cert_merge.specs.declared.settled_sets.SettledSets.{SettledSets}
-use Rattle.cert_merge.specs.Entries.{Settled, is_at_most, united, joined, merged_at}
+use Rattle.cert_merge.specs.Entries.{Settled, is_at_most, joined, merged_at}
 use Rattle.cert_merge.specs.Merged.{settled_at, IsMerged, KeepsForm}
 use Rattle.cert_merge.specs.Table.{TableData, IsTable}
 use Rattle.cert_merge.specs.TableChecks.{proved_by}
-use Rattle.cert_merge.specs.Settled.{IsSettledBy, IsInRange, IsNewTable, IsSettled}
+use Rattle.cert_merge.specs.Settled.{IsSettledBy, IsInRange, IsSettled}
 use Rattle.cert_merge.specs.Settling.{said_by, said_in, with_said, proved_over, AreSettled, HasSets, IsAmong, SaysSettled}
 use Rattle.cert_merge.proofs.Joining.{Compared, lower, equal, higher, compared, joined_lower, joined_higher, joined_equal, most_told, most_tested}
 use Rattle.cert_merge.proofs.MergedClosed.{have_said, said_have}
@@ -104,7 +103,7 @@ module _ (job : JobData) (base new t : TableData) (low high : ℕ) (settled : Se
   agree key ranged =
       ap (with_said (proved_by job base.rows key)) (sym (says.same key ranged)) ∙ sym (merged_proves job base new t is_base is_t is key)
 
-  new_row : (key : Key) → IsInRange job low high key → (said : Settled) × (settled_at new key ≡ Some said) × IsSettledBy job (proved_by job t.rows) key said
+  pub new_row : (key : Key) → IsInRange job low high key → (said : Settled) × (settled_at new key ≡ Some said) × IsSettledBy job (proved_by job t.rows) key said
   new_row key range =
       let found = among_said settled key (range_among job low high settled has key range) in (
         found.0,

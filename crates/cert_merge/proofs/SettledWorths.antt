@@ -1,6 +1,6 @@
 -- What is found of a set: the first reasons, the next keys and the least that they come to, one by one.
-use Rattle.std.proofs.Common.{◌≡◌, ◌≢◌, inl, inr, ℕ, suc, Bool, true, false, ◌+◌, ◌*◌, ◌/◌, ◌%◌, ◌<◌, ◌≤◌, List, length, set, get_or, replicate, Option, Some, None, refl, sym, ◌∙◌, ap, subst, arith}
-use Rattle.std.specs.Prelude.{◌⊎◌, IfSome, min, option_map}
+use Rattle.std.proofs.Common.{◌≡◌, ◌≢◌, inl, inr, ℕ, true, false, ◌+◌, ◌*◌, ◌/◌, ◌%◌, ◌<◌, ◌≤◌, List, length, set, get_or, replicate, Option, Some, None, refl, sym, ◌∙◌, ap, subst, arith}
+use Rattle.std.specs.Prelude.{◌⊎◌, IfSome, option_map}
 use Rattle.std.proofs.lemmas.Bool.{cases_lt, false≢true}
 use Rattle.std.proofs.lemmas.Bool.Decides.{eqb_tells}
 use Rattle.std.proofs.lemmas.Int.{clamps}
@@ -25,13 +25,13 @@ use Rattle.cert_merge.specs.Entries.{Settled}
 use Rattle.cert_merge.specs.TableChecks.{proved_by, IsWorthIn}
 use Rattle.cert_merge.proofs.ProvedWorths.{row_small, bound_proved, row_proved, greater_small}
 use Rattle.cert_merge.proofs.SetLemmas.{after_by_mask}
-use Rattle.handling_cost.specs.StepCost.{IsKeyOf, IsActionAt, attitude_at, key_after, cost_to, cost_of}
+use Rattle.handling_cost.specs.StepCost.{IsKeyOf, IsActionAt, attitude_at, key_after, cost_to}
 use Rattle.plan_cert.specs.Lines.{action_at}
 use Rattle.plan_cert.specs.WellFormed.{IsWorth, AreRowsOf}
 use Rattle.cert_merge.specs.declared.settled_sets.SettledSet.{SettledSet}
 use Rattle.cert_merge.specs.declared.settled_sets.NextKey.{NextKey}
 use Rattle.cert_merge.specs.Settled.{IsNumberAt, IsFirstFor, IsFirstNoted, AreFirstNoted, worth_by, IsOpen, IsLeastWorth, IsSettledBy, capped}
-use Rattle.cert_merge.specs.Settling.{place_in_set, said_by, said_in, with_said, with_worth, AreSettledBy, IsNextOf, AreNext, IsReady, AreReady, worth_after, IsAfterOne, IsLeastAfter, IsSettledSet}
+use Rattle.cert_merge.specs.Settling.{place_in_set, said_in, with_said, with_worth, AreSettledBy, IsNextOf, AreNext, IsReady, AreReady, worth_after, IsAfterOne, IsLeastAfter, IsSettledSet}
 use Rattle.cert_merge.proofs.SettledSets.{least_moved}
 
 -- ---- arrays that are filled from the front

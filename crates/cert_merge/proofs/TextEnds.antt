@@ -59,3 +59,20 @@ rows_given from next is_ended beginning text out new none gone seen = (
       ∙ append_assoc gone.piece next (end_text is_ended)
       ∙ ap (λ (b : List ℕ). gone.piece ++ ((b ++ next) ++ end_text is_ended)) (sym none),
 )
+
+-- a part behind the rows is given, of which none are left
+pub behind_given : (beginning before from next behind later text out middle new : List ℕ) (is_ended : Bool) → beginning ≡ [] → before ≡ [] → from ≡ [] → next ≡ [] → middle ≡ out
+    → (given : (piece : List ℕ) × (new ≡ middle ++ piece) × (behind ≡ piece ++ later)) → text_left beginning (before ++ (from ++ behind)) is_ended ≡ text
+    → (piece : List ℕ) × (new ≡ out ++ piece) × (text ≡ piece ++ text_left beginning (before ++ (next ++ later)) is_ended)
+behind_given beginning before from next behind later text out middle new is_ended none none_before none_from none_next same given seen = (
+  given.0,
+  given.1 ∙ ap (λ (t : List ℕ). t ++ given.0) same,
+  sym seen
+      ∙ ((λ i. (none i ++ (none_before i ++ (none_from i ++ given.2 i))) ++ end_text is_ended)
+      ∙ (append_assoc given.0 later (end_text is_ended)
+      ∙ ap (λ (t : List ℕ). given.0 ++ t) (sym (λ i. (none i ++ (none_before i ++ (none_next i ++ later))) ++ end_text is_ended)))),
+)
+
+-- nothing is given of rows of which none are left
+pub none_given : (old new from next : List ℕ) → new ≡ old → from ≡ next → GoesOn old new from next
+none_given old new from next same alike = record { piece = []; text = same ∙ sym (append-nil old); rest = alike }

@@ -1,9 +1,8 @@
 -- Rows with the notes of two rows, and the notes of a text.
-use Rattle.std.proofs.Common.{◌≡◌, ◌≢◌, ℕ, zero, suc, ◌+◌, ◌*◌, ◌<◌, ◌≤◌, List, [], ◌∷◌, ◌++◌, length, map, drop, Option, Some, None, All, refl, sym, ap, subst, ◌∙◌, arith, append_assoc, append-nil, inl, inr}
+use Rattle.std.proofs.Common.{◌≡◌, ◌≢◌, ℕ, zero, suc, ◌*◌, ◌<◌, ◌≤◌, List, [], ◌∷◌, ◌++◌, length, map, drop, Option, Some, None, All, refl, sym, ap, subst, ◌∙◌, arith, append_assoc, append-nil, inl, inr}
 use Rattle.std.proofs.lemmas.List.{length-append}
 use Rattle.std.proofs.lemmas.List.Elements.{All-append, All-nil, All-cons}
 use Rattle.std.specs.Prelude.{slice_index_or, AllPairs}
-use Rattle.std.proofs.lemmas.Bool.{cases_lt}
 use Rattle.std.proofs.lemmas.Option.{same_Some}
 use Rattle.brake_base.specs.declared.stroke.Action.{Action}
 use Rattle.brake_base.specs.declared.stroke.Key.{Key}
@@ -25,12 +24,12 @@ use Rattle.plan_cert.proofs.PlanLineRead.{IsSmall, note_reads}
 use Rattle.plan_cert.proofs.TextLines.{line_bytes, spelled_other}
 use Rattle.plan_cert.proofs.WholeLines.{cut_line, some_line}
 use Rattle.plan_cert.proofs.WordsRead.{spelled}
-use Rattle.row_text.proofs.MoreRows.{AreAt, more_text}
+use Rattle.row_text.proofs.MoreRows.{more_text}
 use Rattle.cert_merge.specs.declared.row_texts.RowText.{RowText}
 use Rattle.cert_merge.specs.Entries.{Settled, first_reason, united}
 use Rattle.cert_merge.specs.Merged.{reason_noted}
 use Rattle.cert_merge.specs.MergeSteps.{head_of, most_actions, noted_as, notes_upto}
-use Rattle.cert_merge.specs.RowTexts.{IsNoteOfJob, IsRowOfJob, notes_text, said_text, note_lines}
+use Rattle.cert_merge.specs.RowTexts.{IsNoteOfJob, IsRowOfJob, notes_text, said_text}
 use Rattle.cert_merge.specs.UnitedRows.{AreNotesOf, AreOfJob, AreOfOneRow, AreReasonsOf}
 use Rattle.cert_merge.proofs.Flat.{IsOneOf, all_map, notes_are, noted_upto}
 use Rattle.cert_merge.proofs.FlatForm.{upto_ordered}

@@ -13,11 +13,10 @@ pub mod Settling
 pub mod SetWorths
 pub mod SetRows
 pub mod TextLeft
-pub mod TableRows
-pub mod TablePieces
 pub mod SettledPieces
 pub mod SettledText
 pub mod RowTexts
 pub mod UnitedRows
 pub mod MergedRows
 pub mod MergedTexts
+pub mod BaseRows

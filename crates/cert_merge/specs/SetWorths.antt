@@ -1,7 +1,7 @@
 -- The worths of the keys of a set, found for eight stages at once. Costs are in tenths of a second.
 -- The next keys of all keys of a set are the same. So the least of what they come to is found in
 -- steps: what is proved, by attitude and stage; with the change of attitude; with the way.
-use Rattle.std.specs.Prelude.{◌≡◌, ◌⊎◌, ℕ, ◌+◌, ◌<◌, ◌≤◌, nat_lt, min, List, [], length}
+use Rattle.std.specs.Prelude.{◌≡◌, ◌⊎◌, ℕ, ◌+◌, ◌<◌, ◌≤◌, nat_lt, List, [], length}
 use Rattle.std.specs.Prelude.{slice_index, slice_index_or, Option, Some, None, if◌then◌else◌}
 use Rattle.brake_base.specs.declared.stroke.Key.{Key}
 use Rattle.brake_base.specs.declared.stroke.Worth.{Worth}

@@ -67,11 +67,11 @@ pub record GoesOnTo (settled : SettledSets) (stages end from next : ℕ) (old ne
   pub from_on : from ≤ next
   pub within : next ≤ end
 
--- the text that is left is all of a table's: the beginning, a row for each key of the range, and the
--- last line
-abbrev pub IsWholeText : JobData → ℕ → ℕ → SettledSets → List ℕ → Type 0
-IsWholeText job low high settled text =
+-- the text that is left is all of a table's: the beginning, the base's rows before the range, a row
+-- for each key of the range, the base's rows behind it, and the last line
+abbrev pub IsWholeText : JobData → ℕ → ℕ → SettledSets → List ℕ → List ℕ → List ℕ → Type 0
+IsWholeText job low high settled before behind text =
     (rows : List ℕ)
-    × AreRowsPut job low high settled (codes "brake-table 1\n" ++ job_text job) rows
-    ((high + 1 - low) * (24 * stage_count job))
-    × (text ≡ rows ++ codes "end\n")
+    × AreRowsPut job low high settled [] rows ((high + 1 - low) * (24 * stage_count job))
+    × (text ≡ (codes "brake-table 1\n" ++ job_text job) ++ (before ++ (rows ++ behind))
+    ++ codes "end\n")

@@ -1,6 +1,8 @@
 //! Tables of settled states: the rows and notes of several runs on one job, joined in any order.
 #![tactic(auto)]
 
+mod base_rows;
+mod beginning;
 mod checked;
 mod merged;
 mod merged_rows;
@@ -18,8 +20,6 @@ mod settled_pieces;
 mod settled_sets;
 mod settled_text;
 mod table;
-mod table_pieces;
-mod table_writer;
 mod texts;
 mod united_rows;
 
@@ -31,7 +31,6 @@ pub use merged_texts::{MergedTexts, merge_texts};
 pub use proved::{ProveFault, ProvedTable, prove_text, prove_text_from};
 pub use settled::settle;
 pub use settled_pieces::SettledPieces;
-pub use settled_text::{SettledText, settle_text};
+pub use settled_text::{SettledText, settle_text, settle_text_over};
 pub use table::{Table, TableFile};
-pub use table_pieces::TablePieces;
 pub use texts::{read_table, write_table};

@@ -12,9 +12,9 @@ ghost use Rattle.plan_cert.specs.JobText.{job_text};
 ghost use Rattle.cert_merge.specs.Table.{TableData};
 ghost use Rattle.cert_merge.specs.TableTexts.{IsTextOfTable};
 
+use crate::beginning::beginning;
 use crate::merged::{Next, next_of};
 use crate::row_texts::{RowText, RowTexts, Side};
-use crate::table_pieces::beginning;
 use crate::united_rows::put_united;
 use job_setup::Job;
 use plan_cert::RowHead;
@@ -187,7 +187,7 @@ fn put_all<'a>(
 }
 
 /// The rows of a table's text, which begins so.
-fn rows_behind<'a>(job: &Job, beginning: &[u8], text: &'a [u8]) -> RowTexts<'a>
+pub(crate) fn rows_behind<'a>(job: &Job, beginning: &[u8], text: &'a [u8]) -> RowTexts<'a>
     requires { length beginning.now ≤ length text.now }
     ensures rows { (table : TableData) → beginning.now ≡ codes "brake-table 1\n" ++ job_text job.now
         → IsTextOfTable (record { job = job.now; table = table }) text.now

@@ -5,9 +5,9 @@ ghost use Rattle.cert_merge.specs.Table.{TableData};
 ghost use Rattle.cert_merge.specs.MergedRows.{IsWithin, PartsGoOn};
 ghost use Rattle.cert_merge.specs.MergedTexts.{IsToldOf};
 
+use crate::beginning::{FULL, beginning};
 use crate::merged_rows::{Part, text_of};
 use crate::merged_texts::MergedTexts;
-use crate::table_pieces::{FULL, beginning};
 use brake_io::Pieces;
 use brake_text::put_word;
 use job_setup::Job;

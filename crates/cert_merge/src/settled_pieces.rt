@@ -1,4 +1,4 @@
-//! The text of what is settled over no base, made in pieces.
+//! The text of what is settled over a base, made in pieces.
 ghost use Rattle.std.specs.Prelude.{◌≡◌, ◌+◌, ◌^◌, ◌<◌, ◌≤◌, ◌++◌, length, IfOk, OnOk};
 ghost use Rattle.brake_base.specs.declared.stroke.Key.{Key};
 ghost use Rattle.brake_base.specs.declared.stroke.Worth.{Worth};
@@ -7,10 +7,11 @@ ghost use Rattle.cert_merge.specs.Settling.{AreSettledBy, HasSets};
 ghost use Rattle.cert_merge.specs.SetRows.{IsWriterOf};
 ghost use Rattle.cert_merge.specs.SettledPieces.{place_text, CanGoOn, GoesOnTo, IsWholeText};
 
+use crate::base_rows::BaseRows;
+use crate::beginning::{FULL, beginning};
 use crate::set_writer::SetWriter;
 use crate::settled::key_of;
 use crate::settled_sets::SettledSets;
-use crate::table_pieces::{FULL, beginning};
 use brake_base::Mask;
 use brake_io::Pieces;
 use brake_text::put_word;
@@ -18,15 +19,20 @@ use job_setup::Job;
 use std::alloc::{AllocError, Global};
 use std::marker::Model;
 
-/// The text of the table of a range that is settled over no base, made in pieces from its sets, in
-/// the order of its keys. It is seen as what is left of the text.
+/// The text of the table of a range that is settled over a base, made in pieces: the base's rows before
+/// the range as they stand, the settled sets in the order of their keys, and the base's rows behind
+/// them. It is seen as what is left of the text.
 #[derive(Drop)]
-pub struct SettledPieces {
+pub struct SettledPieces<'a> {
     settled: SettledSets,
     stages: u8,
     writer: SetWriter,
     /// The text up to the rows, until it is given.
     beginning: Vec<u8>,
+    /// The base's rows before the range that are still to be given.
+    before: &'a [u8],
+    /// Those behind it.
+    behind: &'a [u8],
     /// The number of the key that comes next.
     next: usize,
     /// The number behind that of the last key.
@@ -34,15 +40,15 @@ pub struct SettledPieces {
     is_ended: bool,
 }
 
-impl Model for SettledPieces {
-    ghost use Rattle.std.specs.Prelude.{ℕ, ◌-◌, List};
+impl<'a> Model for SettledPieces<'a> {
+    ghost use Rattle.std.specs.Prelude.{ℕ, ◌-◌, ◌++◌, List};
     ghost use Rattle.cert_merge.specs.TextLeft.{text_left};
     ghost use Rattle.cert_merge.specs.SettledPieces.{rest_text, CanGoOn};
 
     ghost Value = { List ℕ };
 
-    ghost view = { λ p. text_left p.beginning.items
-        (rest_text p.settled p.stages p.next (p.end - p.next)) p.is_ended };
+    ghost view = { λ p. text_left p.beginning.items (p.before.now
+        ++ (rest_text p.settled p.stages p.next (p.end - p.next) ++ p.behind.now)) p.is_ended };
 
     ghost invariant = { λ p. CanGoOn p.settled p.stages p.writer p.next p.end };
 }
@@ -100,20 +106,23 @@ fn put_rows(
     Ok(next)
 }
 
-impl SettledPieces {
+impl<'a> SettledPieces<'a> {
     /// The text of the table of the keys whose masks are those of the sets, of which `low` is the
-    /// least. It takes all memory that it will use, but that of the pieces.
+    /// least, and of the base's rows before and behind them. It takes all memory that it will use, but
+    /// that of the pieces.
     pub(crate) fn open(
         alloc: Global,
         job: &Job,
         settled: SettledSets,
         low: u16,
-    ) -> Result<SettledPieces, AllocError>
+        base: &BaseRows<'a>,
+    ) -> Result<SettledPieces<'a>, AllocError>
         requires range { HasSets low settled.high settled }
         requires order { low ≤ settled.high }
         requires open { settled.high + 1 < 2 ^ bend_count job.now }
         requires settled { (proved : Key → Worth) × AreSettledBy job.now proved settled }
-        ensures { IfOk result (IsWholeText job.now low settled.high settled) }
+        ensures { IfOk result
+            (IsWholeText job.now low settled.high settled base.now.before.now base.now.behind.now) }
     {
         job.recall_valid();
         let stages = job.stages();
@@ -125,6 +134,8 @@ impl SettledPieces {
             stages,
             writer,
             beginning,
+            before: base.before,
+            behind: base.behind,
             next: usize::from(low) * 144,
             end,
             is_ended: false,
@@ -132,16 +143,21 @@ impl SettledPieces {
     }
 }
 
-impl Pieces for SettledPieces {
+impl<'a> Pieces for SettledPieces<'a> {
     ghost left = { λ text. text };
 
-    /// The text up to the rows is the first piece, and the last line ends the last one.
+    /// The text up to the rows is the first piece, and the last line is the last one.
     fn next(&mut self, out: &mut Vec<u8>) -> Result<bool, AllocError> {
         if !self.beginning.is_empty() {
             put_word(out, self.beginning.as_slice())?;
             self.beginning.clear();
             return Ok(true);
         }
+        if !self.before.is_empty() {
+            self.before.next(out)?;
+            return Ok(true);
+        }
+        let start = out.len();
         match put_rows(
             &self.settled,
             self.stages,
@@ -157,7 +173,11 @@ impl Pieces for SettledPieces {
                 return Err(error);
             }
         }
-        if self.next < self.end {
+        if out.len() > start {
+            return Ok(true);
+        }
+        if !self.behind.is_empty() {
+            self.behind.next(out)?;
             return Ok(true);
         }
         if !self.is_ended {

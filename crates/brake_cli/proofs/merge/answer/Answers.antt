@@ -1,4 +1,4 @@
-use Rattle.std.proofs.Common.{◌≡◌, ◌∙◌, List, ℕ, Err, map, subst}
+use Rattle.std.proofs.Common.{◌∙◌, List, ℕ, Err, map, subst}
 use Rattle.std.specs.Vec.{vec_items}
 use Rattle.std.proofs.lemmas.Result.{IfOk-weaker}
 use Rattle.cert_merge.specs.Table.{TableFileData}

@@ -17,7 +17,7 @@ returns-clause-answer g c =
     let told = c.in_ok-settled.settled in
     let stored = c.settled_text_answer in
     stored_first (IsSettledAnswer name range.low range.high empty_table job) (one_stored name told.text) (told_answer [] told.rows told.at_start)
-    (settled_text_answers name range.low range.high job told (told_answer (one_stored name told.text) told.rows told.at_start) c.in_ok-settled.ensures refl) refl
+    (settled_text_answers name range.low range.high empty_table job told (told_answer (one_stored name told.text) told.rows told.at_start) c.in_ok-settled.ensures refl) refl
     stored.result (g.H.Shelf.state c.args.shelf.now) (g.H.Shelf.state stored.new.shelf) stored.ensures.answer stored.ensures.ok stored.ensures.faults
 
 pub returns-clause-begins : goal.returns-clause-begins
@@ -28,5 +28,5 @@ returns-clause-begins g c =
     let told = c.in_ok-settled.settled in
     let stored = c.settled_text_answer in
     stored_begun (IsSettledAnswer name range.low range.high empty_table job) (one_stored name told.text) (told_answer [] told.rows told.at_start)
-    (settled_text_answers name range.low range.high job told (told_answer (one_stored name told.text) told.rows told.at_start) c.in_ok-settled.ensures refl) refl
+    (settled_text_answers name range.low range.high empty_table job told (told_answer (one_stored name told.text) told.rows told.at_start) c.in_ok-settled.ensures refl) refl
     stored.result (g.H.Shelf.state c.args.shelf.now) (g.H.Shelf.state stored.new.shelf) stored.ensures.err

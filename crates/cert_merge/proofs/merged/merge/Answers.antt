@@ -1,6 +1,6 @@
 use Rattle.std.proofs.Common.{◌≡◌, sym, subst}
 use Rattle.cert_merge.specs.declared.table.Table.{Table}
-use Rattle.cert_merge.specs.Table.{TableData, table_data}
+use Rattle.cert_merge.specs.Table.{table_data}
 use Rattle.cert_merge.specs.Merged.{IsMerged, KeepsForm, KeepsClosed}
 use Rattle.cert_merge.proofs.MergedForm.{orderly, is_merged}
 use Rattle.cert_merge.proofs.MergeOf.{merge_of, keeps_form, keeps_closed}

@@ -1,5 +1,4 @@
-use Rattle.std.proofs.Common.{◌≡◌, Some, sym, ◌∙◌}
-use Rattle.cert_merge.specs.declared.merged.Next.{Next}
+use Rattle.std.proofs.Common.{◌≡◌, sym, ◌∙◌}
 use Rattle.cert_merge.specs.declared.merged.Next.TheVariants.{First, Second, Both}
 use Rattle.cert_merge.specs.MergeSteps.{next_of}
 use Rattle.cert_merge.specs.RowTexts.{next_key}

@@ -1,5 +1,5 @@
-use Rattle.std.proofs.Common.{◌≡◌, ◌<◌, ◌∙◌, ℕ, List, set, sym, ap, subst, arith}
-use Rattle.cert_merge.specs.SetWorths.{AreLaneRows, AreChangedFrom, lanes_of}
+use Rattle.std.proofs.Common.{ℕ, subst, arith}
+use Rattle.cert_merge.specs.SetWorths.{AreChangedFrom}
 use Rattle.cert_merge.proofs.LaneWorths.{never_rows, row_put, changed_put}
 use Rattle.cert_merge.proofs.set_worths.all_changed.Goals as goal
 

@@ -1,4 +1,4 @@
-use Rattle.std.proofs.Common.{◌≡◌, ◌+◌, ◌∙◌, ℕ, ap}
+use Rattle.std.proofs.Common.{◌+◌, ◌∙◌, ap}
 use Rattle.std.specs.Prelude.{slice_index}
 use Rattle.cert_merge.specs.SetWorths.{cost_of_change, lanes_of}
 use Rattle.cert_merge.proofs.set_worths.costs_after.Goals as goal

@@ -1,5 +1,4 @@
-use Rattle.std.proofs.Common.{◌≡◌, ◌+◌, ◌≤◌, ◌∙◌, ℕ, List, replicate, sym, subst, arith}
-use Rattle.stage_lanes.specs.declared.costs.StageCosts.{StageCosts}
+use Rattle.std.proofs.Common.{◌+◌, ◌∙◌, replicate, sym, subst, arith}
 use Rattle.plan_cert.proofs.RowOrder.{few_stages}
 use Rattle.cert_merge.specs.SetWorths.{AreLaneRows}
 use Rattle.cert_merge.proofs.LaneWorths.{AreProvedBelow, all_never, never_rows, proved_none, proved_same, proved_more, proved_all, lowered_rows}

@@ -1,7 +1,7 @@
-use Rattle.std.proofs.Common.{◌≡◌, ◌<◌, ◌∙◌, ℕ, length, subst, sym, arith, rules}
+use Rattle.std.proofs.Common.{◌≡◌, ◌<◌, ◌∙◌, ℕ, length, subst, rules}
 use Rattle.std.specs.Prelude.{min}
 use Rattle.std.proofs.lemmas.List.{length-set}
-use Rattle.cert_merge.specs.SetWorths.{number_of, lane_at}
+use Rattle.cert_merge.specs.SetWorths.{number_of}
 use Rattle.cert_merge.proofs.LaneWorths.{lane_lowered, lane_left}
 use Rattle.cert_merge.proofs.set_worths.lower.Goals as goal
 

@@ -1,4 +1,4 @@
-use Rattle.std.proofs.Common.{◌≡◌, ◌+◌, ◌∙◌, ℕ, sym, ap, subst}
+use Rattle.std.proofs.Common.{◌+◌, ◌∙◌, ℕ, sym, ap, subst}
 use Rattle.std.specs.Prelude.{slice_index}
 use Rattle.job_setup.specs.Setup.{JobData}
 use Rattle.set_facts.specs.LaneFacts.{HasWays}

@@ -1,8 +1,7 @@
-use Rattle.std.proofs.Common.{◌≡◌, ◌*◌, ◌+◌, ◌≤◌, ◌∙◌, ℕ, refl, sym, ap, subst, arith}
+use Rattle.std.proofs.Common.{◌∙◌, ℕ, refl, sym, subst, arith}
 use Rattle.brake_base.specs.Actions.{IsActionAmong}
-use Rattle.row_text.specs.Notes.{SetNotes}
 use Rattle.row_text.proofs.ActionPlaces.{among_eight}
-use Rattle.cert_merge.proofs.SetNotes.{AreNotesUpto, no_notes, notes_same, notes_more, notes_all}
+use Rattle.cert_merge.proofs.SetNotes.{no_notes, notes_same, notes_more, notes_all}
 use Rattle.cert_merge.proofs.set_writer.set_reasons.Goals as goal
 use Rattle.cert_merge.proofs.set_writer.set_reasons.Goals.{in-Some+in_ok-set_reason, in_default}
 

@@ -1,5 +1,4 @@
-use Rattle.std.proofs.Common.{◌≡◌, ◌+◌, ◌*◌, ◌≤◌, ◌<◌, ◌∙◌, ℕ, Option, None, sym, ap, arith, subst}
-use Rattle.brake_base.specs.declared.stroke.Key.{Key}
+use Rattle.std.proofs.Common.{◌+◌, ◌*◌, ℕ, sym, ap, arith, subst}
 use Rattle.plan_cert.proofs.RowOrder.{few_stages}
 use Rattle.cert_merge.specs.declared.table.Table.{Table}
 use Rattle.cert_merge.specs.Table.{table_data}

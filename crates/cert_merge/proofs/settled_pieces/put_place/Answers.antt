@@ -1,8 +1,7 @@
-use Rattle.std.proofs.Common.{◌≡◌, ◌%◌, ◌<◌, ℕ, ap, subst, refl, arith}
+use Rattle.std.proofs.Common.{◌%◌, ◌<◌, ℕ, ap, subst, refl, arith}
 use Rattle.brake_base.specs.declared.stroke.Key.{Key}
 use Rattle.cert_merge.specs.Settling.{key_of}
 use Rattle.cert_merge.specs.SetRows.{IsRowPut}
-use Rattle.cert_merge.specs.SettledPieces.{place_text}
 use Rattle.cert_merge.proofs.PutRows.{set_there}
 use Rattle.cert_merge.proofs.PieceTexts.{place_put, place_skipped}
 use Rattle.cert_merge.proofs.settled_pieces.put_place.Goals as goal

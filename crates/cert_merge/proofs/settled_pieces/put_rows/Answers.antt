@@ -1,5 +1,5 @@
 use Rattle.std.proofs.Common.{◌+◌, ◌<◌, ◌≤◌, arith}
-use Rattle.cert_merge.proofs.PieceTexts.{starts, goes_on, can_still}
+use Rattle.cert_merge.proofs.PieceTexts.{goes_on, can_still}
 use Rattle.cert_merge.proofs.settled_pieces.put_rows.Goals as goal
 
 pub loop-stages-preserved : goal.loop-stages-preserved

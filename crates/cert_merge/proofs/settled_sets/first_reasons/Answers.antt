@@ -1,8 +1,6 @@
-use Rattle.std.proofs.Common.{◌≡◌, ◌<◌, ◌∙◌, length, set, refl, arith, subst, ap}
-use Rattle.std.specs.Prelude.{ℕ, List, Option}
+use Rattle.std.proofs.Common.{◌∙◌, refl, arith}
 use Rattle.std.proofs.lemmas.List.{length-set}
-use Rattle.brake_base.specs.declared.reason.Reason.{Reason}
-use Rattle.cert_merge.proofs.SettledWorths.{IsFilled, IsFirstOf, filled_none, filled_on, firsts_all}
+use Rattle.cert_merge.proofs.SettledWorths.{IsFirstOf, filled_none, filled_on, firsts_all}
 use Rattle.cert_merge.proofs.settled_sets.first_reasons.Goals as goal
 
 pub loop-number-init : goal.loop-number-init

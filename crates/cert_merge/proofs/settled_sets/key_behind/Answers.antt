@@ -3,7 +3,7 @@ use Rattle.brake_base.specs.declared.mask.Mask.{Mask}
 use Rattle.brake_base.specs.declared.stroke.Key.{Key}
 use Rattle.brake_base.specs.Masks.{union}
 use Rattle.job_setup.specs.Setup.{JobData, bend_count}
-use Rattle.handling_cost.specs.StepCost.{IsKeyOf, IsActionAt, attitude_at, key_after}
+use Rattle.handling_cost.specs.StepCost.{IsKeyOf, attitude_at, key_after}
 use Rattle.handling_cost.proofs.Keys.{some_stage, next_in_range}
 use Rattle.cert_merge.proofs.settled_sets.key_behind.Goals as goal
 

@@ -1,4 +1,4 @@
-use Rattle.std.proofs.Common.{◌≡◌, ◌∙◌, ◌+◌, ℕ, List, length, set, Option, Some, None, slice_index_or, refl, sym, ap, arith, subst}
+use Rattle.std.proofs.Common.{◌≡◌, ◌∙◌, ◌+◌, ℕ, List, length, set, Option, None, slice_index_or, refl, sym, ap, arith, subst}
 use Rattle.std.proofs.lemmas.List.{length-set}
 use Rattle.brake_base.specs.declared.reason.Reason.{Reason}
 use Rattle.cert_merge.specs.declared.settled_sets.NextKey.{NextKey}

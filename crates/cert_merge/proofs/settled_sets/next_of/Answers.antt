@@ -1,4 +1,4 @@
-use Rattle.std.proofs.Common.{◌≤◌, ◌∙◌, arith, sym, ap, subst}
+use Rattle.std.proofs.Common.{◌∙◌, arith, sym, ap, subst}
 use Rattle.brake_base.specs.declared.stroke.Action.{Action}
 use Rattle.job_setup.specs.Setup.{bend_count, stage_count}
 use Rattle.handling_cost.specs.StepCost.{IsActionAt}

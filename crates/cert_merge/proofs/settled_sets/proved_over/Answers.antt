@@ -1,4 +1,4 @@
-use Rattle.std.proofs.Common.{◌∙◌, ◌<◌, arith, sym, ap, subst}
+use Rattle.std.proofs.Common.{◌∙◌, arith, sym, ap, subst}
 use Rattle.brake_base.specs.declared.stroke.Worth.{Worth}
 use Rattle.brake_base.specs.declared.stroke.Worth.TheVariants.{Cost}
 use Rattle.plan_cert.specs.WellFormed.{IsWorth}

@@ -1,12 +1,5 @@
-use Rattle.std.proofs.Common.{◌≡◌, ◌++◌, ◌∷◌, [], ℕ, Result, Ok, Err, not, true, sym, ap, ◌∙◌, true≢false}
+use Rattle.std.proofs.Common.{◌≡◌, Result, Ok, Err, not, true, sym, ap, ◌∙◌, true≢false}
 use Rattle.std.specs.Prelude.{OnOk}
-use Rattle.brake_base.specs.declared.stroke.Key.{Key}
-use Rattle.job_setup.specs.Setup.{JobData}
-use Rattle.cert_merge.specs.Entries.{Settled, united}
-use Rattle.cert_merge.specs.MergeSteps.{Rows}
-use Rattle.cert_merge.specs.MergedRows.{HoldsRows}
-use Rattle.cert_merge.specs.RowTexts.{IsTextOfRow}
-use Rattle.cert_merge.specs.UnitedRows.{AreOfOneRow}
 use Rattle.cert_merge.proofs.JoinedRows.{second_put, first_put, both_put, equal_put, of_one_row, second_at_most, first_at_most}
 use Rattle.cert_merge.proofs.merged_rows.MergedRows.put_joined.Goals.{then-not-is_at_most-2, else-not-is_at_most-2}
 use Rattle.cert_merge.proofs.merged_rows.MergedRows.put_joined.Goals as goal

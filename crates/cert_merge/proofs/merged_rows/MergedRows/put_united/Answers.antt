@@ -1,5 +1,4 @@
-use Rattle.std.proofs.Common.{◌≡◌, sym, ap, ◌∙◌, length, ◌∷◌, [], ◌++◌, ℕ, arith}
-use Rattle.std.proofs.lemmas.Grind.{common_steps}
+use Rattle.std.proofs.Common.{◌≡◌, ◌∙◌, length, ◌∷◌, [], ◌++◌, arith}
 use Rattle.cert_merge.specs.declared.merged_rows.Part.TheVariants as parts
 use Rattle.cert_merge.specs.declared.merged_rows.MergedRows.{MergedRows}
 use Rattle.cert_merge.specs.Entries.{united}

@@ -1,4 +1,4 @@
-use Rattle.std.proofs.Common.{◌≡◌, ◌==◌, ◌≤◌, ◌∙◌, ap, ℕ, [], drop, length, vec_len, true, false, arith, rules}
+use Rattle.std.proofs.Common.{◌≡◌, ◌==◌, ◌≤◌, ◌∙◌, ap, ℕ, [], drop, length, vec_len, true, false, rules}
 use Rattle.cert_merge.specs.MergedRows.{parts_text}
 use Rattle.cert_merge.proofs.MergedParts.{none_left}
 use Rattle.cert_merge.proofs.TextEnds.{empty_is, not_true, not_false, nothing_left, end_given}

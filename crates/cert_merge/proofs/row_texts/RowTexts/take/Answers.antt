@@ -1,4 +1,4 @@
-use Rattle.std.proofs.Common.{◌≡◌, Some, None, refl, sym, ap, ◌∙◌}
+use Rattle.std.proofs.Common.{refl}
 use Rattle.cert_merge.specs.declared.row_texts.RowText.{RowText}
 use Rattle.cert_merge.specs.declared.row_texts.RowTexts.{RowTexts}
 use Rattle.cert_merge.proofs.RowCuts.{none_uncut, none_read, row_taken}

@@ -1,4 +1,4 @@
-use Rattle.std.proofs.Common.{◌≡◌, get_or, None}
+use Rattle.std.proofs.Common.{get_or, None}
 use Rattle.cert_merge.proofs.settled_sets.SettledSet.row.Goals as goal
 
 pub returns : goal.returns

@@ -1,7 +1,6 @@
-use Rattle.std.proofs.Common.{◌≡◌, ◌<◌, ◌∙◌, ℕ, length, get_or, arith, ap}
+use Rattle.std.proofs.Common.{◌<◌, ◌∙◌, ℕ, length, get_or, arith, ap}
 use Rattle.std.proofs.lemmas.List.{get_or_default}
 use Rattle.brake_base.specs.declared.stroke.Worth.TheVariants.{Cost, Blocked}
-use Rattle.cert_merge.specs.Settling.{place_in_set}
 use Rattle.cert_merge.proofs.settled_sets.SettledSet.worth.Goals as goal
 
 pub returns : goal.returns

@@ -1,4 +1,4 @@
-use Rattle.std.proofs.Common.{◌≡◌, ◌<◌, ◌∙◌, Some, length, arith, sym, ap}
+use Rattle.std.proofs.Common.{◌∙◌, Some, arith, sym, ap}
 use Rattle.std.specs.Prelude.{ℕ, slice_get}
 use Rattle.std.proofs.lemmas.Option.{slice_get-get_or}
 use Rattle.cert_merge.proofs.settled_sets.SettledSets.set.Goals as goal

@@ -1,6 +1,5 @@
 use Rattle.std.proofs.Common.{Option, Some, ◌∙◌, sym, ap}
 use Rattle.std.specs.Prelude.{option_map}
-use Rattle.brake_base.specs.declared.stroke.Worth.{Worth}
 use Rattle.cert_merge.specs.declared.settled_sets.SettledSet.{SettledSet}
 use Rattle.cert_merge.specs.Entries.{Settled}
 use Rattle.cert_merge.specs.Settling.{said_by}
