@@ -15,7 +15,7 @@ use std::alloc::AllocError;
 use svg_text::put_line;
 
 /// A head at a point of the line, whose foot lies so many tenths to the right.
-#[tactic(auto, using(crate::proofs::Texts::pieces))]
+#[tactic(auto)]
 fn put_head(out: &mut Vec<u8>, window: &Window, x: i64, y: i64, foot: i64) -> Result<(), AllocError>
     requires window { IsWindow window.now }
     requires x { unsigned_abs x ≤ 2 ^ 52 }
@@ -157,7 +157,7 @@ fn foot(room: i64) -> i64
 }
 
 /// The line of a dimension and its two heads.
-#[tactic(auto, using(crate::proofs::Texts::pieces))]
+#[tactic(auto)]
 fn put_headed(
     out: &mut Vec<u8>,
     window: &Window,
@@ -183,7 +183,7 @@ fn put_headed(
 }
 
 /// The words of a dimension.
-#[tactic(auto, using(crate::proofs::Texts::pieces))]
+#[tactic(auto)]
 fn put_words(
     out: &mut Vec<u8>,
     window: &Window,
@@ -206,7 +206,7 @@ fn put_words(
 
 /// The dimension between two places along x, at a height of the paper: a line with a head at each
 /// end, and its words.
-#[tactic(auto, using(crate::proofs::Texts::pieces))]
+#[tactic(auto)]
 pub fn put_dimension(
     out: &mut Vec<u8>,
     window: &Window,

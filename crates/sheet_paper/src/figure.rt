@@ -37,7 +37,7 @@ fn figure_head(window: &Window) -> i64
 }
 
 /// The first line of a figure: its size on paper and what of the picture that shows.
-#[tactic(auto, using(crate::proofs::Texts::pieces))]
+#[tactic(auto)]
 fn put_size(out: &mut Vec<u8>, window: &Window) -> Result<(), AllocError>
     requires { IsWindow window.now }
     ensures { OnOk result (out.new.items ≡ out.old.items ++ size_line window.now) }
@@ -62,7 +62,7 @@ fn put_size(out: &mut Vec<u8>, window: &Window) -> Result<(), AllocError>
 }
 
 /// The line of the title, and of a sentence for those who can't see the figure.
-#[tactic(auto, using(crate::proofs::Texts::pieces))]
+#[tactic(auto)]
 fn put_title<'a>(
     out: &mut Vec<u8>,
     window: &Window,
@@ -82,7 +82,7 @@ fn put_title<'a>(
 }
 
 /// The line of the window: shapes are cut at it, and their y points upwards.
-#[tactic(auto, using(crate::proofs::Texts::pieces))]
+#[tactic(auto)]
 fn put_window(out: &mut Vec<u8>, window: &Window) -> Result<(), AllocError>
     requires { IsWindow window.now }
     ensures { OnOk result (out.new.items ≡ out.old.items ++ window_line window.now) }
@@ -100,7 +100,7 @@ fn put_window(out: &mut Vec<u8>, window: &Window) -> Result<(), AllocError>
 }
 
 /// Begins a figure with its title and a sentence for those who can't see it. Shapes follow.
-#[tactic(auto, using(crate::proofs::Texts::pieces))]
+#[tactic(auto)]
 pub fn put_figure<'a>(
     out: &mut Vec<u8>,
     window: &Window,
@@ -125,7 +125,7 @@ pub fn put_shapes_end(out: &mut Vec<u8>) -> Result<(), AllocError>
 }
 
 /// The frame around the window.
-#[tactic(auto, using(crate::proofs::Texts::pieces))]
+#[tactic(auto)]
 pub fn put_frame(out: &mut Vec<u8>, window: &Window) -> Result<(), AllocError>
     requires { IsWindow window.now }
     ensures { OnOk result (out.new.items ≡ out.old.items
@@ -154,7 +154,7 @@ fn scale_numbers(scale: i64) -> (i64, i64)
 }
 
 /// Ends a figure with its caption and its scale.
-#[tactic(auto, using(crate::proofs::Texts::pieces))]
+#[tactic(auto)]
 pub fn put_figure_end(out: &mut Vec<u8>, window: &Window, caption: &[u8]) -> Result<(), AllocError>
     requires { IsWindow window.now }
     ensures { OnOk result (out.new.items ≡ out.old.items ++ end_line window.now caption.now) }

@@ -28,7 +28,7 @@ fn note_size(size: i64) -> i64
     size - 4
 }
 
-#[tactic(auto, using(crate::proofs::Texts::pieces))]
+#[tactic(auto)]
 fn put_plain(
     out: &mut Vec<u8>,
     window: &Window,
@@ -54,7 +54,7 @@ fn put_plain(
     put_line(out, form, &holes)
 }
 
-#[tactic(auto, using(crate::proofs::Texts::pieces))]
+#[tactic(auto)]
 fn put_with<'a>(
     out: &mut Vec<u8>,
     window: &Window,

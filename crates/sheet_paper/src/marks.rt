@@ -10,7 +10,7 @@ use std::alloc::AllocError;
 use svg_text::{Hole, put_line};
 
 /// A line through four points, from a place of the picture to its label.
-#[tactic(auto, using(crate::proofs::Texts::pieces))]
+#[tactic(auto)]
 pub fn put_leader(
     out: &mut Vec<u8>,
     window: &Window,
@@ -37,7 +37,7 @@ pub fn put_leader(
 }
 
 /// A triangle of a class, which marks a corner.
-#[tactic(auto, using(crate::proofs::Texts::pieces))]
+#[tactic(auto)]
 pub fn put_triangle(
     out: &mut Vec<u8>,
     window: &Window,

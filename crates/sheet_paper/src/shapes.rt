@@ -18,7 +18,7 @@ pub fn put_group_end(out: &mut Vec<u8>) -> Result<(), AllocError>
 }
 
 /// A rectangle.
-#[tactic(auto, using(crate::proofs::Texts::pieces))]
+#[tactic(auto)]
 pub fn put_rectangle(
     out: &mut Vec<u8>,
     window: &Window,
@@ -53,7 +53,7 @@ pub enum Dashes {
 }
 
 /// A line between two points.
-#[tactic(auto, using(crate::proofs::Texts::pieces))]
+#[tactic(auto)]
 pub fn put_line_between(
     out: &mut Vec<u8>,
     window: &Window,
@@ -96,7 +96,7 @@ pub fn put_line_between(
 }
 
 /// A circle around a point of the paper.
-#[tactic(auto, using(crate::proofs::Texts::pieces))]
+#[tactic(auto)]
 pub fn put_circle(
     out: &mut Vec<u8>,
     window: &Window,
