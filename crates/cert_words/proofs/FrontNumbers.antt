@@ -1,5 +1,5 @@
 -- The digits at the front of a text, and the word that they are.
-use Rattle.std.proofs.Common.{◌≡◌, ℕ, zero, suc, ◌+◌, ◌*◌, ◌-◌, ◌^◌, ◌<◌, ◌≤◌, ◌==◌, ◌&&◌, Bool, true, false, cond, not, inl, inr, List, [], ◌∷◌, length, take, drop, get_or, Option, Some, None, refl, sym, ◌∙◌, ap, subst, arith, true≢false}
+use Rattle.std.proofs.Common.{◌≡◌, ℕ, zero, suc, ◌+◌, ◌*◌, ◌-◌, ◌^◌, ◌<◌, ◌≤◌, ◌==◌, ◌&&◌, Bool, true, false, cond, not, inl, inr, List, [], ◌∷◌, length, ◌++◌, take, drop, get_or, decimal, take-append-drop, Option, Some, None, refl, sym, ◌∙◌, ap, subst, arith, true≢false}
 use Rattle.std.specs.Prelude.{◌⊎◌, nat_lt, if◌then◌else◌}
 use Rattle.std.specs.Char.{is_ascii_digit}
 use Rattle.std.specs.List.{list_all, prefix_len}
@@ -11,11 +11,11 @@ use Rattle.std.proofs.lemmas.Int.Digits.{digits_value_more}
 use Rattle.std.proofs.lemmas.Str.{digit_value_digit}
 use Rattle.std.proofs.lemmas.Str.Parse.{digits_value_short}
 use Rattle.std.proofs.lemmas.List.{length-take, get_or-take}
-use Rattle.std.proofs.lemmas.List.Sums.{prefix_len-le-length}
+use Rattle.std.proofs.lemmas.List.Sums.{prefix_len-le-length, prefix_len_is, prefix_len_passes, AllPass-from_list_all, list_all-from_AllPass}
 use Rattle.brake_text.specs.Numbers.{is_number, number_of}
-use Rattle.brake_text.proofs.Numerals.{digits_model}
+use Rattle.brake_text.proofs.Numerals.{digits_model, number-spelled}
 use Rattle.cert_words.specs.declared.front_number.Digits.{Digits}
-use Rattle.cert_words.specs.FrontNumbers.{AreFrontDigits, is_spelled, number_upto, number_in_front}
+use Rattle.cert_words.specs.FrontNumbers.{AreFrontDigits, digits_in_front, is_spelled, number_upto, number_in_front, leading_number}
 use Rattle.cert_words.specs.LineWords.{◌>>=◌, Reads, is_space, word_length}
 
 -- so many bytes are digits of this value
@@ -184,3 +184,67 @@ module _ (text : List ℕ) (d : Digits) (are : AreFrontDigits text d) where
     | inl longer ↦ none_longer longer
     | inr none ↦ absurd (eqb-false (word_length (drop d.count text)) 0 more (omega (arith, none)))
   ]
+
+-- ---- the number whose digits stand at the front
+few_in_front : (text : List ℕ) → (digits_in_front text ≤ length text) × (digits_in_front text ≤ 18)
+few_in_front text =
+    let short = prefix_len-le-length is_ascii_digit (take 18 text) in
+    let long = length-take 18 text in
+    (omega (arith, short, long), omega (arith, short, long))
+
+all_in_front : (text : List ℕ) → list_all is_ascii_digit (take (digits_in_front text) text) ≡ true
+all_in_front text = list_all-from_AllPass is_ascii_digit (take (digits_in_front text) text) (λ i d within.
+    let few = few_in_front text in
+    let here : i < digits_in_front text = omega (arith, within, few.0, length-take (digits_in_front text) text) in
+    ap is_ascii_digit (get_or-take (digits_in_front text) text i d here ∙ sym (get_or-take 18 text i d (omega (arith, here, few.1))))
+    ∙ prefix_len_passes is_ascii_digit (take 18 text) i d here)
+
+module _ (text : List ℕ) (d : Digits) (are : AreFrontDigits text d) where
+  count_is : digits_in_front text ≡ d.count
+  count_is = prefix_len_is is_ascii_digit (take 18 text) d.count 0 (omega (arith, are.within, are.few, length-take 18 text)) passes stops
+    where
+      passes : (k : ℕ) → k < d.count → is_ascii_digit (get_or (take 18 text) k 0) ≡ true
+      passes k less =
+          ap is_ascii_digit (get_or-take 18 text k 0 (omega (arith, less, are.few)) ∙ sym (get_or-take d.count text k 0 less))
+          ∙ AllPass-from_list_all is_ascii_digit (take d.count text) are.all k 0 (omega (arith, less, are.within, length-take d.count text))
+
+      stops : d.count < length (take 18 text) → is_ascii_digit (get_or (take 18 text) d.count 0) ≡ false
+      stops inside =
+          let few : d.count < 18 = omega (arith, inside, length-take 18 text) in
+          ap is_ascii_digit (get_or-take 18 text d.count 0 few) ∙ are.last few (omega (arith, inside, length-take 18 text))
+
+  abbrev told : ℕ → Bool → Option (ℕ × List ℕ)
+  told n is = if is then Some (digits_value 10 (take n text), drop n text) else None
+
+  pub leading_there : is_spelled text d.count ≡ true → leading_number text ≡ Some (d.value, drop d.count text)
+  leading_there is = ap (λ n. told n (is_spelled text n)) count_is ∙ ap (told d.count) is ∙ ap (λ v. Some (v, drop d.count text)) (sym are.value_is)
+
+  pub no_leading : is_spelled text d.count ≡ false → leading_number text ≡ None
+  no_leading isnt = ap (λ n. told n (is_spelled text n)) count_is ∙ ap (told d.count) isnt
+
+-- it is spelled by them
+pub leading_spelled : (text : List ℕ) (n : ℕ) (rest : List ℕ) → leading_number text ≡ Some (n, rest) → (n < 10 ^ 18) × (text ≡ decimal n ++ rest)
+leading_spelled text n rest read = by_test (is_spelled text count) refl read
+  where
+    count : ℕ
+    count = digits_in_front text
+
+    parts : (a b : ℕ) (t u : List ℕ) → ◌≡◌ {A = Option (ℕ × List ℕ)} (Some (a, t)) (Some (b, u)) → (a ≡ b) × (t ≡ u)
+    parts a b t u same =
+        let first : a ≡ b = ap (λ (o : Option (ℕ × List ℕ)). elim o [ Some x ↦ x.0 | None ↦ 0 ]) same in
+        let second : t ≡ u = ap (λ (o : Option (ℕ × List ℕ)). elim o [ Some x ↦ x.1 | None ↦ [] ]) same in
+        (first, second)
+
+    by_spelling : Bool → Option (ℕ × List ℕ)
+    by_spelling b = if b then Some (digits_value 10 (take count text), drop count text) else None
+
+    by_test : (b : Bool) → is_spelled text count ≡ b → by_spelling b ≡ Some (n, rest) → (n < 10 ^ 18) × (text ≡ decimal n ++ rest)
+    by_test false isnt same = absurd (let c = same in cc)
+    by_test true is same =
+        let few = few_in_front text in
+        let number = number-spelled (take count text) (spelled text count few.0 few.1 (all_in_front text) is) in
+        let value = (parts (digits_value 10 (take count text)) n (drop count text) rest same).0 in
+        let behind = (parts (digits_value 10 (take count text)) n (drop count text) rest same).1 in (
+          subst (λ v. v < 10 ^ 18) value number.0,
+          sym (take-append-drop count text) ∙ ap (λ t. t ++ drop count text) number.1 ∙ ap (λ v. decimal v ++ drop count text) value ∙ ap (λ t. decimal n ++ t) behind,
+        )

@@ -1,7 +1,7 @@
 //! The number with which a text begins, by one pass over its digits.
 ghost use Rattle.std.specs.Prelude.{◌≡◌, ◌==◌};
 ghost use Rattle.cert_words.specs.LineWords.{Reads, word_length};
-ghost use Rattle.cert_words.specs.FrontNumbers.{AreFrontDigits, is_spelled, number_in_front};
+ghost use Rattle.cert_words.specs.FrontNumbers.{AreFrontDigits, is_spelled, number_in_front, leading_number};
 
 /// How many digits a number has at most.
 const DIGITS: usize = 18;
@@ -60,4 +60,17 @@ pub(crate) fn number_in_front(text: &[u8]) -> Option<(u64, &[u8])>
     } else {
         None
     }
+}
+
+/// The number whose digits stand at the front, and the text behind them; `None` where these aren't
+/// the one spelling of a number of at most 18 digits.
+pub fn leading_number(text: &[u8]) -> Option<(u64, &[u8])>
+    ensures { Reads (λ x. (x.0, x.1.now)) result (leading_number text.now) }
+{
+    let digits = front_digits(text);
+    if !is_spelled(text, digits.count) {
+        return None;
+    }
+    let (_, rest) = text.split_at(digits.count);
+    Some((digits.value, rest))
 }

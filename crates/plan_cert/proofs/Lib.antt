@@ -17,6 +17,7 @@ pub mod Beginnings
 pub mod Each
 pub mod Readers
 pub mod PlanLineRead
+pub mod LeadingRows
 pub mod FormatLines
 pub mod Naturals
 pub mod FoldShown

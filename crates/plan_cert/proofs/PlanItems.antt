@@ -15,8 +15,8 @@ use Rattle.plan_cert.specs.PlanReading.{take_plan_line, first_section}
 use Rattle.plan_cert.specs.LineReading.{keyword_in, behind_keyword}
 use Rattle.plan_cert.specs.JobLines.{JobLinesData}
 use Rattle.plan_cert.specs.Items.{lines_in, next_number, is_over, plan_item, end_or_fault, plan_items}
-use Rattle.plan_cert.specs.Reading.{IsCut, LeavesPlan, LeavesIn, LeavesAt, GivesNext}
-use Rattle.plan_cert.proofs.WholeLines.{cut_before, uncut_before, some_line}
+use Rattle.plan_cert.specs.Reading.{GivesLine, LeavesPlan, LeavesIn, LeavesAt, GivesNext}
+use Rattle.plan_cert.proofs.WholeLines.{uncut_before, some_line}
 
 -- at the end no answer is left
 over_items : (format : Format) (job : JobData) (n : ℕ) (lines : List (List ℕ)) → plan_items format job n sections.Over lines ≡ []
@@ -58,17 +58,18 @@ leaves_same old new number section text job kept number_is section_is facts_is =
     left_in new.section new text (plan_items old.facts.format job number section (lines_in text)) refl (record { job = job; kept = subst (λ f. KeepsFacts f job) (sym facts_is) kept; left = behind })
 
 -- a whole line behind the job is answered
-pub line_given : (old new : LinePlace) (answers : List (Result Item CertFault)) (text line rest behind : List ℕ) (given : Result Item CertFault × Section) → LeavesAt old (text ++ behind) answers → 0 < length answers → IsCut text line rest
-    → ((job : JobData) → KeepsFacts old.facts job → given ≡ plan_item old.facts.format job old.number old.section line (lines_in (rest ++ behind)))
+pub line_given : (old new : LinePlace) (answers : List (Result Item CertFault)) (text rest behind : List ℕ) (given : Result Item CertFault × Section) → LeavesAt old (text ++ behind) answers → 0 < length answers
+    → ((job : JobData) → KeepsFacts old.facts job → GivesLine old job (text ++ behind) given (rest ++ behind))
     → new.number ≡ next_number old.number → new.section ≡ given.1 → new.facts ≡ old.facts → GivesNext answers given.0 new (rest ++ behind)
-line_given old new answers text line rest behind given left some cut is number_is section_is facts_is =
+line_given old new answers text rest behind given left some is number_is section_is facts_is =
     let plan = (plan_left old.section old (text ++ behind) answers some left).0 in
     let on = (plan_left old.section old (text ++ behind) answers some left).1 in
+    let cut = is plan.job plan.kept in
     let more = plan_items old.facts.format plan.job (next_number old.number) given.1 (lines_in (rest ++ behind)) in
     let first : answers ≡ given.0 ∷ more =
-    plan.left ∙ ap (λ (ls : List (List ℕ)). plan_items old.facts.format plan.job old.number old.section ls) (cut_before text line rest behind cut)
-    ∙ one_item old.facts.format plan.job old.number old.section line (lines_in (rest ++ behind)) on
-    ∙ ap (λ (g : Result Item CertFault × Section). g.0 ∷ plan_items old.facts.format plan.job (next_number old.number) g.1 (lines_in (rest ++ behind))) (sym (is plan.job plan.kept)) in
+    plan.left ∙ ap (λ (ls : List (List ℕ)). plan_items old.facts.format plan.job old.number old.section ls) cut.1
+    ∙ one_item old.facts.format plan.job old.number old.section cut.0 (lines_in (rest ++ behind)) on
+    ∙ ap (λ (g : Result Item CertFault × Section). g.0 ∷ plan_items old.facts.format plan.job (next_number old.number) g.1 (lines_in (rest ++ behind))) (sym cut.2) in
     (more, first, leaves_same old new (next_number old.number) given.1 (rest ++ behind) plan.job plan.kept number_is section_is facts_is)
 
 -- the text ends within a line

@@ -1,6 +1,6 @@
 -- What a reader is, and what it has still to answer.
 use Rattle.std.specs.Prelude.{◌≡◌, ◌≢◌, ℕ, Bool, true, false, ◌&&◌, nat_lt, List, [], ◌∷◌}
-use Rattle.std.specs.Prelude.{◌++◌, All, Option, Some, None, Result, Ok, Err}
+use Rattle.std.specs.Prelude.{◌++◌, ◌<◌, length, All, Option, Some, None, Result, Ok, Err}
 use Rattle.job_setup.specs.Setup.{JobData}
 use Rattle.job_setup.specs.ValidJob.{IsJob}
 use Rattle.plan_cert.specs.declared.format.TextKind.{TextKind}
@@ -15,7 +15,7 @@ use Rattle.plan_cert.specs.JobLines.{JobLinesData, job_of}
 use Rattle.plan_cert.specs.PlanReading.{first_section}
 use Rattle.plan_cert.specs.Facts.{KeepsFacts}
 use Rattle.plan_cert.specs.JobTest.{is_job}
-use Rattle.plan_cert.specs.Items.{items, lines_in, plan_items, take_line}
+use Rattle.plan_cert.specs.Items.{items, lines_in, plan_item, plan_items, take_line}
 
 -- what is read, its text, and the number of answers so far
 pub record Reading : Type 0 where
@@ -63,12 +63,28 @@ abbrev pub GivesNext : List (Result Item CertFault) → Result Item CertFault �
 GivesNext answers given place text =
     (more : List (Result Item CertFault)) × (answers ≡ given ∷ more) × LeavesAt place text more
 
+-- the first line of the text gives this where it stands, and the text behind it is the rest
+abbrev pub GivesLine : LinePlace → JobData → List ℕ → Result Item CertFault × Section → List ℕ
+    → Type 0
+GivesLine place job text given rest =
+    (line : List ℕ) × (lines_in text ≡ line ∷ lines_in rest)
+    × (given ≡ plan_item place.facts.format job place.number place.section line (lines_in rest))
+
 -- The bytes may stand behind those of which this is the answer: where these end with the text's end,
 -- or within a line, there are none.
 abbrev pub HoldsBefore : Result Item CertFault → List ℕ → Type 0
 HoldsBefore (Ok given.End) behind = behind ≡ []
 HoldsBefore (Err faults.Unended) behind = behind ≡ []
 HoldsBefore _ behind = Unit {0}
+
+-- A line of the text gives this where it stands, and then the rest goes on, whatever bytes may stand
+-- behind the text.
+pub record IsNextLine (place : LinePlace) (text : List ℕ) (given : Result Item CertFault × Section)
+    (rest : List ℕ) : Type 0 where
+  pub behind : IsBehind text rest
+  pub shorter : length rest < length text
+  pub gives : (job : JobData) (behind : List ℕ) → KeepsFacts place.facts job
+      → HoldsBefore given.0 behind → GivesLine place job (text ++ behind) given (rest ++ behind)
 
 -- the bytes may stand behind a piece, which is the last one or not
 abbrev pub MayBeBehind : Bool → List ℕ → Type 0

@@ -15,6 +15,7 @@ mod job_lines;
 mod job_reading;
 mod job_section;
 mod known_note;
+mod leading_row;
 mod line_place;
 mod note_lines;
 mod note_run;

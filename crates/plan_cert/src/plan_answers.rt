@@ -1,17 +1,21 @@
 //! The answers behind the job, each of one line.
-ghost use Rattle.std.specs.Prelude.{◌≡◌, ◌<◌, ◌++◌, ℕ, IfOk, List, length, Result};
+ghost use Rattle.std.specs.Prelude.{◌≡◌, ◌<◌, ◌++◌, ◌∷◌, [], ℕ, IfOk, IfSome, IsNone, List, length, Result, Ok};
 ghost use Rattle.job_setup.specs.Setup.{JobData};
 ghost use Rattle.plan_cert.specs.declared.item.Item.{Item};
+ghost use Rattle.plan_cert.specs.declared.item.Item.TheVariants as given;
+ghost use Rattle.plan_cert.specs.declared.section.Section.TheVariants as sections;
 ghost use Rattle.plan_cert.specs.Facts.{KeepsFacts, HasFew};
 ghost use Rattle.plan_cert.specs.Items.{lines_in, end_before, end_or_fault, plan_item};
 ghost use Rattle.plan_cert.specs.PlanItem.{plan_answer};
-ghost use Rattle.plan_cert.specs.Reading.{IsBehind, LeavesAt, GivesNext, HoldsBefore};
+ghost use Rattle.plan_cert.specs.Reading.{IsBehind, IsNextLine, LeavesAt, GivesNext, HoldsBefore};
 
+use crate::cert::RowHead;
 use crate::first_line::whole_line;
 use crate::item::{CertFault, PlanItem};
+use crate::leading_row::leading_row;
 use crate::line_place::{LinePlace, next_number};
 use crate::plan_reader::{PlanReader, refuse};
-use crate::plan_reading::{is_end_line, may_leave, take_plan_line};
+use crate::plan_reading::{is_end_line, may_be_row, may_leave, take_plan_line};
 use crate::section::Section;
 
 /// The answer behind the job: what its line gives, or the refusal.
@@ -28,15 +32,54 @@ pub(crate) fn answer_behind_job(reader: &mut PlanReader) -> Result<PlanItem, Cer
         (λ _. length reader.new.rest.now < length reader.old.rest.now) }
 {
     let place = reader.place;
-    match whole_line(reader.rest) {
-        Some((line, rest)) => {
-            let (answer, section) = plan_item(&place, line, rest);
+    match next_line(&place, reader.rest) {
+        Some((answer, section, rest)) => {
             reader.rest = rest;
             reader.place.number = next_number(place.number);
             reader.place.section = section;
             answer
         }
         None => Err(refuse(reader, CertFault::Unended)),
+    }
+}
+
+/// The answer of a text's first line, where the next one stands, and the text behind it. `None` where
+/// the text has no whole line.
+fn next_line<'a>(
+    place: &LinePlace,
+    text: &'a [u8],
+) -> Option<(Result<PlanItem, CertFault>, Section, &'a [u8])>
+    requires { HasFew place.now.facts }
+    ensures some { IfSome result
+        (λ x. IsNextLine place.now text.now (plan_answer x.0, x.1) x.2.now) }
+    ensures none { IsNone result → lines_in text.now ≡ text.now ∷ [] }
+{
+    if let Some((row, rest)) = next_row(place, text) {
+        let section = Section::Notes(row.key, 0);
+        return Some((Ok(PlanItem::Row(row)), section, rest));
+    }
+    match whole_line(text) {
+        Some((line, rest)) => {
+            let (answer, section) = plan_item(place, line, rest);
+            Some((answer, section, rest))
+        }
+        None => None,
+    }
+}
+
+/// The row whose line stands at the front of a text, where it may stand there, and the text behind
+/// the line.
+fn next_row<'a>(place: &LinePlace, text: &'a [u8]) -> Option<(RowHead, &'a [u8])>
+    requires { HasFew place.now.facts }
+    ensures { IfSome result (λ x. IsNextLine place.now text.now
+        (Ok (given.Row x.0), sections.Notes x.0.key 0) x.1.now) }
+{
+    let facts = &place.facts;
+    match leading_row(text, facts) {
+        Some((row, rest)) if may_be_row(facts.format, facts.bends, &place.section, &row.key) => {
+            Some((row, rest))
+        }
+        _ => None,
     }
 }
 

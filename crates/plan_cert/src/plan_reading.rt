@@ -51,7 +51,7 @@ pub(crate) fn may_leave(format: Format, bends: u8, section: &Section) -> bool
 }
 
 /// Whether a row of this key may stand here.
-fn may_be_row(format: Format, bends: u8, section: &Section, key: &Key) -> bool
+pub(crate) fn may_be_row(format: Format, bends: u8, section: &Section, key: &Key) -> bool
     ensures { result ≡ may_be_row format bends section.now key.now }
 {
     match section {

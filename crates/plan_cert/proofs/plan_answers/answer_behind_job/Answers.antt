@@ -3,18 +3,16 @@ use Rattle.plan_cert.specs.PlanItem.{plan_answer}
 use Rattle.plan_cert.specs.declared.item.CertFault.{CertFault}
 use Rattle.plan_cert.specs.Reading.{IsBehind, HoldsBefore}
 use Rattle.plan_cert.proofs.PlanItems.{line_given, line_unended}
-use Rattle.plan_cert.proofs.WholeLines.{all_behind, behind_cut}
+use Rattle.plan_cert.proofs.WholeLines.{all_behind}
 use Rattle.plan_cert.proofs.plan_answers.answer_behind_job.Goals as goal
 
 pub returns-in-Some-clause-given : goal.returns-in-Some-clause-given
 returns-in-Some-clause-given c = λ behind answers left some holds.
     let old = c.args.reader.now in
-    let given = c.plan_item-answer.result in
-    line_given old.place (record { number = c.next_number-reader.result; section = given.1; facts = old.place.facts }) answers old.rest.now c.in-Some.line.now c.in-Some.rest.now behind (plan_answer given.0, given.1)
-    left some c.in-Some.ensures.some (λ job kept. c.plan_item-answer.ensures job behind kept holds) c.next_number-reader.ensures refl refl
-
-pub returns-in-Some-clause-rest : goal.returns-in-Some-clause-rest
-returns-in-Some-clause-rest c = behind_cut c.args.reader.now.rest.now c.in-Some.line.now c.in-Some.rest.now c.in-Some.ensures.some
+    let answer = c.in-Some.answer in
+    let section = c.in-Some.section in
+    line_given old.place (record { number = c.next_number-reader.result; section = section; facts = old.place.facts }) answers old.rest.now c.in-Some.rest.now behind (plan_answer answer, section)
+    left some (λ job kept. c.in-Some.ensures.some.gives job behind kept holds) c.next_number-reader.ensures refl refl
 
 pub returns-in-None-clause-given : goal.returns-in-None-clause-given
 returns-in-None-clause-given c = λ behind answers left some holds.
