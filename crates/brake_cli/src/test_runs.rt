@@ -1,6 +1,6 @@
 //! What the tests of all commands share: files in memory, texts put together, and runs.
 
-use crate::brake::brake;
+use brake_commands::brake;
 use brake_io::{MemShelf, MemSink};
 use certificate_texts::{ROWS, STEPS};
 use command_runner::Status;

@@ -1,7 +1,7 @@
 //! Words that have no form, and words that have one.
 
-use crate::command::{Command, read_words};
 use crate::test_runs::{run, words_of};
+use brake_commands::{Command, read_words};
 use brake_io::{MemShelf, MemSink};
 use command_runner::Status;
 use std::alloc::{AllocError, Global};

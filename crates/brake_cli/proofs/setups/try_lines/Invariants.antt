@@ -1,8 +1,0 @@
-use Rattle.std.proofs.Common.{◌≡◌, map, take}
-use Rattle.brake_cli.specs.Attempts.{attempt_data}
-use Rattle.brake_cli.specs.SetupsAnswer.{try_lines}
-use Rattle.brake_cli.proofs.setups.try_lines.Given as goal
-
--- the lines of those so far
-abbrev pub invariant-loop-place : goal.invariant-loop-place
-invariant-loop-place l = l.out.items ≡ try_lines (take l.place (map attempt_data l.attempts))
