@@ -27,11 +27,13 @@ use Rattle.handling_cost.proofs.Small.{total_small}
 use Rattle.handling_cost.proofs.Tables.{proves_moved}
 use Rattle.row_pool.specs.Rows.{Pool, PoolRow, IsPool, worth_at}
 use Rattle.row_pool.specs.Store.{key_number}
-use Rattle.plan_cert.specs.declared.cert.RowHead.{RowHead}
-use Rattle.plan_cert.specs.declared.cert.Note.{Note}
+use Rattle.cert_lines.specs.declared.row_head.RowHead.{RowHead}
+use Rattle.plan_lines.specs.declared.note.Note.{Note}
 use Rattle.plan_cert.specs.Cert.{CertData}
-use Rattle.plan_cert.specs.Lines.{action_at}
-use Rattle.plan_cert.specs.WellFormed.{IsWorth, IsStep, HasSteps, IsRow, IsNote, NoteIsBefore, AreRows}
+use Rattle.cert_lines.specs.Lines.{action_at}
+use Rattle.cert_lines.specs.Lines.{IsWorth}
+use Rattle.plan_lines.specs.LinesFit.{IsStep, IsRow}
+use Rattle.plan_cert.specs.WellFormed.{HasSteps, IsNote, NoteIsBefore, AreRows}
 use Rattle.plan_cert.specs.GoodCert.{IsThriftyCert, IsWithinBudget, HasRow as HasCertRow, HasNote as HasCertNote}
 use Rattle.plan_cert.proofs.ReasonRanges.{reason_ranged}
 use Rattle.bb_search.specs.Table.{HasRow, HasNote}

@@ -16,11 +16,11 @@ use Rattle.handling_cost.specs.Good.{MeetsCondition}
 use Rattle.handling_cost.specs.Thrifty.{AreThrifty}
 use Rattle.handling_cost.proofs.Tables.{closed_moved}
 use Rattle.row_pool.specs.Rows.{Pool, PoolRow, reason_at}
-use Rattle.plan_cert.specs.declared.cert.RowHead.{RowHead}
-use Rattle.plan_cert.specs.declared.cert.Note.{Note}
-use Rattle.plan_cert.specs.Lines.{action_at}
+use Rattle.cert_lines.specs.declared.row_head.RowHead.{RowHead}
+use Rattle.plan_lines.specs.declared.note.Note.{Note}
+use Rattle.cert_lines.specs.Lines.{action_at}
 use Rattle.plan_cert.specs.GoodCert.{worths_in, HasNote as HasCertNote}
-use Rattle.plan_cert.proofs.Actions.{action_is}
+use Rattle.plan_lines.proofs.Actions.{action_is}
 use Rattle.bb_search.specs.Table.{HasRow, HasNote, reason_for, IsNoted, AreNoted}
 use Rattle.bb_search.specs.CertRows.{row_order, row_of_order, AreSortedRows, IsHeadOf, AreHeads, reason_in, note_order, IsNoteOf, AreNotes}
 use Rattle.bb_search.proofs.OrderLemmas.{is_action, number_in, number_below}

@@ -22,7 +22,8 @@ use Rattle.row_pool.specs.Index.{HasPlace}
 use Rattle.row_pool.specs.Rows.{Pool, PoolRow, IsPool}
 use Rattle.plan_cert.specs.Cert.{CertData}
 use Rattle.plan_cert.specs.CertText.{cert_text2}
-use Rattle.plan_cert.specs.WellFormed.{IsReasonInRange, IsWellFormed}
+use Rattle.plan_lines.specs.LinesFit.{IsReasonInRange}
+use Rattle.plan_cert.specs.WellFormed.{IsWellFormed}
 use Rattle.plan_cert.proofs.ReasonRanges.{reason_ranged}
 use Rattle.bb_search.specs.declared.written.WrittenCert.{WrittenCert}
 use Rattle.bb_search.specs.Outcomes.{outcome_of, IsAnswer}

@@ -7,7 +7,7 @@ use Rattle.std.proofs.lemmas.List.Quantifiers.{all_pairs_push}
 use Rattle.std.proofs.lemmas.Option.{slice_get_cases, slice_get_past, same_Some, none-some}
 use Rattle.brake_base.specs.declared.reason.Reason.{Reason}
 use Rattle.row_pool.specs.Rows.{Pool, PoolRow, IsPool, reason_at}
-use Rattle.plan_cert.specs.declared.cert.Note.{Note}
+use Rattle.plan_lines.specs.declared.note.Note.{Note}
 use Rattle.bb_search.specs.CertRows.{reason_in, note_order, IsNoteOf, AreNotes}
 
 -- past its actions a row has no reason

@@ -12,7 +12,7 @@ use Rattle.handling_cost.specs.Plan.{IsLegal, IsRest}
 use Rattle.handling_cost.proofs.Actions.{few_bends, fewer_left}
 use Rattle.handling_cost.proofs.Legal.{gauge_within}
 use Rattle.handling_cost.proofs.Counts.{at_most_all}
-use Rattle.plan_cert.specs.WellFormed.{IsStep}
+use Rattle.plan_lines.specs.LinesFit.{IsStep}
 
 step_ranged : (job : JobData) (key : Key) (step : Step) → IsLegal job key step → IsStep job step
 step_ranged job key step legal =

@@ -6,7 +6,7 @@ use Rattle.std.proofs.lemmas.Grind.{flat_map-append}
 use Rattle.std.proofs.Math.Seq.{take-suc, take-length}
 use Rattle.std.proofs.lemmas.Option.{slice_get-get_or}
 use Rattle.brake_base.specs.declared.stroke.Worth.{Worth}
-use Rattle.plan_cert.specs.declared.cert.RowHead.{RowHead}
+use Rattle.cert_lines.specs.declared.row_head.RowHead.{RowHead}
 use Rattle.row_pool.specs.Rows.{Pool, PoolRow, IsPool, worth_at}
 use Rattle.row_pool.specs.Order.{IsNextRow, HasNoNext}
 use Rattle.bb_search.specs.CertRows.{row_order, row_of_order, AreSortedRows, IsHeadOf}

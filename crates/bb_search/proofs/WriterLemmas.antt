@@ -11,16 +11,16 @@ use Rattle.brake_base.specs.declared.reason.Reason.{Reason}
 use Rattle.brake_base.specs.Actions.{IsActionAmong, number_of_action}
 use Rattle.stage_lanes.specs.declared.actions.ActionSet.{ActionSet}
 use Rattle.stage_lanes.specs.ActionSets.{has_place, place_of, ArePlaces, IsNone, numbers_below, places_of}
-use Rattle.plan_cert.specs.declared.cert.RowHead.{RowHead}
-use Rattle.plan_cert.specs.declared.cert.Note.{Note}
-use Rattle.plan_cert.specs.Lines.{CertLine, lines_text, row_line}
+use Rattle.cert_lines.specs.declared.row_head.RowHead.{RowHead}
+use Rattle.plan_lines.specs.declared.note.Note.{Note}
+use Rattle.cert_lines.specs.Lines.{CertLine, lines_text, row_line}
 use Rattle.plan_cert.specs.CertText.{line_of_note}
 use Rattle.row_pool.specs.Index.{HasPlace}
 use Rattle.row_pool.specs.Rows.{Pool, PoolRow, keys, reason_at, common_at}
 use Rattle.row_text.specs.Notes.{SetNotes, IsAmong, number_at, note_at, notes_of}
 use Rattle.row_text.specs.Notes.{reason_at as reason_of}
 use Rattle.row_text.proofs.ActionPlaces.{number_of_place}
-use Rattle.plan_cert.proofs.NoteSets.{one_more, skip, keep}
+use Rattle.plan_lines.proofs.NoteSets.{one_more, skip, keep}
 use Rattle.bb_search.specs.CertRows.{IsHeadOf}
 use Rattle.bb_search.specs.WrittenRows.{AreWritable, IsWriterOf, is_noted, noted_places, known, row_note, row_notes, row_text}
 use Rattle.bb_search.proofs.CertLemmas.{mapped}

@@ -7,14 +7,14 @@ use Rattle.std.proofs.lemmas.Option.{get_or_from_slice_get}
 use Rattle.brake_base.specs.declared.stroke.Step.{Step}
 use Rattle.brake_base.specs.declared.stroke.Worth.{Worth}
 use Rattle.job_setup.specs.Setup.{JobData, stage_count}
-use Rattle.plan_cert.specs.declared.cert.RowHead.{RowHead}
-use Rattle.plan_cert.specs.declared.cert.Note.{Note}
-use Rattle.plan_cert.specs.declared.format.Format.TheVariants.{Version2}
+use Rattle.cert_lines.specs.declared.row_head.RowHead.{RowHead}
+use Rattle.plan_lines.specs.declared.note.Note.{Note}
+use Rattle.cert_lines.specs.declared.format.Format.TheVariants.{Version2}
 use Rattle.plan_cert.specs.Cert.{CertData}
-use Rattle.plan_cert.specs.Lines.{CertLine, lines_text, line_text, format_line, claim_line, step_line, row_line, end_line}
-use Rattle.plan_cert.specs.JobText.{job_lines}
+use Rattle.cert_lines.specs.Lines.{CertLine, lines_text, line_text, format_line, claim_line, step_line, row_line, end_line}
+use Rattle.cert_lines.specs.JobText.{job_lines}
 use Rattle.plan_cert.specs.CertText.{line_of_note, rows_lines, cert_text2}
-use Rattle.plan_cert.proofs.JobTexts.{four}
+use Rattle.cert_lines.proofs.JobTexts.{four}
 use Rattle.row_pool.specs.Rows.{Pool, IsPool, reason_at}
 use Rattle.row_text.proofs.MoreRows.{AreAt, more_text}
 use Rattle.bb_search.specs.CertRows.{row_of_order, IsHeadOf, note_order, AreNotes}

@@ -5,8 +5,8 @@ use Rattle.brake_base.specs.declared.stroke.Key.{Key}
 use Rattle.brake_base.specs.declared.reason.Reason.{Reason}
 use Rattle.row_pool.specs.Rows.{Pool, PoolRow, reason_at}
 use Rattle.row_pool.specs.Store.{key_number}
-use Rattle.plan_cert.specs.declared.cert.RowHead.{RowHead}
-use Rattle.plan_cert.specs.declared.cert.Note.{Note}
+use Rattle.cert_lines.specs.declared.row_head.RowHead.{RowHead}
+use Rattle.plan_lines.specs.declared.note.Note.{Note}
 
 -- a row's place in the order of keys, as one number: the number of its key, and then its own
 abbrev pub row_order : Key → ℕ → ℕ

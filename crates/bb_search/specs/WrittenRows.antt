@@ -13,15 +13,15 @@ use Rattle.stage_lanes.specs.ActionSets.{has_place, numbers_below}
 use Rattle.stage_lanes.specs.Codes.{IsCoded}
 use Rattle.row_pool.specs.Index.{HasPlace}
 use Rattle.row_pool.specs.Rows.{Pool, PoolRow, IsPool, keys, worth_at, reason_at, common_at}
-use Rattle.plan_cert.specs.declared.cert.RowHead.{RowHead}
-use Rattle.plan_cert.specs.declared.cert.Note.{Note}
+use Rattle.cert_lines.specs.declared.row_head.RowHead.{RowHead}
+use Rattle.plan_lines.specs.declared.note.Note.{Note}
 use Rattle.job_setup.specs.Setup.{JobData, stage_count}
-use Rattle.plan_cert.specs.declared.format.Format.TheVariants.{Version2}
+use Rattle.cert_lines.specs.declared.format.Format.TheVariants.{Version2}
 use Rattle.plan_cert.specs.Cert.{CertData}
-use Rattle.plan_cert.specs.JobText.{job_lines}
-use Rattle.plan_cert.specs.Lines.{CertLine, lines_text, format_line, claim_line, step_line, row_line}
+use Rattle.cert_lines.specs.JobText.{job_lines}
+use Rattle.cert_lines.specs.Lines.{CertLine, lines_text, format_line, claim_line, step_line, row_line}
 use Rattle.plan_cert.specs.CertText.{line_of_note, rows_lines}
-use Rattle.plan_cert.specs.WellFormed.{IsWorth}
+use Rattle.cert_lines.specs.Lines.{IsWorth}
 use Rattle.row_text.specs.Notes.{SetNotes, number_at}
 use Rattle.row_text.specs.Notes.{reason_at as reason_of}
 use Rattle.bb_search.specs.CertRows.{row_order, row_of_order, AreSortedRows, AreHeads, note_order}

@@ -15,9 +15,9 @@ use Rattle.handling_cost.proofs.Keys.{number_of_full}
 use Rattle.handling_cost.proofs.Least.{good_is_least}
 use Rattle.setup_sheet.specs.OrderSheet.{AreSteps}
 use Rattle.setup_sheet.proofs.PlanTold.{rest_told}
-use Rattle.plan_cert.specs.declared.cert.RowHead.{RowHead}
+use Rattle.cert_lines.specs.declared.row_head.RowHead.{RowHead}
 use Rattle.plan_cert.specs.Cert.{CertData}
-use Rattle.plan_cert.specs.WellFormed.{IsRow}
+use Rattle.plan_lines.specs.LinesFit.{IsRow}
 use Rattle.plan_cert.specs.GoodCert.{worths_in, HasRow, HasNote, IsGoodCert}
 use Rattle.handling_cost.specs.Claim.{IsTrueClaim}
 

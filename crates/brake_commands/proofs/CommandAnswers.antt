@@ -2,7 +2,7 @@
 use Rattle.std.proofs.Common.{◌≡◌, ◌⊎◌, inl, inr, ℕ, List, length, Option, Some, None, Result, Ok, Err, refl}
 use Rattle.brake_base.specs.declared.stroke.Worth.{Worth}
 use Rattle.brake_base.specs.declared.stroke.Worth.TheVariants.{Cost, Blocked}
-use Rattle.plan_cert.specs.WellFormed.{IsWorth}
+use Rattle.cert_lines.specs.Lines.{IsWorth}
 use Rattle.cert_check.specs.declared.fault.CheckFault.{CheckFault}
 use Rattle.cert_check.specs.declared.fault.CheckFault.TheVariants as check
 use Rattle.cert_check.specs.Checking.{CheckedData, IsAccepted, IsAnswer, verdict_of}

@@ -7,7 +7,7 @@ use Rattle.std.proofs.lemmas.List.Elements.{All-cons}
 use Rattle.brake_base.specs.declared.stroke.Worth.TheVariants.{Cost}
 use Rattle.handling_cost.specs.Plan.{start}
 use Rattle.setup_sheet.specs.OrderSheet.{AreSteps}
-use Rattle.plan_cert.specs.Lines.{number, text_line}
+use Rattle.cert_lines.specs.Lines.{number, text_line}
 use Rattle.setup_choice.specs.declared.cheapest.Tried.{Tried}
 use Rattle.setup_choice.specs.Best.{HasCost, IsBest}
 use Rattle.command_runner.specs.declared.status.Status.{Status}

@@ -2,8 +2,8 @@
 use Rattle.std.proofs.Common.{◌≡◌, ◌⊎◌, inl, inr, ℕ, List, [], ◌++◌, ◌∙◌, Result, Ok, Err, sym, subst}
 use Rattle.std.specs.Prelude.{codes, IfOk, OnOk, OnErr}
 use Rattle.job_setup.specs.Setup.{JobData}
-use Rattle.plan_cert.specs.declared.item.CertFault.{CertFault}
-use Rattle.plan_cert.specs.declared.item.CertFault.TheVariants as cert
+use Rattle.plan_lines.specs.declared.item.CertFault.{CertFault}
+use Rattle.plan_lines.specs.declared.item.CertFault.TheVariants as cert
 use Rattle.cert_merge.specs.declared.checked.TableFault.{TableFault}
 use Rattle.cert_merge.specs.Table.{TableData, TableFileData, IsTable, IsClosedTable}
 use Rattle.cert_merge.specs.declared.proved.ProveFault.{ProveFault}

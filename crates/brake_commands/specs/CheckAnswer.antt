@@ -1,7 +1,7 @@
 -- What `check` answers.
 use Rattle.std.specs.Prelude.{◌≡◌, ◌≢◌, ◌⊎◌, ℕ, ◌≤◌, List, ◌++◌, codes, Result, Ok, Err}
 use Rattle.job_setup.specs.Setup.{JobData}
-use Rattle.plan_cert.specs.Lines.{number, spaced, text_line}
+use Rattle.cert_lines.specs.Lines.{number, spaced, text_line}
 use Rattle.cert_check.specs.declared.verdict.Verdict.{Verdict}
 use Rattle.cert_check.specs.declared.verdict.Verdict.TheVariants.{Optimal, NoPlan}
 use Rattle.cert_check.specs.declared.fault.CheckFault.{CheckFault}

@@ -12,7 +12,7 @@ use Rattle.handling_cost.specs.Plan.{start}
 use Rattle.handling_cost.specs.Reach.{ReachIsAbove}
 use Rattle.setup_sheet.specs.Sheets.{blank_text, setup_text}
 use Rattle.setup_sheet.specs.OrderSheet.{order_text}
-use Rattle.plan_cert.specs.Lines.{number, spaced}
+use Rattle.cert_lines.specs.Lines.{number, spaced}
 use Rattle.plan_cert.specs.Cert.{CertData}
 use Rattle.plan_cert.specs.CertText.{cert_text2}
 use Rattle.plan_cert.specs.GoodCert.{IsThriftyCert}

@@ -8,7 +8,7 @@ use Rattle.unfolder.specs.Blank.{BlankData, blank_of_part}
 use Rattle.unfolder.specs.Fold.{FoldsBack}
 use Rattle.setup_sheet.specs.Sheets.{blank_text, setup_text}
 use Rattle.setup_sheet.specs.OrderSheet.{order_text}
-use Rattle.plan_cert.specs.Lines.{number, worth_word, text_line}
+use Rattle.cert_lines.specs.Lines.{number, worth_word, text_line}
 use Rattle.plan_cert.specs.CertText.{cert_text2}
 use Rattle.job_setup.specs.declared.fault.JobFault.{JobFault}
 use Rattle.setup_choice.specs.declared.fault.SetupFault.TheVariants.{Job}

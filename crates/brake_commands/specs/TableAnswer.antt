@@ -4,7 +4,7 @@ use Rattle.brake_base.specs.declared.stroke.Worth.{Worth}
 use Rattle.brake_base.specs.declared.stroke.Worth.TheVariants.{Cost, Blocked}
 use Rattle.job_setup.specs.Setup.{JobData}
 use Rattle.handling_cost.specs.Plan.{start}
-use Rattle.plan_cert.specs.Lines.{number, text_line}
+use Rattle.cert_lines.specs.Lines.{number, text_line}
 use Rattle.plan_cert.specs.CertText.{table_text}
 use Rattle.cert_merge.specs.Table.{TableData, IsTable, IsClosedTable}
 use Rattle.cert_merge.specs.TableChecks.{CostsAtLeast, proved_by}

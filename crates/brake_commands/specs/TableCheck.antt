@@ -1,6 +1,6 @@
 -- What the check of a table file comes to, and how a refusal of it is told.
 use Rattle.std.specs.Prelude.{◌≡◌, ℕ, List, [], ◌∷◌, codes, Result, Ok, Err}
-use Rattle.plan_cert.specs.Lines.{number, text_line}
+use Rattle.cert_lines.specs.Lines.{number, text_line}
 use Rattle.cert_check.specs.FaultWords.{cert_fault_words}
 use Rattle.cert_merge.specs.declared.checked.TableFault.TheVariants.{BadReason, NotClosed}
 use Rattle.cert_merge.specs.Table.{TableFileData}

@@ -2,7 +2,7 @@
 use Rattle.std.specs.Prelude.{◌≡◌, ℕ, List, ◌++◌, codes}
 use Rattle.brake_base.specs.declared.stroke.Worth.{Worth}
 use Rattle.job_setup.specs.Setup.{bend_count}
-use Rattle.plan_cert.specs.Lines.{number, spaced, worth_word}
+use Rattle.cert_lines.specs.Lines.{number, spaced, worth_word}
 use Rattle.part_gen.specs.Generator.{generated_job}
 use Rattle.command_runner.specs.Answers.{AnswerData, one_text}
 use Rattle.handling_cost.specs.Claim.{IsTrueClaim}

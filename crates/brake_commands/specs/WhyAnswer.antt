@@ -3,7 +3,7 @@ use Rattle.std.specs.Prelude.{◌≡◌, ℕ, List, [], ◌∷◌, ◌++◌, len
 use Rattle.std.specs.List.{flat_map}
 use Rattle.brake_base.specs.declared.mask.Mask.{Mask}
 use Rattle.job_setup.specs.Setup.{JobData}
-use Rattle.plan_cert.specs.Lines.{number, action_words, reason_words, text_line}
+use Rattle.cert_lines.specs.Lines.{number, action_words, reason_words, text_line}
 use Rattle.nogood_book.specs.declared.nogood.Nogood.{Nogood}
 use Rattle.nogood_book.specs.Book.{IsBook}
 use Rattle.command_runner.specs.declared.status.Status.TheVariants as status

@@ -1,7 +1,7 @@
 //! What `check` answers.
 ghost use Rattle.std.specs.Prelude.{◌≡◌, ◌≤◌, [], length, map, codes, Ok, IfOk};
 ghost use Rattle.std.specs.Vec.{vec_items};
-ghost use Rattle.plan_cert.specs.Lines.{text_line};
+ghost use Rattle.cert_lines.specs.Lines.{text_line};
 ghost use Rattle.cert_check.specs.FaultWords.{check_fault_words};
 ghost use Rattle.cert_check.specs.Checking.{checked_data};
 ghost use Rattle.command_runner.specs.Answers.{answer_data};
@@ -21,7 +21,7 @@ use plan_cert::put_count;
 use std::alloc::{AllocError, Global};
 
 /// The line of a least cost.
-#[tactic(auto, using(plan_cert::proofs::Texts::pieces), unfolding(crate::specs::CheckAnswer::optimal_line))]
+#[tactic(auto, using(cert_lines::proofs::Texts::pieces), unfolding(crate::specs::CheckAnswer::optimal_line))]
 fn optimal_line(alloc: Global, cost: u64) -> Result<Vec<u8>, AllocError>
     requires { cost ≤ 1000000000 }
     ensures { IfOk result (λ line. line.items ≡ optimal_line cost) }
@@ -51,7 +51,7 @@ fn verdict_answer(alloc: Global, verdict: Verdict) -> Result<Answer, AllocError>
 }
 
 /// The line of a refusal, with the words of its first fault.
-#[tactic(auto, using(plan_cert::proofs::Texts::pieces))]
+#[tactic(auto, using(cert_lines::proofs::Texts::pieces))]
 fn refusal_line(alloc: Global, fault: CheckFault) -> Result<Vec<u8>, AllocError>
     ensures { IfOk result (λ line. line.items
         ≡ text_line (codes "certificate refused") (check_fault_words fault)) }

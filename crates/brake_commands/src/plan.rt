@@ -138,7 +138,7 @@ fn stored_answer<H: Shelf>(
 }
 
 /// The line of a budget that isn't enough.
-#[tactic(auto, using(plan_cert::proofs::Texts::pieces), unfolding(crate::specs::PlanAnswer::spent_line))]
+#[tactic(auto, using(cert_lines::proofs::Texts::pieces), unfolding(crate::specs::PlanAnswer::spent_line))]
 fn spent_line(alloc: Global, budget: u32) -> Result<Vec<u8>, AllocError>
     ensures { IfOk result (λ line. line.items ≡ spent_line budget) }
 {

@@ -6,7 +6,7 @@ ghost use Rattle.brake_io.specs.Rose.{Rose};
 ghost use Rattle.brake_io.specs.Meanings.{NoCountFalls};
 ghost use Rattle.handling_cost.specs.Plan.{start};
 ghost use Rattle.setup_sheet.specs.OrderSheet.{AreSteps};
-ghost use Rattle.plan_cert.specs.Lines.{spaced};
+ghost use Rattle.cert_lines.specs.Lines.{spaced};
 ghost use Rattle.setup_choice.specs.Setups.{IsSetups};
 ghost use Rattle.setup_choice.specs.Fitting.{part_fits};
 ghost use Rattle.command_runner.specs.Answers.{answer_data};
@@ -33,7 +33,7 @@ use std::alloc::{AllocError, Global};
 use unfolder::unfold;
 
 /// A name behind a space.
-#[tactic(auto, using(plan_cert::proofs::Texts::pieces))]
+#[tactic(auto, using(cert_lines::proofs::Texts::pieces))]
 fn put_name(out: &mut Vec<u8>, name: &Name) -> Result<(), AllocError>
     ensures { OnOk result (out.new.items ≡ out.old.items ++ spaced name.now.bytes) }
 {
@@ -55,7 +55,7 @@ fn put_cost(out: &mut Vec<u8>, attempt: &Attempt) -> Result<(), AllocError>
 }
 
 /// The line of a tried setup.
-#[tactic(auto, using(plan_cert::proofs::Texts::pieces), unfolding(crate::specs::SetupsAnswer::try_line))]
+#[tactic(auto, using(cert_lines::proofs::Texts::pieces), unfolding(crate::specs::SetupsAnswer::try_line))]
 fn put_try(out: &mut Vec<u8>, place: u8, attempt: &Attempt) -> Result<(), AllocError>
     requires { IsKept (attempt_data attempt.now) }
     ensures { OnOk result (out.new.items
@@ -82,7 +82,7 @@ fn try_lines(alloc: Global, attempts: &[Attempt]) -> Result<Vec<u8>, AllocError>
 }
 
 /// The line of the best setup.
-#[tactic(auto, using(plan_cert::proofs::Texts::pieces), unfolding(crate::specs::SetupsAnswer::best_line))]
+#[tactic(auto, using(cert_lines::proofs::Texts::pieces), unfolding(crate::specs::SetupsAnswer::best_line))]
 fn best_line(alloc: Global, place: u8) -> Result<Vec<u8>, AllocError>
     ensures { IfOk result (λ line. line.items ≡ best_line place) }
 {

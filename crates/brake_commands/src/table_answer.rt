@@ -1,6 +1,6 @@
 //! What is told of a table.
 ghost use Rattle.std.specs.Prelude.{◌≡◌, ◌⊎◌, ◌<◌, ◌≤◌, ◌^◌, [], codes, IfOk, OnOk, OnErr, IsErrOf};
-ghost use Rattle.plan_cert.specs.WellFormed.{IsWorth};
+ghost use Rattle.cert_lines.specs.Lines.{IsWorth};
 ghost use Rattle.cert_merge.specs.Table.{TableData};
 ghost use Rattle.cert_merge.specs.MergedTexts.{IsToldOf};
 ghost use Rattle.brake_io.specs.Rose.{Rose};
@@ -22,7 +22,7 @@ use plan_cert::put_count;
 use std::alloc::{AllocError, Global};
 
 /// The line of a table's number of rows.
-#[tactic(auto, using(plan_cert::proofs::Texts::pieces), unfolding(crate::specs::TableAnswer::rows_line))]
+#[tactic(auto, using(cert_lines::proofs::Texts::pieces), unfolding(crate::specs::TableAnswer::rows_line))]
 fn rows_line(alloc: Global, count: usize) -> Result<Vec<u8>, AllocError>
     requires { count < 2 ^ 63 }
     ensures { IfOk result (λ line. line.items ≡ rows_line count) }
@@ -35,7 +35,7 @@ fn rows_line(alloc: Global, count: usize) -> Result<Vec<u8>, AllocError>
 }
 
 /// The line of what every plan costs at least.
-#[tactic(auto, using(plan_cert::proofs::Texts::pieces), unfolding(crate::specs::TableAnswer::at_least_line))]
+#[tactic(auto, using(cert_lines::proofs::Texts::pieces), unfolding(crate::specs::TableAnswer::at_least_line))]
 fn at_least_line(alloc: Global, cost: u64) -> Result<Vec<u8>, AllocError>
     requires { cost ≤ 1000000000 }
     ensures { IfOk result (λ line. line.items ≡ at_least_line cost) }

@@ -1,7 +1,7 @@
 //! The check of a table's file.
 ghost use Rattle.std.specs.Prelude.{◌≡◌, ◌++◌, ◌∷◌, [], IfOk, OnOk};
 ghost use Rattle.std.specs.List.{flat_map};
-ghost use Rattle.plan_cert.specs.Lines.{spaced, number};
+ghost use Rattle.cert_lines.specs.Lines.{spaced, number};
 ghost use Rattle.command_runner.specs.declared.status.Status.TheVariants as status;
 ghost use Rattle.command_runner.specs.Answers.{answer_data, one_text};
 ghost use Rattle.command_runner.specs.Delivery.{IsCutShort};
@@ -92,7 +92,7 @@ pub fn checked_text<'a>(alloc: Global, text: &'a [u8]) -> Result<CheckedText<'a>
 }
 
 /// A number, and behind it those of a row and an action.
-#[tactic(auto, using(plan_cert::proofs::Texts::pieces))]
+#[tactic(auto, using(cert_lines::proofs::Texts::pieces))]
 fn put_row_fault(out: &mut Vec<u8>, kind: u8, row: u32, action: u8) -> Result<(), AllocError>
     ensures { OnOk result (out.new.items ≡ out.old.items
         ++ flat_map spaced (number kind ∷ number row ∷ number action ∷ [])) }
@@ -121,7 +121,7 @@ impl TableRefusal {
 }
 
 /// The line of a refusal of the table of the file word of this number.
-#[tactic(auto, using(plan_cert::proofs::Texts::pieces), unfolding(crate::specs::TableCheck::table_refused_line))]
+#[tactic(auto, using(cert_lines::proofs::Texts::pieces), unfolding(crate::specs::TableCheck::table_refused_line))]
 fn refused_line(alloc: Global, place: u8, refusal: TableRefusal) -> Result<Vec<u8>, AllocError>
     ensures { IfOk result (λ line. line.items ≡ table_refused_line place refusal) }
 {

@@ -2,7 +2,7 @@
 ghost use Rattle.std.specs.Prelude.{◌≡◌, IfOk};
 ghost use Rattle.job_setup.specs.Setup.{JobData};
 ghost use Rattle.plan_cert.specs.Cert.{CertData};
-ghost use Rattle.plan_cert.specs.WellFormed.{IsWorth};
+ghost use Rattle.cert_lines.specs.Lines.{IsWorth};
 ghost use Rattle.cert_check.specs.Checking.{IsGoodText};
 ghost use Rattle.command_runner.specs.Answers.{answer_data};
 ghost use Rattle.command_runner.specs.Delivery.{IsCutShort};
@@ -31,7 +31,7 @@ fn confirm(alloc: Global, text: &[u8]) -> Result<(), AllocError>
 }
 
 /// The line of a trial.
-#[tactic(auto, using(plan_cert::proofs::Texts::pieces), unfolding(crate::specs::TrialAnswer::trial_line))]
+#[tactic(auto, using(cert_lines::proofs::Texts::pieces), unfolding(crate::specs::TrialAnswer::trial_line))]
 fn trial_line(alloc: Global, number: u32, bends: u8, claim: Worth) -> Result<Vec<u8>, AllocError>
     requires { IsWorth claim }
     ensures { IfOk result (λ line. line.items ≡ trial_line number bends claim) }

@@ -2,7 +2,7 @@
 ghost use Rattle.std.specs.Prelude.{◌≡◌, ◌++◌, ◌∷◌, length, map, IfOk, OnOk};
 ghost use Rattle.std.specs.List.{flat_map};
 ghost use Rattle.std.specs.Vec.{vec_items};
-ghost use Rattle.plan_cert.specs.Lines.{spaced, action_words, back_word};
+ghost use Rattle.cert_lines.specs.Lines.{spaced, action_words, back_word};
 ghost use Rattle.command_runner.specs.Answers.{answer_data};
 ghost use Rattle.command_runner.specs.Delivery.{IsCutShort};
 ghost use Rattle.brake_commands.specs.WhyAnswer.{set_words, never_line, count_line, why_text, IsWhy, IsWhyAnswer};
@@ -28,7 +28,7 @@ fn put_back(out: &mut Vec<u8>, back: Back) -> Result<(), AllocError>
 }
 
 /// The words of an action.
-#[tactic(auto, using(plan_cert::proofs::Texts::pieces))]
+#[tactic(auto, using(cert_lines::proofs::Texts::pieces))]
 fn put_action(out: &mut Vec<u8>, action: &Action) -> Result<(), AllocError>
     ensures { OnOk result (out.new.items
         ≡ out.old.items ++ flat_map spaced (action_words action.now)) }
@@ -39,7 +39,7 @@ fn put_action(out: &mut Vec<u8>, action: &Action) -> Result<(), AllocError>
 }
 
 /// A set of bends as a number, behind a word.
-#[tactic(auto, using(plan_cert::proofs::Texts::pieces))]
+#[tactic(auto, using(cert_lines::proofs::Texts::pieces))]
 fn put_set(out: &mut Vec<u8>, word: &[u8], set: Mask) -> Result<(), AllocError>
     ensures { OnOk result (out.new.items
         ≡ out.old.items ++ flat_map spaced (set_words word.now set)) }
@@ -50,7 +50,7 @@ fn put_set(out: &mut Vec<u8>, word: &[u8], set: Mask) -> Result<(), AllocError>
 }
 
 /// The line of a nogood.
-#[tactic(auto, using(plan_cert::proofs::Texts::pieces), unfolding(crate::specs::WhyAnswer::never_line))]
+#[tactic(auto, using(cert_lines::proofs::Texts::pieces), unfolding(crate::specs::WhyAnswer::never_line))]
 fn put_never(out: &mut Vec<u8>, nogood: &Nogood) -> Result<(), AllocError>
     ensures { OnOk result (out.new.items ≡ out.old.items ++ never_line nogood.now) }
 {
@@ -75,7 +75,7 @@ fn put_nevers(out: &mut Vec<u8>, book: &Book) -> Result<(), AllocError>
 }
 
 /// How many nogoods there are.
-#[tactic(auto, using(plan_cert::proofs::Texts::pieces), unfolding(crate::specs::WhyAnswer::count_line))]
+#[tactic(auto, using(cert_lines::proofs::Texts::pieces), unfolding(crate::specs::WhyAnswer::count_line))]
 fn put_how_many(out: &mut Vec<u8>, count: u32) -> Result<(), AllocError>
     ensures { OnOk result (out.new.items ≡ out.old.items ++ count_line count) }
 {
@@ -85,7 +85,7 @@ fn put_how_many(out: &mut Vec<u8>, count: u32) -> Result<(), AllocError>
 }
 
 /// The lines of a book.
-#[tactic(auto, using(plan_cert::proofs::Texts::pieces))]
+#[tactic(auto, using(cert_lines::proofs::Texts::pieces))]
 fn why_text(alloc: Global, book: &Book) -> Result<Vec<u8>, AllocError>
     ensures { IfOk result (λ text. text.items ≡ why_text book.now.nogoods) }
 {

@@ -7,8 +7,8 @@ use Rattle.job_setup.specs.Setup.{JobData}
 use Rattle.handling_cost.specs.Plan.{IsPlan, total, start}
 use Rattle.handling_cost.specs.Claim.{IsTrueClaim}
 use Rattle.handling_cost.specs.Good.{AreClaimed}
-use Rattle.plan_cert.specs.declared.item.CertFault.{CertFault}
-use Rattle.plan_cert.specs.declared.item.CertFault.TheVariants as cert
+use Rattle.plan_lines.specs.declared.item.CertFault.{CertFault}
+use Rattle.plan_lines.specs.declared.item.CertFault.TheVariants as cert
 use Rattle.plan_cert.specs.Cert.{CertData}
 use Rattle.plan_cert.specs.GoodCert.{IsGoodCert}
 use Rattle.plan_cert.specs.CertReading.{CertFileData, cert_file_of}

@@ -4,15 +4,15 @@ use Rattle.std.specs.Prelude.{slice_get, if◌then◌else◌}
 use Rattle.std.proofs.lemmas.List.{append-nil, length-append, map-append}
 use Rattle.brake_base.specs.declared.stroke.Step.{Step}
 use Rattle.job_setup.specs.Setup.{JobData}
-use Rattle.plan_cert.specs.declared.cert.RowHead.{RowHead}
-use Rattle.plan_cert.specs.declared.cert.Note.{Note}
-use Rattle.plan_cert.specs.declared.format.TextKind.TheVariants.{Certificate}
-use Rattle.plan_cert.specs.declared.item.Item.{Item}
-use Rattle.plan_cert.specs.declared.item.Item.TheVariants as given
-use Rattle.plan_cert.specs.declared.item.CertFault.{CertFault}
+use Rattle.cert_lines.specs.declared.row_head.RowHead.{RowHead}
+use Rattle.plan_lines.specs.declared.note.Note.{Note}
+use Rattle.cert_lines.specs.declared.format.TextKind.TheVariants.{Certificate}
+use Rattle.plan_lines.specs.declared.item.Item.{Item}
+use Rattle.plan_lines.specs.declared.item.Item.TheVariants as given
+use Rattle.plan_lines.specs.declared.item.CertFault.{CertFault}
 use Rattle.plan_cert.specs.Cert.{CertData}
-use Rattle.plan_cert.specs.Items.{items}
-use Rattle.plan_cert.specs.Reading.{Reading}
+use Rattle.plan_lines.specs.Items.{items}
+use Rattle.plan_lines.specs.Reading.{Reading}
 use Rattle.plan_cert.specs.CertItems.{rows_items, cert_items}
 use Rattle.plan_cert.specs.CertReading.{AnswersLeft, answers_left, is_last}
 use Rattle.plan_cert.specs.ExactItems.{ReadsCertTexts}

@@ -7,7 +7,7 @@ use Rattle.brake_base.specs.declared.stroke.Worth.{Worth}
 use Rattle.brake_base.specs.declared.stroke.Worth.TheVariants.{Cost, Blocked}
 use Rattle.job_setup.specs.Setup.{JobData}
 use Rattle.handling_cost.specs.Claim.{HasNoPlan, IsLeastPlan, IsTrueClaim}
-use Rattle.plan_cert.specs.Lines.{spaced}
+use Rattle.cert_lines.specs.Lines.{spaced}
 use Rattle.plan_cert.specs.Cert.{CertData}
 use Rattle.cert_check.specs.declared.fault.CheckFault.{CheckFault}
 use Rattle.cert_check.specs.declared.fault.CheckFault.TheVariants.{NoMemory}

@@ -2,7 +2,7 @@
 use Rattle.std.specs.Prelude.{ℕ, Bool, false, List, [], ◌∷◌, ◌++◌, codes, bytes_eq, Option, Some, None}
 use Rattle.std.specs.Prelude.{if◌then◌else◌}
 use Rattle.std.specs.List.{flat_map}
-use Rattle.plan_cert.specs.Lines.{spaced}
+use Rattle.cert_lines.specs.Lines.{spaced}
 use Rattle.refusal_words.specs.Sentences.{sentence}
 use Rattle.command_runner.specs.declared.status.Status.TheVariants.{Done, Usage}
 use Rattle.command_runner.specs.Answers.{AnswerData, one_text}

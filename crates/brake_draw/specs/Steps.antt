@@ -2,9 +2,9 @@
 use Rattle.std.specs.Prelude.{Bool, true, false, nat_lt, List, [], ◌∷◌, ◌++◌, length, Result, Ok}
 use Rattle.std.specs.Prelude.{Err, if◌then◌else◌}
 use Rattle.brake_base.specs.declared.stroke.Step.{Step}
-use Rattle.plan_cert.specs.declared.item.Item.{Item}
-use Rattle.plan_cert.specs.declared.item.Item.TheVariants as given
-use Rattle.plan_cert.specs.declared.item.CertFault.{CertFault}
+use Rattle.plan_lines.specs.declared.item.Item.{Item}
+use Rattle.plan_lines.specs.declared.item.Item.TheVariants as given
+use Rattle.plan_lines.specs.declared.item.CertFault.{CertFault}
 
 -- a claim or a step, which stand before the rows
 abbrev pub is_before_rows : Item → Bool

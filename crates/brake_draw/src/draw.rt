@@ -25,7 +25,7 @@ use std::alloc::{AllocError, Global};
 pub struct Draw;
 
 /// The line of how many strokes are drawn.
-#[tactic(auto, using(plan_cert::proofs::Texts::pieces), unfolding(crate::specs::Draw::drawn_line))]
+#[tactic(auto, using(cert_lines::proofs::Texts::pieces), unfolding(crate::specs::Draw::drawn_line))]
 fn drawn_line(alloc: Global, strokes: usize) -> Result<Vec<u8>, AllocError>
     requires { strokes < 2 ^ 63 }
     ensures { IfOk result (λ line. line.items ≡ drawn_line strokes) }
@@ -139,7 +139,7 @@ fn drawn(
 }
 
 /// The line of a refusal, without its line feed: the words of its first fault.
-#[tactic(auto, using(plan_cert::proofs::Texts::pieces), unfolding(crate::specs::Draw::refusal_line))]
+#[tactic(auto, using(cert_lines::proofs::Texts::pieces), unfolding(crate::specs::Draw::refusal_line))]
 fn refusal_line(alloc: Global, fault: CheckFault) -> Result<Vec<u8>, AllocError>
     ensures { IfOk result (λ line. line.items ≡ refusal_line fault) }
 {
@@ -150,7 +150,7 @@ fn refusal_line(alloc: Global, fault: CheckFault) -> Result<Vec<u8>, AllocError>
 }
 
 /// The line of a refusal, and its sentence behind it where it has one.
-#[tactic(auto, using(plan_cert::proofs::Texts::pieces), unfolding(crate::specs::Draw::refusal_text))]
+#[tactic(auto, using(cert_lines::proofs::Texts::pieces), unfolding(crate::specs::Draw::refusal_text))]
 fn refusal_text(alloc: Global, fault: CheckFault) -> Result<Vec<u8>, AllocError>
     ensures { IfOk result (λ text. text.items ≡ refusal_text fault) }
 {

@@ -2,7 +2,7 @@
 ghost use Rattle.std.specs.Prelude.{◌≡◌, ◌++◌, IfOk, OnOk, map, option_map, string_bytes};
 ghost use Rattle.std.specs.List.{flat_map};
 ghost use Rattle.std.specs.Vec.{vec_items};
-ghost use Rattle.plan_cert.specs.Lines.{spaced};
+ghost use Rattle.cert_lines.specs.Lines.{spaced};
 ghost use Rattle.command_runner.specs.Answers.{answer_data};
 ghost use Rattle.command_runner.specs.Delivery.{IsCutShort};
 ghost use Rattle.brake_draw.specs.Say.{usage_text, usage, joined, sentence_line, said, is_say, is_saying, answer_at_once};
@@ -31,7 +31,7 @@ fn usage(alloc: Global) -> Result<Answer, AllocError>
 }
 
 /// Appends the words, each behind a space.
-#[tactic(auto, using(plan_cert::proofs::Texts::pieces))]
+#[tactic(auto, using(cert_lines::proofs::Texts::pieces))]
 fn put_spaced(out: &mut Vec<u8>, words: &[String]) -> Result<(), AllocError>
     ensures { OnOk result (out.new.items
         ≡ out.old.items ++ flat_map spaced (map string_bytes words.now)) }
@@ -61,7 +61,7 @@ fn joined(alloc: Global, words: &[String]) -> Result<Vec<u8>, AllocError>
 }
 
 /// Appends a sentence as a line, where there is one.
-#[tactic(auto, using(plan_cert::proofs::Texts::pieces))]
+#[tactic(auto, using(cert_lines::proofs::Texts::pieces))]
 pub fn put_sentence(out: &mut Vec<u8>, words: Option<Vec<u8>>) -> Result<(), AllocError>
     ensures { OnOk result (out.new.items
         ≡ out.old.items ++ sentence_line (option_map vec_items words)) }

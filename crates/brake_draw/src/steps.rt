@@ -2,7 +2,7 @@
 ghost use Rattle.std.specs.Prelude.{◌≡◌, ◌<◌, ◌∷◌, [], ◌++◌, if◌then◌else◌, nat_lt, length};
 ghost use Rattle.job_setup.specs.Setup.{JobData};
 ghost use Rattle.plan_cert.specs.Cert.{CertData};
-ghost use Rattle.plan_cert.specs.PlanItem.{item_of};
+ghost use Rattle.plan_lines.specs.PlanItem.{item_of};
 ghost use Rattle.plan_cert.specs.CertReading.{AnswersLeft, answers_left};
 ghost use Rattle.cert_check.specs.Texts.{IsTextOfCert};
 ghost use Rattle.brake_draw.specs.Steps.{is_before_rows, with_step_of, with_steps_of};

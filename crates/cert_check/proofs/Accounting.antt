@@ -13,12 +13,12 @@ use Rattle.job_setup.specs.Setup.{JobData, bend_count, stage_count}
 use Rattle.job_setup.specs.StrokeGroup.{is_lead}
 use Rattle.job_setup.specs.ValidJob.{IsJob}
 use Rattle.handling_cost.proofs.Actions.{few_bends}
-use Rattle.plan_cert.specs.declared.cert.RowHead.{RowHead}
-use Rattle.plan_cert.specs.declared.cert.Note.{Note}
-use Rattle.plan_cert.specs.Lines.{action_at}
+use Rattle.cert_lines.specs.declared.row_head.RowHead.{RowHead}
+use Rattle.plan_lines.specs.declared.note.Note.{Note}
+use Rattle.cert_lines.specs.Lines.{action_at}
 use Rattle.plan_cert.specs.WellFormed.{IsNote, NoteIsBefore}
 use Rattle.plan_cert.specs.RowFaults.{HoldsAt, IsNoted, IsTried, IsAccounted, AreAccounted, RowsAreAccounted}
-use Rattle.plan_cert.proofs.NumberedActions.{tried_at}
+use Rattle.plan_lines.proofs.NumberedActions.{tried_at}
 use Rattle.plan_cert.proofs.RowOrder.{few_stages}
 use Rattle.cert_check.specs.declared.fault.CheckFault.{CheckFault}
 use Rattle.cert_check.specs.declared.fault.CheckFault.TheVariants.{BadReason, NotClosed}

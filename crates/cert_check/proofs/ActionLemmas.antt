@@ -8,7 +8,7 @@ use Rattle.brake_base.specs.declared.stroke.Action.{Action}
 use Rattle.job_setup.specs.Setup.{JobData, stage_count}
 use Rattle.handling_cost.specs.StepCost.{key_after}
 use Rattle.set_facts.specs.Facts.{AreLeads}
-use Rattle.plan_cert.specs.Lines.{action_at}
+use Rattle.cert_lines.specs.Lines.{action_at}
 use Rattle.cert_check.specs.declared.set_actions.NextKey.{NextKey}
 use Rattle.cert_check.specs.SetActions.{IsNext, IsNextOf}
 

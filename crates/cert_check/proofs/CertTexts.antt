@@ -1,14 +1,14 @@
 -- A certificate's text that was read or refused.
 use Rattle.std.proofs.Common.{◌≡◌, ℕ, List, [], ◌∷◌, Result, Ok, Err, sym, ◌∙◌, ap, subst}
 use Rattle.job_setup.specs.Setup.{JobData}
-use Rattle.plan_cert.specs.declared.item.Item.{Item}
-use Rattle.plan_cert.specs.declared.item.Item.TheVariants as given
-use Rattle.plan_cert.specs.declared.item.CertFault.{CertFault}
-use Rattle.plan_cert.specs.declared.format.TextKind.TheVariants.{Certificate}
+use Rattle.plan_lines.specs.declared.item.Item.{Item}
+use Rattle.plan_lines.specs.declared.item.Item.TheVariants as given
+use Rattle.plan_lines.specs.declared.item.CertFault.{CertFault}
+use Rattle.cert_lines.specs.declared.format.TextKind.TheVariants.{Certificate}
 use Rattle.plan_cert.specs.Cert.{CertData}
-use Rattle.plan_cert.specs.Items.{items}
+use Rattle.plan_lines.specs.Items.{items}
 use Rattle.plan_cert.specs.CertReading.{CertFileData, no_cert, version_in, cert_of, with_job, file_of, cert_file_of}
-use Rattle.plan_cert.specs.declared.format.TextKind.{TextKind}
+use Rattle.cert_lines.specs.declared.format.TextKind.{TextKind}
 use Rattle.plan_cert.proofs.Collecting.{file_is}
 use Rattle.plan_cert.proofs.Exactly.{read_file, text_of_given}
 use Rattle.cert_check.specs.declared.read_cert.ReadCert.{ReadCert}

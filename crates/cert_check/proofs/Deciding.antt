@@ -7,8 +7,8 @@ use Rattle.job_setup.specs.Setup.{JobData}
 use Rattle.job_setup.specs.ValidJob.{IsJob}
 use Rattle.handling_cost.specs.Plan.{start}
 use Rattle.handling_cost.specs.Good.{AreClaimed}
-use Rattle.plan_cert.specs.declared.cert.RowHead.{RowHead}
-use Rattle.plan_cert.specs.declared.format.TextKind.TheVariants.{Certificate}
+use Rattle.cert_lines.specs.declared.row_head.RowHead.{RowHead}
+use Rattle.cert_lines.specs.declared.format.TextKind.TheVariants.{Certificate}
 use Rattle.plan_cert.specs.Cert.{CertData}
 use Rattle.plan_cert.specs.WellFormed.{IsWellFormed}
 use Rattle.plan_cert.specs.GoodCert.{IsGoodCert}

@@ -6,7 +6,7 @@ use Rattle.brake_base.specs.declared.stroke.Key.{Key}
 use Rattle.job_setup.specs.Setup.{JobData}
 use Rattle.job_setup.specs.ValidJob.{IsJob}
 use Rattle.handling_cost.specs.StepCost.{IsKeyOf}
-use Rattle.plan_cert.specs.declared.cert.RowHead.{RowHead}
+use Rattle.cert_lines.specs.declared.row_head.RowHead.{RowHead}
 use Rattle.plan_cert.specs.KeyPlaces.{key_place, key_count}
 use Rattle.plan_cert.specs.WellFormed.{AreRowsOf}
 use Rattle.plan_cert.specs.GoodCert.{HaveRow}

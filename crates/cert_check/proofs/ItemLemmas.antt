@@ -4,14 +4,14 @@ use Rattle.std.specs.Prelude.{slice_get, IfOk, if◌then◌else◌}
 use Rattle.std.proofs.lemmas.List.{length-drop}
 use Rattle.std.proofs.lemmas.Option.{slice_get_within, get_or_from_slice_get}
 use Rattle.job_setup.specs.Setup.{JobData}
-use Rattle.plan_cert.specs.declared.item.Item.{Item}
-use Rattle.plan_cert.specs.declared.item.Item.TheVariants as given
-use Rattle.plan_cert.specs.declared.item.CertFault.{CertFault}
-use Rattle.plan_cert.specs.declared.item.CertFault.TheVariants.{Unended}
-use Rattle.plan_cert.specs.Reading.{Reading}
+use Rattle.plan_lines.specs.declared.item.Item.{Item}
+use Rattle.plan_lines.specs.declared.item.Item.TheVariants as given
+use Rattle.plan_lines.specs.declared.item.CertFault.{CertFault}
+use Rattle.plan_lines.specs.declared.item.CertFault.TheVariants.{Unended}
+use Rattle.plan_lines.specs.Reading.{Reading}
 use Rattle.plan_cert.specs.Cert.{CertData}
-use Rattle.plan_cert.specs.Items.{items}
-use Rattle.plan_cert.specs.PlanItem.{job_answer}
+use Rattle.plan_lines.specs.Items.{items}
+use Rattle.plan_lines.specs.PlanItem.{job_answer}
 use Rattle.plan_cert.specs.CertReading.{with_item, is_last, cert_of, answers_left}
 use Rattle.plan_cert.proofs.Collecting.{goes_on}
 use Rattle.cert_check.specs.declared.read_cert.ReadCert.{ReadCert}

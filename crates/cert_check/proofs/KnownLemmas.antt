@@ -17,24 +17,25 @@ use Rattle.stage_lanes.specs.ActionSets.{has_place, place_of, places_of, IsNone}
 use Rattle.job_setup.specs.Setup.{JobData, bend_count, stage_count}
 use Rattle.job_setup.specs.ValidJob.{IsJob}
 use Rattle.handling_cost.specs.Plan.{IsReasonFor}
-use Rattle.plan_cert.specs.declared.cert.RowHead.{RowHead}
-use Rattle.plan_cert.specs.declared.cert.Note.{Note}
-use Rattle.plan_cert.specs.declared.item.Item.{Item}
-use Rattle.plan_cert.specs.declared.item.Item.TheVariants as given
-use Rattle.plan_cert.specs.declared.item.CertFault.{CertFault}
-use Rattle.plan_cert.specs.Reading.{Reading}
+use Rattle.cert_lines.specs.declared.row_head.RowHead.{RowHead}
+use Rattle.plan_lines.specs.declared.note.Note.{Note}
+use Rattle.plan_lines.specs.declared.item.Item.{Item}
+use Rattle.plan_lines.specs.declared.item.Item.TheVariants as given
+use Rattle.plan_lines.specs.declared.item.CertFault.{CertFault}
+use Rattle.plan_lines.specs.Reading.{Reading}
 use Rattle.plan_cert.specs.Cert.{CertData}
-use Rattle.plan_cert.specs.Items.{items}
-use Rattle.plan_cert.specs.declared.item.PlanItem.{PlanItem}
-use Rattle.plan_cert.specs.PlanItem.{item_of, plan_answer}
-use Rattle.plan_cert.specs.CertReading.{cert_of, with_item, with_known, note_by, answers_left}
+use Rattle.plan_lines.specs.Items.{items}
+use Rattle.plan_lines.specs.declared.item.PlanItem.{PlanItem}
+use Rattle.plan_lines.specs.PlanItem.{item_of, plan_answer}
+use Rattle.plan_cert.specs.CertReading.{cert_of, with_item, with_known, answers_left}
+use Rattle.plan_lines.specs.NoteLines.{note_by}
 use Rattle.plan_cert.proofs.KnownRead.{known_read, known_behind as answer_behind, some_places}
-use Rattle.plan_cert.specs.Lines.{action_at}
-use Rattle.plan_cert.specs.NoteLines.{KnownReasons, IsKnownAt, AreKnownAll, number_at, reason_at, reason_by, or_cover, note_told, notes_told, LearnsFrom}
-use Rattle.plan_cert.proofs.ActionNumbers.{number_is, number_below, bend_of_number, action_of_number}
+use Rattle.cert_lines.specs.Lines.{action_at}
+use Rattle.plan_lines.specs.NoteLines.{KnownReasons, IsKnownAt, AreKnownAll, number_at, reason_at, reason_by, or_cover, note_told, notes_told, LearnsFrom}
+use Rattle.plan_lines.proofs.ActionNumbers.{number_is, number_below, bend_of_number, action_of_number}
 use Rattle.plan_cert.proofs.Collecting.{goes_on}
 use Rattle.plan_cert.proofs.Conditions.{rows_of}
-use Rattle.plan_cert.proofs.NoteSets.{any_place, at_place, no_places, number_of_place, stage_of_place}
+use Rattle.plan_lines.proofs.NoteSets.{any_place, at_place, no_places, number_of_place, stage_of_place}
 use Rattle.plan_cert.proofs.RowOrder.{no_row, few_rows}
 use Rattle.cert_check.specs.declared.row_notes.NotePlace.{NotePlace}
 use Rattle.cert_check.specs.declared.row_notes.RowNotes.{RowNotes}

@@ -19,11 +19,11 @@ use Rattle.job_setup.specs.StrokeGroup.{is_lead}
 use Rattle.job_setup.specs.ValidJob.{IsJob}
 use Rattle.handling_cost.specs.Plan.{IsReasonFor}
 use Rattle.handling_cost.proofs.Actions.{few_bends}
-use Rattle.plan_cert.specs.declared.cert.RowHead.{RowHead}
-use Rattle.plan_cert.specs.declared.cert.Note.{Note}
-use Rattle.plan_cert.specs.Lines.{action_at}
+use Rattle.cert_lines.specs.declared.row_head.RowHead.{RowHead}
+use Rattle.plan_lines.specs.declared.note.Note.{Note}
+use Rattle.cert_lines.specs.Lines.{action_at}
 use Rattle.plan_cert.specs.RowFaults.{IsNoted, IsUnnoted}
-use Rattle.plan_cert.proofs.ActionNumbers.{number_is, number_below, bend_of_number, action_of_number}
+use Rattle.plan_lines.proofs.ActionNumbers.{number_is, number_below, bend_of_number, action_of_number}
 use Rattle.cert_check.specs.declared.row_notes.NotePlace.{NotePlace}
 use Rattle.cert_check.specs.RowNotes.{is_noted, has_note, note_at, AreNoted, IsSound, IsFirstUnsound, IsActionPut, IsAtRow}
 

@@ -22,8 +22,8 @@ use Rattle.job_setup.specs.ValidJob.{IsJob}
 use Rattle.handling_cost.specs.StepCost.{IsKeyOf, IsActionAt, attitude_at, key_after}
 use Rattle.handling_cost.specs.Bound.{bound_of}
 use Rattle.handling_cost.proofs.Keys.{some_stage, next_in_range}
-use Rattle.plan_cert.specs.declared.cert.RowHead.{RowHead}
-use Rattle.plan_cert.specs.WellFormed.{IsWorth}
+use Rattle.cert_lines.specs.declared.row_head.RowHead.{RowHead}
+use Rattle.cert_lines.specs.Lines.{IsWorth}
 use Rattle.set_facts.specs.LaneFacts.{key_at, HasBounds}
 use Rattle.cert_check.specs.RowTable.{IsWorthAt}
 use Rattle.cert_check.specs.ProvedCosts.{worth_cost, IsProvedCost, AreProvedLanes, key_behind, HasBendCosts, IsBendPut, AreProvedBelow}

@@ -11,28 +11,29 @@ use Rattle.brake_base.specs.declared.stroke.Worth.{Worth}
 use Rattle.job_setup.specs.Setup.{JobData, bend_count, stage_count}
 use Rattle.job_setup.specs.StrokeGroup.{is_lead}
 use Rattle.job_setup.specs.ValidJob.{IsJob}
-use Rattle.plan_cert.specs.declared.cert.RowHead.{RowHead}
-use Rattle.plan_cert.specs.declared.cert.Note.{Note}
-use Rattle.plan_cert.specs.declared.item.Item.{Item}
-use Rattle.plan_cert.specs.declared.item.Item.TheVariants as given
-use Rattle.plan_cert.specs.declared.item.CertFault.{CertFault}
-use Rattle.plan_cert.specs.declared.item.CertFault.TheVariants as faults
-use Rattle.plan_cert.specs.declared.format.TextKind.{TextKind}
-use Rattle.plan_cert.specs.declared.line_place.LinePlace.{LinePlace}
-use Rattle.plan_cert.specs.Reading.{Reading, LeavesAt, GivesNext, HoldsBefore}
+use Rattle.cert_lines.specs.declared.row_head.RowHead.{RowHead}
+use Rattle.plan_lines.specs.declared.note.Note.{Note}
+use Rattle.plan_lines.specs.declared.item.Item.{Item}
+use Rattle.plan_lines.specs.declared.item.Item.TheVariants as given
+use Rattle.plan_lines.specs.declared.item.CertFault.{CertFault}
+use Rattle.plan_lines.specs.declared.item.CertFault.TheVariants as faults
+use Rattle.cert_lines.specs.declared.format.TextKind.{TextKind}
+use Rattle.plan_lines.specs.declared.line_place.LinePlace.{LinePlace}
+use Rattle.plan_lines.specs.Reading.{Reading, LeavesAt, GivesNext, HoldsBefore}
 use Rattle.plan_cert.specs.Cert.{CertData}
-use Rattle.plan_cert.specs.Items.{items}
+use Rattle.plan_lines.specs.Items.{items}
 use Rattle.plan_cert.specs.CertItems.{rows_items, cert_items}
 use Rattle.plan_cert.specs.CertReading.{no_cert, with_item, with_step, cert_of, answers_left}
-use Rattle.plan_cert.specs.Lines.{action_at}
-use Rattle.plan_cert.specs.NoteLines.{KnownReasons, GivesAll, note_told, notes_told}
-use Rattle.plan_cert.proofs.NoteSets.{no_places}
+use Rattle.cert_lines.specs.Lines.{action_at}
+use Rattle.plan_lines.specs.NoteLines.{KnownReasons, GivesAll, note_told, notes_told}
+use Rattle.plan_lines.proofs.NoteSets.{no_places}
 use Rattle.stage_lanes.specs.declared.actions.ActionSet.{ActionSet}
 use Rattle.stage_lanes.specs.ActionSets.{IsNone}
-use Rattle.plan_cert.specs.WellFormed.{IsNote, IsRow}
-use Rattle.plan_cert.proofs.ItemCounts.{answer_at, answers_behind}
+use Rattle.plan_cert.specs.WellFormed.{IsNote}
+use Rattle.plan_lines.specs.LinesFit.{IsRow}
+use Rattle.plan_lines.proofs.ItemCounts.{answer_at, answers_behind}
 use Rattle.plan_cert.proofs.Conditions.{rows_of}
-use Rattle.plan_cert.proofs.NumberedActions.{tried_at}
+use Rattle.plan_lines.proofs.NumberedActions.{tried_at}
 use Rattle.plan_cert.proofs.RowOrder.{no_row, few_rows}
 use Rattle.cert_check.specs.declared.fault.CheckFault.{CheckFault}
 use Rattle.cert_check.specs.declared.fault.CheckFault.TheVariants.{Cert}

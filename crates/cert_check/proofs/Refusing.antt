@@ -1,6 +1,6 @@
 -- A text that the reading refuses is no certificate's.
 use Rattle.std.proofs.Common.{◌≡◌, List, ℕ, Result, Ok, Err}
-use Rattle.plan_cert.specs.declared.item.CertFault.{CertFault}
+use Rattle.plan_lines.specs.declared.item.CertFault.{CertFault}
 use Rattle.plan_cert.specs.CertReading.{CertFileData, cert_file_of}
 use Rattle.plan_cert.proofs.Exactly.{text_gives}
 use Rattle.cert_check.specs.Texts.{IsRefusedFor}

@@ -19,12 +19,13 @@ use Rattle.handling_cost.specs.StepCost.{attitude_at, key_after, change, change_
 use Rattle.handling_cost.specs.Good.{Proves}
 use Rattle.handling_cost.proofs.Actions.{few_bends}
 use Rattle.handling_cost.proofs.Small.{cost_to_small}
-use Rattle.plan_cert.specs.declared.cert.RowHead.{RowHead}
-use Rattle.plan_cert.specs.Lines.{action_at}
-use Rattle.plan_cert.specs.WellFormed.{IsWorth, IsRow}
+use Rattle.cert_lines.specs.declared.row_head.RowHead.{RowHead}
+use Rattle.cert_lines.specs.Lines.{action_at}
+use Rattle.cert_lines.specs.Lines.{IsWorth}
+use Rattle.plan_lines.specs.LinesFit.{IsRow}
 use Rattle.plan_cert.specs.GoodCert.{HaveRow}
-use Rattle.plan_cert.proofs.ActionNumbers.{number_is, number_below, action_of_number}
-use Rattle.plan_cert.proofs.Actions.{few_actions}
+use Rattle.plan_lines.proofs.ActionNumbers.{number_is, number_below, action_of_number}
+use Rattle.plan_lines.proofs.Actions.{few_actions}
 use Rattle.cert_check.specs.Rows.{ClosesAt, IsMet, AreMet}
 use Rattle.cert_check.specs.ProvedCosts.{worth_cost, IsProvedCost, key_behind}
 use Rattle.cert_check.specs.RowLanes.{IsSideMet, IsBendMet, AreBendsMet}

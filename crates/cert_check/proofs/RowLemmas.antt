@@ -13,13 +13,13 @@ use Rattle.job_setup.specs.Setup.{JobData, stage_count}
 use Rattle.job_setup.specs.StrokeGroup.{group_of}
 use Rattle.handling_cost.specs.StepCost.{IsKeyOf, attitude_at, key_after}
 use Rattle.handling_cost.specs.Bound.{bound_of}
-use Rattle.plan_cert.specs.declared.cert.RowHead.{RowHead}
-use Rattle.plan_cert.specs.WellFormed.{IsRow}
+use Rattle.cert_lines.specs.declared.row_head.RowHead.{RowHead}
+use Rattle.plan_lines.specs.LinesFit.{IsRow}
 use Rattle.cert_check.specs.RowTable.{IsWorthAt}
 use Rattle.plan_cert.specs.RowFaults.{IsTried}
 use Rattle.cert_check.specs.Rows.{ProvesAfter, ClosesAt, IsMet, AreMet, NumberAnswer}
 use Rattle.cert_check.specs.RowNotes.{is_noted}
-use Rattle.plan_cert.specs.Lines.{action_at}
+use Rattle.cert_lines.specs.Lines.{action_at}
 use Rattle.std.specs.Prelude.{◌↔◌}
 
 module _ (job : JobData) (rows : List RowHead) (key : Key) (cost : ℕ) (worth : Worth) where

@@ -3,9 +3,10 @@ use Rattle.std.proofs.Common.{◌≡◌, ℕ, ◌+◌, ◌-◌, ◌<◌, ◌≤�
 use Rattle.std.proofs.KnownBytes.{Consumes-nil, Consumes-trans}
 use Rattle.std.proofs.lemmas.List.{drop-append-le, drop_all}
 use Rattle.brake_io.specs.Pieces.{WindowState, GoesOn, HasPassed, IsOver, MayFollow, reads_left}
-use Rattle.plan_cert.specs.declared.format.TextKind.{TextKind}
-use Rattle.plan_cert.specs.declared.line_place.LinePlace.{LinePlace}
-use Rattle.plan_cert.specs.Reading.{IsBehind, MayBeBehind}
+use Rattle.cert_lines.specs.declared.format.TextKind.{TextKind}
+use Rattle.plan_lines.specs.declared.line_place.LinePlace.{LinePlace}
+use Rattle.cert_lines.specs.LineReading.{IsBehind}
+use Rattle.plan_lines.specs.Reading.{MayBeBehind}
 use Rattle.cert_check.specs.declared.fault.CheckFault.{CheckFault}
 use Rattle.cert_check.specs.declared.read_cert.ReadCert.{ReadCert}
 use Rattle.cert_check.specs.ReadCert.{IsReadBefore, PieceAnswer}

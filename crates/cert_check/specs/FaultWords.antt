@@ -1,8 +1,8 @@
 -- The words by which a refusal of a certificate is told: its number, and then what it names.
 use Rattle.std.specs.Prelude.{ℕ, List, [], ◌∷◌}
-use Rattle.plan_cert.specs.Lines.{number, reason_words}
-use Rattle.plan_cert.specs.declared.item.CertFault.{CertFault}
-use Rattle.plan_cert.specs.declared.item.CertFault.TheVariants as cert
+use Rattle.cert_lines.specs.Lines.{number, reason_words}
+use Rattle.plan_lines.specs.declared.item.CertFault.{CertFault}
+use Rattle.plan_lines.specs.declared.item.CertFault.TheVariants as cert
 use Rattle.cert_check.specs.declared.fault.StepFault.{StepFault}
 use Rattle.cert_check.specs.declared.fault.StepFault.TheVariants.{AlreadyFolded, NotLead, Hit}
 use Rattle.cert_check.specs.declared.fault.StepFault.TheVariants.{BadGauge}

@@ -3,10 +3,10 @@ use Rattle.std.specs.Prelude.{◌≡◌, ◌⊎◌, ℕ, Some, None}
 use Rattle.brake_base.specs.declared.reason.Reason.{Reason}
 use Rattle.job_setup.specs.Setup.{JobData, stage_count}
 use Rattle.handling_cost.specs.Plan.{IsReasonFor}
-use Rattle.plan_cert.specs.declared.item.Item.{Item}
-use Rattle.plan_cert.specs.declared.item.Item.TheVariants as given
-use Rattle.plan_cert.specs.Lines.{action_at}
-use Rattle.plan_cert.specs.NoteLines.{KnownReasons, reason_by}
+use Rattle.plan_lines.specs.declared.item.Item.{Item}
+use Rattle.plan_lines.specs.declared.item.Item.TheVariants as given
+use Rattle.cert_lines.specs.Lines.{action_at}
+use Rattle.plan_lines.specs.NoteLines.{KnownReasons, reason_by}
 use Rattle.cert_check.specs.declared.row_notes.RowNotes.{RowNotes}
 
 -- the reason holds against the action of a number where the bends of the last row are folded

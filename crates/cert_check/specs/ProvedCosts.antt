@@ -12,8 +12,8 @@ use Rattle.job_setup.specs.Setup.{JobData, bend_count, stage_count}
 use Rattle.job_setup.specs.StrokeGroup.{is_lead}
 use Rattle.handling_cost.specs.StepCost.{key_after}
 use Rattle.handling_cost.specs.Good.{Proves}
-use Rattle.plan_cert.specs.declared.cert.RowHead.{RowHead}
-use Rattle.plan_cert.specs.WellFormed.{IsWorth}
+use Rattle.cert_lines.specs.declared.row_head.RowHead.{RowHead}
+use Rattle.cert_lines.specs.Lines.{IsWorth}
 use Rattle.plan_cert.specs.GoodCert.{HaveRow}
 use Rattle.set_facts.specs.Facts.{AreLeads}
 use Rattle.set_facts.specs.LaneFacts.{key_at}

@@ -1,6 +1,6 @@
 -- What the first bytes at hand of a text come to.
 use Rattle.std.specs.Prelude.{ℕ, List, ◌++◌, Result, Ok, Err}
-use Rattle.plan_cert.specs.declared.format.TextKind.{TextKind}
+use Rattle.cert_lines.specs.declared.format.TextKind.{TextKind}
 use Rattle.cert_check.specs.declared.fault.CheckFault.{CheckFault}
 use Rattle.cert_check.specs.declared.read_window.TextStand.{TextStand}
 use Rattle.cert_check.specs.ReadCert.{IsReadBefore, ReadAnswer}

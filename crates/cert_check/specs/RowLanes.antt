@@ -8,7 +8,7 @@ use Rattle.stage_lanes.specs.ActionSets.{side_of}
 use Rattle.job_setup.specs.Setup.{JobData, stage_count}
 use Rattle.job_setup.specs.StrokeGroup.{is_lead}
 use Rattle.handling_cost.specs.StepCost.{stage_cost}
-use Rattle.plan_cert.specs.declared.cert.RowHead.{RowHead}
+use Rattle.cert_lines.specs.declared.row_head.RowHead.{RowHead}
 use Rattle.cert_check.specs.declared.rows.CheckedSet.{CheckedSet}
 use Rattle.cert_check.specs.Rows.{IsMet}
 use Rattle.cert_check.specs.SetActions.{AreActionsOf}

@@ -9,10 +9,11 @@ use Rattle.brake_base.specs.declared.reason.Reason.{Reason}
 use Rattle.stage_lanes.specs.declared.actions.ActionSet.{ActionSet}
 use Rattle.stage_lanes.specs.ActionSets.{has, has_place, place_of, ArePlaces}
 use Rattle.job_setup.specs.Setup.{JobData, bend_count, stage_count}
-use Rattle.plan_cert.specs.declared.cert.RowHead.{RowHead}
-use Rattle.plan_cert.specs.declared.cert.Note.{Note}
-use Rattle.plan_cert.specs.Lines.{action_at}
-use Rattle.plan_cert.specs.WellFormed.{IsRow, AreRows}
+use Rattle.cert_lines.specs.declared.row_head.RowHead.{RowHead}
+use Rattle.plan_lines.specs.declared.note.Note.{Note}
+use Rattle.cert_lines.specs.Lines.{action_at}
+use Rattle.plan_lines.specs.LinesFit.{IsRow}
+use Rattle.plan_cert.specs.WellFormed.{AreRows}
 use Rattle.plan_cert.specs.RowFaults.{HoldsAt, IsTried}
 use Rattle.cert_check.specs.declared.row_notes.NotePlace.{NotePlace}
 use Rattle.cert_check.specs.declared.row_notes.RowNotes.{RowNotes}

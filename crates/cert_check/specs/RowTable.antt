@@ -4,9 +4,10 @@ use Rattle.brake_base.specs.declared.stroke.Key.{Key}
 use Rattle.brake_base.specs.declared.stroke.Worth.{Worth}
 use Rattle.job_setup.specs.Setup.{JobData}
 use Rattle.job_setup.specs.ValidJob.{IsJob}
-use Rattle.plan_cert.specs.declared.cert.RowHead.{RowHead}
+use Rattle.cert_lines.specs.declared.row_head.RowHead.{RowHead}
 use Rattle.plan_cert.specs.KeyPlaces.{key_place, key_count}
-use Rattle.plan_cert.specs.WellFormed.{IsWorth, AreRowsOf}
+use Rattle.cert_lines.specs.Lines.{IsWorth}
+use Rattle.plan_cert.specs.WellFormed.{AreRowsOf}
 use Rattle.plan_cert.specs.GoodCert.{HaveRow}
 
 -- rows of a job

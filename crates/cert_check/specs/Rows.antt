@@ -9,9 +9,9 @@ use Rattle.stage_lanes.specs.declared.actions.ActionSet.{ActionSet}
 use Rattle.job_setup.specs.Setup.{JobData, bend_count, stage_count}
 use Rattle.handling_cost.specs.Plan.{start}
 use Rattle.handling_cost.specs.Good.{Proves, IsClosed}
-use Rattle.plan_cert.specs.declared.cert.RowHead.{RowHead}
-use Rattle.plan_cert.specs.declared.cert.Note.{Note}
-use Rattle.plan_cert.specs.Lines.{action_at}
+use Rattle.cert_lines.specs.declared.row_head.RowHead.{RowHead}
+use Rattle.plan_lines.specs.declared.note.Note.{Note}
+use Rattle.cert_lines.specs.Lines.{action_at}
 use Rattle.plan_cert.specs.GoodCert.{HaveRow}
 use Rattle.plan_cert.specs.RowFaults.{IsTried, RowsAreAccounted, IsFirstFault, IsBadReason}
 use Rattle.plan_cert.specs.RowFaults.{IsNotClosed}

@@ -7,7 +7,7 @@ use Rattle.job_setup.specs.Setup.{JobData, bend_count, stage_count}
 use Rattle.job_setup.specs.StrokeGroup.{group_of, is_lead}
 use Rattle.handling_cost.specs.StepCost.{attitude_at}
 use Rattle.handling_cost.specs.Bound.{bound_of}
-use Rattle.plan_cert.specs.Lines.{action_at}
+use Rattle.cert_lines.specs.Lines.{action_at}
 use Rattle.cert_check.specs.declared.set_actions.NextKey.{NextKey}
 use Rattle.cert_check.specs.declared.set_actions.SetActions.{SetActions}
 

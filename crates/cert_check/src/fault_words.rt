@@ -1,7 +1,7 @@
 //! The words by which a refusal of a certificate is told.
 ghost use Rattle.std.specs.Prelude.{◌≡◌, ◌++◌, ◌∷◌, [], ◌<◌, ◌^◌, OnOk};
 ghost use Rattle.std.specs.List.{flat_map};
-ghost use Rattle.plan_cert.specs.Lines.{number, spaced, reason_words};
+ghost use Rattle.cert_lines.specs.Lines.{number, spaced, reason_words};
 ghost use Rattle.cert_check.specs.FaultWords.{cert_fault_words, step_fault_words, check_fault_words};
 
 use crate::fault::{CheckFault, StepFault};

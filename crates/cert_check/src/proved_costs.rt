@@ -5,7 +5,7 @@ ghost use Rattle.job_setup.specs.Setup.{bend_count, stage_count};
 ghost use Rattle.job_setup.specs.StrokeGroup.{is_lead};
 ghost use Rattle.handling_cost.specs.StepCost.{IsKeyOf};
 ghost use Rattle.handling_cost.specs.Bound.{bound_of};
-ghost use Rattle.plan_cert.specs.WellFormed.{IsWorth};
+ghost use Rattle.cert_lines.specs.Lines.{IsWorth};
 ghost use Rattle.set_facts.specs.Facts.{AreLeads};
 ghost use Rattle.cert_check.specs.ProvedCosts.{worth_cost, IsProvedCost, AreProvedLanes, IsBendPut, AreProvedBelow, AreProvedOf};
 

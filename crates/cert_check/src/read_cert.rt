@@ -2,16 +2,17 @@
 //! that are noted and the first whose reason doesn't hold. A table is read as a certificate that
 //! claims nothing.
 ghost use Rattle.std.specs.Prelude.{◌≡◌, ◌<◌, ◌++◌, ◌∷◌, [], ℕ, Err, IfErr, IfOk, IfSome, IsNone, IsSome, OnOk, List, Ok, Result, if◌then◌else◌, length, nat_lt, not, false, true};
-ghost use Rattle.plan_cert.specs.declared.item.Item.{Item};
-ghost use Rattle.plan_cert.specs.declared.item.Item.TheVariants as given;
-ghost use Rattle.plan_cert.specs.declared.item.CertFault.{CertFault};
-ghost use Rattle.plan_cert.specs.declared.format.TextKind.{TextKind};
+ghost use Rattle.plan_lines.specs.declared.item.Item.{Item};
+ghost use Rattle.plan_lines.specs.declared.item.Item.TheVariants as given;
+ghost use Rattle.plan_lines.specs.declared.item.CertFault.{CertFault};
+ghost use Rattle.cert_lines.specs.declared.format.TextKind.{TextKind};
 ghost use Rattle.plan_cert.specs.Cert.{CertData};
-ghost use Rattle.plan_cert.specs.PlanItem.{item_of, plan_answer};
-ghost use Rattle.plan_cert.specs.declared.item.CertFault.TheVariants.{Unended};
-ghost use Rattle.plan_cert.specs.declared.line_place.LinePlace.{LinePlace};
-ghost use Rattle.plan_cert.specs.Facts.{HasFew};
-ghost use Rattle.plan_cert.specs.Reading.{Reading, GivesNext, IsBehind, MayBeBehind};
+ghost use Rattle.plan_lines.specs.PlanItem.{item_of, plan_answer};
+ghost use Rattle.plan_lines.specs.declared.item.CertFault.TheVariants.{Unended};
+ghost use Rattle.plan_lines.specs.declared.line_place.LinePlace.{LinePlace};
+ghost use Rattle.plan_lines.specs.Facts.{HasFew};
+ghost use Rattle.plan_lines.specs.Reading.{Reading, GivesNext, MayBeBehind};
+ghost use Rattle.cert_lines.specs.LineReading.{IsBehind};
 ghost use Rattle.plan_cert.specs.CertReading.{answers_left, is_last, no_cert, with_item};
 ghost use Rattle.cert_check.specs.RowNotes.{HasNoNotes, IsTesting};
 ghost use Rattle.cert_check.specs.KnownNotes.{KnowsSound, KnowsSoundBut};

@@ -1,10 +1,10 @@
 //! The reading of a certificate's or a table's text piece by piece.
 ghost use Rattle.std.specs.Prelude.{◌≡◌, ◌≤◌, ◌++◌, [], ℕ, Err, IfOk, IsFalse, IsTrue, List, Result, drop, false, length, true};
 ghost use Rattle.brake_io.specs.Pieces.{HasPassed, IsOver, MayFollow};
-ghost use Rattle.plan_cert.specs.declared.item.CertFault.TheVariants.{Unended};
-ghost use Rattle.plan_cert.specs.declared.format.TextKind.{TextKind};
-ghost use Rattle.plan_cert.specs.Facts.{HasFew};
-ghost use Rattle.plan_cert.specs.Reading.{MayBeBehind};
+ghost use Rattle.plan_lines.specs.declared.item.CertFault.TheVariants.{Unended};
+ghost use Rattle.cert_lines.specs.declared.format.TextKind.{TextKind};
+ghost use Rattle.plan_lines.specs.Facts.{HasFew};
+ghost use Rattle.plan_lines.specs.Reading.{MayBeBehind};
 ghost use Rattle.cert_check.specs.declared.fault.CheckFault.{CheckFault};
 ghost use Rattle.cert_check.specs.declared.fault.CheckFault.TheVariants.{Cert};
 ghost use Rattle.cert_check.specs.ReadCert.{ReadAnswer, IsReadBefore, PieceAnswer};

@@ -2,9 +2,9 @@
 //! all strokes at once.
 ghost use Rattle.std.specs.Prelude.{◌≡◌, ℕ, ◌*◌, ◌<◌, ◌≤◌, IsTrue, List, slice_index};
 ghost use Rattle.job_setup.specs.Setup.{bend_count, stage_count};
-ghost use Rattle.plan_cert.specs.WellFormed.{IsRow};
+ghost use Rattle.plan_lines.specs.LinesFit.{IsRow};
 ghost use Rattle.stage_lanes.specs.declared.actions.ActionSet.{ActionSet};
-ghost use Rattle.plan_cert.specs.declared.cert.RowHead.{RowHead};
+ghost use Rattle.cert_lines.specs.declared.row_head.RowHead.{RowHead};
 ghost use Rattle.cert_check.specs.declared.proved_costs.ProvedCosts.{ProvedCosts};
 ghost use Rattle.cert_check.specs.Rows.{AreMet};
 ghost use Rattle.cert_check.specs.ProvedCosts.{AreProvedOf};

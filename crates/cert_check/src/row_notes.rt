@@ -3,9 +3,9 @@
 ghost use Rattle.std.specs.Prelude.{◌≡◌, ◌-◌, ◌*◌, ◌<◌, ◌++◌, ◌∷◌, [], IfOk, IsTrue, OnOk, List, None, length};
 ghost use Rattle.job_setup.specs.Setup.{JobData, bend_count, stage_count};
 ghost use Rattle.handling_cost.specs.Plan.{IsReasonFor};
-ghost use Rattle.plan_cert.specs.declared.cert.RowHead.{RowHead};
-ghost use Rattle.plan_cert.specs.declared.cert.Note.{Note};
-ghost use Rattle.plan_cert.specs.Lines.{action_at};
+ghost use Rattle.cert_lines.specs.declared.row_head.RowHead.{RowHead};
+ghost use Rattle.plan_lines.specs.declared.note.Note.{Note};
+ghost use Rattle.cert_lines.specs.Lines.{action_at};
 ghost use Rattle.cert_check.specs.RowNotes.{AreNoted, HasNoNotes, IsActionPut, IsAtRow, IsFirstUnsound, IsTesting, IsUnionPut, last_note, note_at};
 
 use crate::check_table::CheckTable;

@@ -3,7 +3,7 @@ ghost use Rattle.std.specs.Prelude.{◌≡◌, ◌↔◌, ◌*◌, ◌^◌, ◌<
 ghost use Rattle.job_setup.specs.Setup.{bend_count, stage_count};
 ghost use Rattle.job_setup.specs.StrokeGroup.{is_lead};
 ghost use Rattle.handling_cost.specs.Plan.{IsReasonFor};
-ghost use Rattle.plan_cert.specs.Lines.{action_at};
+ghost use Rattle.cert_lines.specs.Lines.{action_at};
 ghost use Rattle.cert_check.specs.RowSet.{AreLeadsWithin};
 
 use crate::check_table::CheckTable;

@@ -2,7 +2,7 @@
 ghost use Rattle.std.specs.Prelude.{◌≡◌, ◌<◌, IfOk, Some, length, replicate, slice_get};
 ghost use Rattle.job_setup.specs.ValidJob.{IsJob};
 ghost use Rattle.handling_cost.specs.StepCost.{IsKeyOf};
-ghost use Rattle.plan_cert.specs.WellFormed.{IsRow};
+ghost use Rattle.plan_lines.specs.LinesFit.{IsRow};
 ghost use Rattle.plan_cert.specs.KeyPlaces.{key_place, key_count};
 ghost use Rattle.plan_cert.specs.WellFormed.{AreRowsOf};
 ghost use Rattle.cert_check.specs.RowTable.{IsIndexed, IsRowTable, IsWorthAt};

@@ -3,7 +3,7 @@
 ghost use Rattle.std.specs.Prelude.{◌≡◌, ◌*◌, ◌^◌, ◌<◌, ◌≤◌, ℕ, IsTrue, None, slice_index_or};
 ghost use Rattle.job_setup.specs.Setup.{bend_count, stage_count};
 ghost use Rattle.job_setup.specs.StrokeGroup.{is_lead};
-ghost use Rattle.plan_cert.specs.Lines.{action_at};
+ghost use Rattle.cert_lines.specs.Lines.{action_at};
 ghost use Rattle.cert_check.specs.SetActions.{IsNext, IsNextOf, AreActionsOf};
 
 use crate::rows::{action_at, action_count, bound_at};

@@ -2,7 +2,8 @@
 ghost use Rattle.std.specs.Prelude.{◌≡◌, ◌≤◌, All, IfNone, IfSome, IfOk, length};
 ghost use Rattle.handling_cost.specs.StepCost.{IsKeyOf, IsActionAt};
 ghost use Rattle.handling_cost.specs.Plan.{IsLegal, start};
-ghost use Rattle.plan_cert.specs.WellFormed.{IsStep, HasSteps};
+ghost use Rattle.plan_lines.specs.LinesFit.{IsStep};
+ghost use Rattle.plan_cert.specs.WellFormed.{HasSteps};
 ghost use Rattle.cert_check.specs.StepFaults.{IsStepFault};
 ghost use Rattle.cert_check.specs.Steps.{FollowAnswer, CostAnswer, StepsAnswer};
 

@@ -5,7 +5,7 @@ use Rattle.std.proofs.lemmas.Bool.{cases_lt, cases_eq}
 use Rattle.std.proofs.lemmas.List.{get_or-set_same, get_or-set_other, get_or_past, get_or_default, get_or-replicate, length-replicate}
 use Rattle.std.proofs.Math.Seq.{take-suc}
 use Rattle.brake_base.specs.declared.reason.Reason.{Reason}
-use Rattle.plan_cert.specs.declared.cert.Note.{Note}
+use Rattle.plan_lines.specs.declared.note.Note.{Note}
 use Rattle.cert_merge.specs.Entries.{first_reason}
 use Rattle.cert_merge.specs.Merged.{later_of, reason_noted}
 use Rattle.cert_merge.proofs.Flat.{noted_append, by_itself, not_by}

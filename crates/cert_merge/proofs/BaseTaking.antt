@@ -7,7 +7,7 @@ use Rattle.std.proofs.Math.Seq.{take-append_seam}
 use Rattle.job_setup.specs.Setup.{JobData, bend_count}
 use Rattle.job_setup.specs.ValidJob.{IsJob}
 use Rattle.handling_cost.proofs.Actions.{few_bends}
-use Rattle.plan_cert.specs.declared.cert.RowHead.{RowHead}
+use Rattle.cert_lines.specs.declared.row_head.RowHead.{RowHead}
 use Rattle.cert_merge.specs.declared.base_rows.BaseRows.{BaseRows}
 use Rattle.cert_merge.specs.declared.row_texts.RowText.{RowText}
 use Rattle.cert_merge.specs.declared.row_texts.RowTexts.{RowTexts}

@@ -5,7 +5,7 @@ use Rattle.std.proofs.lemmas.Bool.{false_from_ne_true, and_parts, eqb-true, case
 use Rattle.std.proofs.lemmas.List.Elements.{All-append, All-nil, All-cons}
 use Rattle.brake_base.specs.declared.stroke.Key.{Key}
 use Rattle.brake_base.specs.declared.reason.Reason.{Reason}
-use Rattle.plan_cert.specs.declared.cert.Note.{Note}
+use Rattle.plan_lines.specs.declared.note.Note.{Note}
 use Rattle.cert_merge.specs.Entries.{Settled}
 use Rattle.cert_merge.specs.Merged.{later_of, noted_by, reason_noted, rows_said}
 use Rattle.cert_merge.specs.MergeSteps.{Rows, most_actions, noted_as, notes_upto, heads, flat}

@@ -9,7 +9,7 @@ use Rattle.brake_base.specs.declared.stroke.Key.{Key}
 use Rattle.brake_base.specs.declared.stroke.Worth.{Worth}
 use Rattle.brake_base.specs.Worths.{IsAtMost}
 use Rattle.job_setup.specs.Setup.{JobData}
-use Rattle.plan_cert.specs.declared.cert.RowHead.{RowHead}
+use Rattle.cert_lines.specs.declared.row_head.RowHead.{RowHead}
 use Rattle.cert_merge.specs.declared.merged_rows.MergedRows.{MergedRows}
 use Rattle.cert_merge.specs.declared.merged_rows.Part.{Part}
 use Rattle.cert_merge.specs.declared.merged_rows.Part.TheVariants as parts

@@ -17,7 +17,7 @@ use Rattle.job_setup.specs.ValidJob.{IsJob}
 use Rattle.handling_cost.specs.StepCost.{stage_cost, cost_to}
 use Rattle.handling_cost.proofs.Small.{cost_to_small}
 use Rattle.set_facts.specs.LaneFacts.{HasWays}
-use Rattle.plan_cert.specs.WellFormed.{IsWorth}
+use Rattle.cert_lines.specs.Lines.{IsWorth}
 use Rattle.cert_merge.specs.declared.settled_sets.NextKey.{NextKey}
 use Rattle.cert_merge.specs.Settled.{IsLeastWorth}
 use Rattle.cert_merge.specs.Settling.{AreReady, IsAfterOne, IsLeastAfter}

@@ -2,7 +2,7 @@
 use Rattle.std.proofs.Common.{◌≡◌, ◌<◌, length, All, Ok, Err, Result, ◌∙◌, sym, ap}
 use Rattle.std.specs.Prelude.{IfOk}
 use Rattle.brake_base.specs.declared.stroke.Key.{Key}
-use Rattle.plan_cert.specs.declared.cert.Note.{Note}
+use Rattle.plan_lines.specs.declared.note.Note.{Note}
 use Rattle.plan_cert.proofs.RowOrder.{no_row}
 use Rattle.job_setup.specs.Setup.{JobData}
 use Rattle.cert_merge.specs.Table.{TableData, IsTable}

@@ -17,9 +17,9 @@ use Rattle.handling_cost.specs.Plan.{IsReasonFor}
 use Rattle.handling_cost.specs.Good.{IsClosed}
 use Rattle.handling_cost.specs.Proved.{Grows}
 use Rattle.handling_cost.proofs.Tables.{closed_grown}
-use Rattle.plan_cert.specs.declared.cert.RowHead.{RowHead}
-use Rattle.plan_cert.specs.declared.cert.Note.{Note}
-use Rattle.plan_cert.specs.Lines.{action_at}
+use Rattle.cert_lines.specs.declared.row_head.RowHead.{RowHead}
+use Rattle.plan_lines.specs.declared.note.Note.{Note}
+use Rattle.cert_lines.specs.Lines.{action_at}
 use Rattle.plan_cert.specs.GoodCert.{HaveRow}
 use Rattle.plan_cert.specs.RowFaults.{IsAccounted, RowsAreAccounted}
 use Rattle.plan_cert.proofs.Conditions.{accounted, condition_met}

@@ -9,11 +9,12 @@ use Rattle.brake_base.specs.Reasons.{reason_place}
 use Rattle.job_setup.specs.Setup.{JobData, bend_count, stage_count}
 use Rattle.job_setup.specs.StrokeGroup.{is_lead}
 use Rattle.handling_cost.proofs.Actions.{few_bends}
-use Rattle.plan_cert.specs.declared.cert.RowHead.{RowHead}
-use Rattle.plan_cert.specs.declared.cert.Note.{Note}
-use Rattle.plan_cert.specs.Lines.{action_at}
-use Rattle.plan_cert.specs.WellFormed.{IsReasonInRange, IsRow, IsNote, AreRows}
-use Rattle.plan_cert.proofs.Actions.{few_actions}
+use Rattle.cert_lines.specs.declared.row_head.RowHead.{RowHead}
+use Rattle.plan_lines.specs.declared.note.Note.{Note}
+use Rattle.cert_lines.specs.Lines.{action_at}
+use Rattle.plan_lines.specs.LinesFit.{IsReasonInRange, IsRow}
+use Rattle.plan_cert.specs.WellFormed.{IsNote, AreRows}
+use Rattle.plan_lines.proofs.Actions.{few_actions}
 use Rattle.plan_cert.proofs.RowOrder.{few_rows, few_stages}
 use Rattle.cert_merge.specs.Table.{TableData, IsTable}
 use Rattle.cert_merge.specs.Entries.{Settled, said_of, stands_before, first_reason, united, joined}

@@ -3,7 +3,7 @@ use Rattle.std.proofs.Common.{◌≡◌, ℕ, ◌≤◌, [], ◌∷◌, ◌++◌
 use Rattle.std.specs.Prelude.{◌⊎◌, IsSome, option_map}
 use Rattle.brake_base.specs.declared.stroke.Key.{Key}
 use Rattle.job_setup.specs.Setup.{JobData, stage_count}
-use Rattle.plan_cert.specs.declared.cert.RowHead.{RowHead}
+use Rattle.cert_lines.specs.declared.row_head.RowHead.{RowHead}
 use Rattle.cert_merge.specs.declared.merged.Next.TheVariants.{First, Second, Both}
 use Rattle.cert_merge.specs.declared.merged_rows.MergedRows.{MergedRows}
 use Rattle.cert_merge.specs.declared.row_texts.Side.{Side}

@@ -14,10 +14,10 @@ use Rattle.job_setup.specs.Setup.{JobData, bend_count, stage_count}
 use Rattle.job_setup.specs.StrokeGroup.{is_lead}
 use Rattle.handling_cost.specs.StepCost.{IsKeyOf}
 use Rattle.handling_cost.specs.Bound.{bound_of}
-use Rattle.plan_cert.specs.Lines.{action_at}
-use Rattle.plan_cert.proofs.NumberedActions.{tried_at}
+use Rattle.cert_lines.specs.Lines.{action_at}
+use Rattle.plan_lines.proofs.NumberedActions.{tried_at}
 use Rattle.plan_cert.proofs.RowOrder.{no_row, row_of}
-use Rattle.plan_cert.specs.WellFormed.{IsRow}
+use Rattle.plan_lines.specs.LinesFit.{IsRow}
 use Rattle.cert_merge.specs.Entries.{Settled, merged_at}
 use Rattle.cert_merge.specs.Merged.{settled_at}
 use Rattle.cert_merge.specs.Table.{TableData, IsTable}

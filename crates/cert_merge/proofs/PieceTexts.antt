@@ -12,10 +12,10 @@ use Rattle.brake_base.specs.declared.stroke.Worth.{Worth}
 use Rattle.brake_base.specs.declared.reason.Reason.{Reason}
 use Rattle.job_setup.specs.Setup.{JobData, bend_count, stage_count}
 use Rattle.job_setup.specs.ValidJob.{IsJob}
-use Rattle.plan_cert.specs.declared.cert.Note.{Note}
-use Rattle.plan_cert.specs.declared.cert.RowHead.{RowHead}
-use Rattle.plan_cert.specs.JobText.{job_text}
-use Rattle.plan_cert.specs.Lines.{CertLine, lines_text, row_line}
+use Rattle.plan_lines.specs.declared.note.Note.{Note}
+use Rattle.cert_lines.specs.declared.row_head.RowHead.{RowHead}
+use Rattle.cert_lines.specs.JobText.{job_text}
+use Rattle.cert_lines.specs.Lines.{CertLine, lines_text, row_line}
 use Rattle.plan_cert.specs.CertText.{line_of_note, rows_lines}
 use Rattle.plan_cert.proofs.RowOrder.{few_stages}
 use Rattle.handling_cost.proofs.Actions.{few_bends}

@@ -16,8 +16,9 @@ use Rattle.handling_cost.specs.Bound.{bound_of}
 use Rattle.handling_cost.specs.Good.{Proves}
 use Rattle.handling_cost.specs.Proved.{IsProvedWorth}
 use Rattle.handling_cost.proofs.Proved.{proved_once, proved_is}
-use Rattle.plan_cert.specs.declared.cert.RowHead.{RowHead}
-use Rattle.plan_cert.specs.WellFormed.{IsWorth, AreRowsOf}
+use Rattle.cert_lines.specs.declared.row_head.RowHead.{RowHead}
+use Rattle.cert_lines.specs.Lines.{IsWorth}
+use Rattle.plan_cert.specs.WellFormed.{AreRowsOf}
 use Rattle.plan_cert.specs.GoodCert.{worths_in, HaveRow}
 use Rattle.plan_cert.proofs.RowOrder.{no_row, row_of, one_row}
 use Rattle.cert_merge.specs.TableChecks.{proved_by, IsWorthIn, IsWorthAt, IsPlaceOf}

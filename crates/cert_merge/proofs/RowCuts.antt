@@ -11,17 +11,17 @@ use Rattle.brake_base.specs.declared.stroke.Worth.{Worth}
 use Rattle.job_setup.specs.Setup.{JobData, bend_count, stage_count}
 use Rattle.cert_words.specs.LineWords.{word_length, word_at, count_at}
 use Rattle.cert_words.specs.PlanWords.{row_in, key_at}
-use Rattle.plan_cert.specs.declared.cert.RowHead.{RowHead}
-use Rattle.plan_cert.specs.declared.cert.Note.{Note}
-use Rattle.plan_cert.specs.Items.{lines_in}
-use Rattle.plan_cert.specs.Lines.{line_text, lines_text, row_line, words_of, action_at}
+use Rattle.cert_lines.specs.declared.row_head.RowHead.{RowHead}
+use Rattle.plan_lines.specs.declared.note.Note.{Note}
+use Rattle.cert_lines.specs.LineReading.{lines_in}
+use Rattle.cert_lines.specs.Lines.{line_text, lines_text, row_line, words_of, action_at}
 use Rattle.plan_cert.specs.CertText.{line_of_note}
-use Rattle.plan_cert.specs.Reading.{IsCut}
-use Rattle.plan_cert.proofs.ActionNumbers.{bend_of_number}
-use Rattle.plan_cert.proofs.WordsRead.{spelled}
-use Rattle.plan_cert.proofs.TextLines.{ArePlain, line_bytes, spelled_other}
-use Rattle.plan_cert.proofs.PlanLineRead.{IsSmall, row_reads, note_reads}
-use Rattle.plan_cert.proofs.WholeLines.{cut_line, some_line}
+use Rattle.cert_lines.specs.LineReading.{IsCut}
+use Rattle.plan_lines.proofs.ActionNumbers.{bend_of_number}
+use Rattle.cert_lines.proofs.WordsRead.{spelled}
+use Rattle.cert_lines.proofs.TextLines.{ArePlain, line_bytes, spelled_other}
+use Rattle.plan_lines.proofs.PlanLineRead.{IsSmall, row_reads, note_reads}
+use Rattle.cert_lines.proofs.WholeLines.{cut_line, some_line}
 use Rattle.cert_merge.specs.declared.row_texts.RowText.{RowText}
 use Rattle.cert_merge.specs.declared.row_texts.RowTexts.{RowTexts}
 use Rattle.cert_merge.specs.Entries.{Settled}

@@ -1,6 +1,6 @@
 -- From what the rows of a table that was read come to, to what its text comes to.
 use Rattle.std.proofs.Common.{◌≡◌, inl, inr, ℕ, List, length, Err, arith, refl, sym, ◌∙◌, ap, subst}
-use Rattle.plan_cert.specs.declared.cert.RowHead.{RowHead}
+use Rattle.cert_lines.specs.declared.row_head.RowHead.{RowHead}
 use Rattle.plan_cert.specs.WellFormed.{AreRowsOf}
 use Rattle.plan_cert.specs.RowFaults.{RowsAreAccounted, IsFirstFault, IsBadReason, IsNotClosed}
 use Rattle.cert_check.specs.declared.fault.CheckFault.{CheckFault}

@@ -4,12 +4,12 @@ use Rattle.std.specs.Result.{result_ok}
 use Rattle.std.proofs.lemmas.List.{map-append}
 use Rattle.std.proofs.lemmas.List.Elements.{All-nil}
 use Rattle.std.proofs.lemmas.Option.{same_Some}
-use Rattle.plan_cert.specs.declared.item.Item.TheVariants as given
-use Rattle.plan_cert.specs.declared.format.TextKind.TheVariants.{Table}
+use Rattle.plan_lines.specs.declared.item.Item.TheVariants as given
+use Rattle.cert_lines.specs.declared.format.TextKind.TheVariants.{Table}
 use Rattle.plan_cert.specs.Cert.{CertData}
 use Rattle.plan_cert.specs.CertItems.{rows_items}
 use Rattle.plan_cert.specs.CertReading.{no_cert, cert_of}
-use Rattle.plan_cert.specs.WellFormed.{IsStep}
+use Rattle.plan_lines.specs.LinesFit.{IsStep}
 use Rattle.plan_cert.proofs.WholeTexts.{reads_table_texts}
 use Rattle.cert_check.specs.declared.fault.CheckFault.{CheckFault}
 use Rattle.cert_check.specs.declared.fault.CheckFault.TheVariants.{Cert, NoMemory}

@@ -6,9 +6,9 @@ use Rattle.std.proofs.Math.Seq.{drop-append_seam}
 use Rattle.brake_base.specs.declared.stroke.Key.{Key}
 use Rattle.job_setup.specs.Setup.{JobData, bend_count, stage_count}
 use Rattle.handling_cost.proofs.Actions.{few_bends}
-use Rattle.plan_cert.specs.declared.cert.Note.{Note}
-use Rattle.plan_cert.specs.JobText.{job_text}
-use Rattle.plan_cert.specs.Lines.{CertLine, lines_text, row_line}
+use Rattle.plan_lines.specs.declared.note.Note.{Note}
+use Rattle.cert_lines.specs.JobText.{job_text}
+use Rattle.cert_lines.specs.Lines.{CertLine, lines_text, row_line}
 use Rattle.plan_cert.specs.CertText.{rows_lines, table_text}
 use Rattle.plan_cert.proofs.RowOrder.{few_stages}
 use Rattle.row_text.proofs.MoreRows.{more_text}

@@ -15,11 +15,11 @@ use Rattle.handling_cost.specs.StepCost.{IsActionAt, attitude_at, cost_of, key_a
 use Rattle.handling_cost.specs.Plan.{IsReasonFor}
 use Rattle.handling_cost.proofs.Proved.{proved_is}
 use Rattle.handling_cost.proofs.Tables.{closed_by_greatest}
-use Rattle.plan_cert.specs.declared.cert.RowHead.{RowHead}
-use Rattle.plan_cert.specs.Lines.{action_at}
+use Rattle.cert_lines.specs.declared.row_head.RowHead.{RowHead}
+use Rattle.cert_lines.specs.Lines.{action_at}
 use Rattle.plan_cert.specs.GoodCert.{worths_in, HaveRow}
 use Rattle.plan_cert.specs.RowFaults.{IsClosedAt}
-use Rattle.plan_cert.proofs.NumberedActions.{tried_at, held_on}
+use Rattle.plan_lines.proofs.NumberedActions.{tried_at, held_on}
 use Rattle.cert_merge.specs.declared.checked.TableFault.{TableFault}
 use Rattle.cert_merge.specs.declared.noted_row.NotedRow.{NotedRow}
 use Rattle.cert_merge.specs.declared.set_actions.After.{After}

@@ -24,16 +24,17 @@ use Rattle.job_setup.specs.ValidJob.{IsJob}
 use Rattle.handling_cost.specs.StepCost.{IsKeyOf}
 use Rattle.handling_cost.proofs.Actions.{few_bends}
 use Rattle.handling_cost.proofs.Keys.{some_stage}
-use Rattle.plan_cert.specs.declared.cert.RowHead.{RowHead}
-use Rattle.plan_cert.specs.Lines.{action_at, lines_text}
+use Rattle.cert_lines.specs.declared.row_head.RowHead.{RowHead}
+use Rattle.cert_lines.specs.Lines.{action_at, lines_text}
 use Rattle.plan_cert.specs.CertText.{rows_lines}
-use Rattle.plan_cert.specs.WellFormed.{IsReasonInRange, IsWorth}
-use Rattle.plan_cert.proofs.Actions.{few_actions}
+use Rattle.plan_lines.specs.LinesFit.{IsReasonInRange}
+use Rattle.cert_lines.specs.Lines.{IsWorth}
+use Rattle.plan_lines.proofs.Actions.{few_actions}
 use Rattle.plan_cert.proofs.ReasonRanges.{reason_ranged}
 use Rattle.plan_cert.proofs.RowOrder.{few_stages}
 use Rattle.row_text.specs.Notes.{SetNotes, IsAmong, number_at, reason_at, note_at, notes_of, GoOnAs}
 use Rattle.row_text.proofs.ActionPlaces.{number_of_place, stage_of_place, same_place}
-use Rattle.plan_cert.proofs.NoteSets.{one_more, keep, skip}
+use Rattle.plan_lines.proofs.NoteSets.{one_more, keep, skip}
 use Rattle.cert_merge.specs.declared.set_writer.SetWriter.{SetWriter}
 use Rattle.cert_merge.specs.declared.settled_sets.SettledSet.{SettledSet}
 use Rattle.cert_merge.specs.declared.settled_sets.SettledSets.{SettledSets}

@@ -14,10 +14,10 @@ use Rattle.handling_cost.specs.StepCost.{key_after}
 use Rattle.handling_cost.specs.Plan.{IsReasonFor}
 use Rattle.handling_cost.proofs.Proved.{proved_is}
 use Rattle.handling_cost.proofs.Tables.{closed_by_greatest}
-use Rattle.plan_cert.specs.Lines.{action_at}
-use Rattle.plan_cert.specs.WellFormed.{IsWorth}
+use Rattle.cert_lines.specs.Lines.{action_at}
+use Rattle.cert_lines.specs.Lines.{IsWorth}
 use Rattle.plan_cert.specs.GoodCert.{worths_in, HaveRow}
-use Rattle.plan_cert.proofs.NumberedActions.{tried_at}
+use Rattle.plan_lines.proofs.NumberedActions.{tried_at}
 use Rattle.cert_merge.specs.Entries.{Settled, stands_before, first_reason, joined}
 use Rattle.cert_merge.specs.Merged.{settled_at}
 use Rattle.cert_merge.specs.MergeSteps.{table_said}

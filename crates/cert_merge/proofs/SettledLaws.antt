@@ -27,8 +27,8 @@ use Rattle.handling_cost.proofs.Legal.{legal_of_none}
 use Rattle.handling_cost.proofs.Proved.{proved_is}
 use Rattle.handling_cost.proofs.Small.{total_small}
 use Rattle.handling_cost.proofs.Tables.{closed_by_greatest}
-use Rattle.plan_cert.specs.declared.cert.RowHead.{RowHead}
-use Rattle.plan_cert.specs.Lines.{action_at}
+use Rattle.cert_lines.specs.declared.row_head.RowHead.{RowHead}
+use Rattle.cert_lines.specs.Lines.{action_at}
 use Rattle.plan_cert.specs.GoodCert.{worths_in, HaveRow}
 use Rattle.plan_cert.proofs.Conditions.{no_full}
 use Rattle.cert_merge.specs.Entries.{Settled, merged_at}

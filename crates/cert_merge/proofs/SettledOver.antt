@@ -6,8 +6,8 @@ use Rattle.brake_base.specs.declared.stroke.Key.{Key}
 use Rattle.job_setup.specs.Setup.{JobData, stage_count}
 use Rattle.handling_cost.specs.Plan.{start}
 use Rattle.handling_cost.proofs.Keys.{start_in_range}
-use Rattle.plan_cert.specs.declared.cert.RowHead.{RowHead}
-use Rattle.plan_cert.specs.WellFormed.{IsWorth}
+use Rattle.cert_lines.specs.declared.row_head.RowHead.{RowHead}
+use Rattle.cert_lines.specs.Lines.{IsWorth}
 use Rattle.plan_cert.specs.CertText.{table_text}
 use Rattle.plan_cert.proofs.RowOrder.{few_rows}
 use Rattle.cert_merge.specs.declared.base_rows.BaseRows.{BaseRows}

@@ -14,11 +14,12 @@ use Rattle.job_setup.specs.Setup.{JobData, bend_count, stage_count}
 use Rattle.job_setup.specs.ValidJob.{IsJob}
 use Rattle.handling_cost.specs.StepCost.{IsKeyOf}
 use Rattle.handling_cost.specs.Plan.{IsReasonFor}
-use Rattle.plan_cert.specs.declared.cert.RowHead.{RowHead}
-use Rattle.plan_cert.specs.declared.cert.Note.{Note}
-use Rattle.plan_cert.specs.Lines.{action_at}
+use Rattle.cert_lines.specs.declared.row_head.RowHead.{RowHead}
+use Rattle.plan_lines.specs.declared.note.Note.{Note}
+use Rattle.cert_lines.specs.Lines.{action_at}
 use Rattle.plan_cert.specs.KeyPlaces.{key_place}
-use Rattle.plan_cert.specs.WellFormed.{IsRow, IsNote, AreRows}
+use Rattle.plan_lines.specs.LinesFit.{IsRow}
+use Rattle.plan_cert.specs.WellFormed.{IsNote, AreRows}
 use Rattle.plan_cert.proofs.ReasonRanges.{reason_ranged}
 use Rattle.plan_cert.proofs.RowOrder.{few_stages, few_rows, same_key}
 use Rattle.cert_merge.specs.declared.noted_row.NotedRow.{NotedRow}

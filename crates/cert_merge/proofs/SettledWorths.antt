@@ -18,16 +18,17 @@ use Rattle.job_setup.specs.Setup.{JobData, bend_count, stage_count}
 use Rattle.job_setup.specs.StrokeGroup.{is_lead}
 use Rattle.job_setup.specs.ValidJob.{IsJob}
 use Rattle.handling_cost.specs.Bound.{bound_of}
-use Rattle.plan_cert.specs.declared.cert.RowHead.{RowHead}
-use Rattle.plan_cert.proofs.NumberedActions.{tried_at}
+use Rattle.cert_lines.specs.declared.row_head.RowHead.{RowHead}
+use Rattle.plan_lines.proofs.NumberedActions.{tried_at}
 use Rattle.cert_merge.specs.declared.settled_sets.SettledSets.{SettledSets}
 use Rattle.cert_merge.specs.Entries.{Settled}
 use Rattle.cert_merge.specs.TableChecks.{proved_by, IsWorthIn}
 use Rattle.cert_merge.proofs.ProvedWorths.{row_small, bound_proved, row_proved, greater_small}
 use Rattle.cert_merge.proofs.SetLemmas.{after_by_mask}
 use Rattle.handling_cost.specs.StepCost.{IsKeyOf, IsActionAt, attitude_at, key_after, cost_to}
-use Rattle.plan_cert.specs.Lines.{action_at}
-use Rattle.plan_cert.specs.WellFormed.{IsWorth, AreRowsOf}
+use Rattle.cert_lines.specs.Lines.{action_at}
+use Rattle.cert_lines.specs.Lines.{IsWorth}
+use Rattle.plan_cert.specs.WellFormed.{AreRowsOf}
 use Rattle.cert_merge.specs.declared.settled_sets.SettledSet.{SettledSet}
 use Rattle.cert_merge.specs.declared.settled_sets.NextKey.{NextKey}
 use Rattle.cert_merge.specs.Settled.{IsNumberAt, IsFirstFor, IsFirstNoted, AreFirstNoted, worth_by, IsOpen, IsLeastWorth, IsSettledBy, capped}

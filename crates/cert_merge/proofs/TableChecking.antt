@@ -25,8 +25,9 @@ use Rattle.handling_cost.proofs.Actions.{few_bends}
 use Rattle.handling_cost.proofs.ActionGroups.{action_groups}
 use Rattle.handling_cost.proofs.Least.{good_implies_least}
 use Rattle.handling_cost.proofs.Proved.{proved_is}
-use Rattle.plan_cert.specs.declared.cert.RowHead.{RowHead}
-use Rattle.plan_cert.specs.WellFormed.{IsRow, AreRowsOf}
+use Rattle.cert_lines.specs.declared.row_head.RowHead.{RowHead}
+use Rattle.plan_lines.specs.LinesFit.{IsRow}
+use Rattle.plan_cert.specs.WellFormed.{AreRowsOf}
 use Rattle.plan_cert.specs.GoodCert.{worths_in, HaveRow, HaveNote}
 use Rattle.plan_cert.specs.RowFaults.{IsNoted, IsUnnoted, IsTried, HoldsAt, IsClosedAt, IsAccounted, AreAccounted, RowsAreAccounted}
 use Rattle.plan_cert.proofs.RowOrder.{few_stages}

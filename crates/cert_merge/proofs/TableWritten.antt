@@ -2,13 +2,13 @@
 use Rattle.std.proofs.Common.{◌≡◌, ℕ, List, [], ◌∷◌, ◌++◌, codes, ap, sym, ◌∙◌, refl, append_assoc}
 use Rattle.std.proofs.lemmas.List.{append-nil}
 use Rattle.job_setup.specs.Setup.{JobData, stage_count}
-use Rattle.plan_cert.specs.declared.cert.RowHead.{RowHead}
-use Rattle.plan_cert.specs.declared.cert.Note.{Note}
-use Rattle.plan_cert.specs.declared.format.Format.TheVariants.{Table}
-use Rattle.plan_cert.specs.Lines.{format_line, end_line, line_text, lines_text}
-use Rattle.plan_cert.specs.JobText.{job_lines, job_text}
+use Rattle.cert_lines.specs.declared.row_head.RowHead.{RowHead}
+use Rattle.plan_lines.specs.declared.note.Note.{Note}
+use Rattle.cert_lines.specs.declared.format.Format.TheVariants.{Table}
+use Rattle.cert_lines.specs.Lines.{format_line, end_line, line_text, lines_text}
+use Rattle.cert_lines.specs.JobText.{job_lines, job_text}
 use Rattle.plan_cert.specs.CertText.{rows_lines, table_text}
-use Rattle.plan_cert.proofs.JobTexts.{three}
+use Rattle.cert_lines.proofs.JobTexts.{three}
 
 first_line : line_text (format_line Table) ≡ codes "brake-table 1\n"
 unfolding line_text

@@ -11,19 +11,20 @@ use Rattle.brake_base.specs.Actions.{IsActionAmong, number_of_action}
 use Rattle.job_setup.specs.Setup.{JobData, bend_count, stage_count}
 use Rattle.cert_words.specs.LineWords.{word_length}
 use Rattle.cert_words.specs.PlanWords.{note_in}
-use Rattle.plan_cert.specs.declared.cert.Note.{Note}
-use Rattle.plan_cert.specs.declared.cert.RowHead.{RowHead}
-use Rattle.plan_cert.specs.Items.{lines_in}
-use Rattle.plan_cert.specs.Lines.{line_text, lines_text, row_line, words_of, action_at}
+use Rattle.plan_lines.specs.declared.note.Note.{Note}
+use Rattle.cert_lines.specs.declared.row_head.RowHead.{RowHead}
+use Rattle.cert_lines.specs.LineReading.{lines_in}
+use Rattle.cert_lines.specs.Lines.{line_text, lines_text, row_line, words_of, action_at}
 use Rattle.plan_cert.specs.CertText.{line_of_note, rows_lines}
-use Rattle.plan_cert.specs.Reading.{IsCut}
-use Rattle.plan_cert.specs.WellFormed.{IsWorth, NoteIsBefore}
-use Rattle.plan_cert.proofs.ActionNumbers.{number_is, bend_of_number}
-use Rattle.plan_cert.proofs.Actions.{few_actions}
-use Rattle.plan_cert.proofs.PlanLineRead.{IsSmall, note_reads}
-use Rattle.plan_cert.proofs.TextLines.{line_bytes, spelled_other}
-use Rattle.plan_cert.proofs.WholeLines.{cut_line, some_line}
-use Rattle.plan_cert.proofs.WordsRead.{spelled}
+use Rattle.cert_lines.specs.LineReading.{IsCut}
+use Rattle.cert_lines.specs.Lines.{IsWorth}
+use Rattle.plan_cert.specs.WellFormed.{NoteIsBefore}
+use Rattle.plan_lines.proofs.ActionNumbers.{number_is, bend_of_number}
+use Rattle.plan_lines.proofs.Actions.{few_actions}
+use Rattle.plan_lines.proofs.PlanLineRead.{IsSmall, note_reads}
+use Rattle.cert_lines.proofs.TextLines.{line_bytes, spelled_other}
+use Rattle.cert_lines.proofs.WholeLines.{cut_line, some_line}
+use Rattle.cert_lines.proofs.WordsRead.{spelled}
 use Rattle.row_text.proofs.MoreRows.{more_text}
 use Rattle.cert_merge.specs.declared.row_texts.RowText.{RowText}
 use Rattle.cert_merge.specs.Entries.{Settled, first_reason, united}

@@ -4,8 +4,8 @@ use Rattle.std.specs.Prelude.{if◌then◌else◌}
 use Rattle.std.proofs.lemmas.List.{append-nil, length-map}
 use Rattle.std.proofs.Math.ListN.{drop_of_length-le}
 use Rattle.brake_base.specs.declared.stroke.Key.{Key}
-use Rattle.plan_cert.specs.declared.cert.RowHead.{RowHead}
-use Rattle.plan_cert.specs.declared.cert.Note.{Note}
+use Rattle.cert_lines.specs.declared.row_head.RowHead.{RowHead}
+use Rattle.plan_lines.specs.declared.note.Note.{Note}
 use Rattle.cert_merge.specs.declared.noted_row.NotedRow.{NotedRow}
 use Rattle.cert_merge.specs.declared.merged.Taken.{Taken}
 use Rattle.cert_merge.specs.Table.{TableData}

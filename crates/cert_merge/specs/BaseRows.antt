@@ -2,7 +2,7 @@
 use Rattle.std.specs.Prelude.{◌≡◌, ℕ, ◌<◌, ◌≤◌, List, [], ◌∷◌, ◌++◌, length, Option, Some, None}
 use Rattle.brake_base.specs.declared.stroke.Key.{Key}
 use Rattle.job_setup.specs.Setup.{JobData, stage_count}
-use Rattle.plan_cert.specs.declared.cert.RowHead.{RowHead}
+use Rattle.cert_lines.specs.declared.row_head.RowHead.{RowHead}
 use Rattle.cert_merge.specs.declared.base_rows.BaseRows.{BaseRows}
 use Rattle.cert_merge.specs.declared.row_texts.RowTexts.{RowTexts}
 use Rattle.cert_merge.specs.Entries.{Settled}

@@ -4,8 +4,8 @@ use Rattle.std.specs.Prelude.{All, AllPairs, Option, Some, None, slice_index_or,
 use Rattle.brake_base.specs.declared.stroke.Key.{Key}
 use Rattle.brake_base.specs.declared.reason.Reason.{Reason}
 use Rattle.brake_base.specs.Keys.{key_numbers, KeyIsBefore}
-use Rattle.plan_cert.specs.declared.cert.RowHead.{RowHead}
-use Rattle.plan_cert.specs.declared.cert.Note.{Note}
+use Rattle.cert_lines.specs.declared.row_head.RowHead.{RowHead}
+use Rattle.plan_lines.specs.declared.note.Note.{Note}
 use Rattle.cert_merge.specs.declared.noted_row.NotedRow.{NotedRow}
 use Rattle.cert_merge.specs.declared.merged.Taken.{Taken}
 use Rattle.cert_merge.specs.declared.merged.Next.{Next}

@@ -3,8 +3,8 @@ use Rattle.std.specs.Prelude.{◌≡◌, ℕ, suc, ◌==◌, ◌&&◌, List, [],
 use Rattle.std.specs.Prelude.{if◌then◌else◌}
 use Rattle.brake_base.specs.declared.stroke.Key.{Key}
 use Rattle.brake_base.specs.declared.reason.Reason.{Reason}
-use Rattle.plan_cert.specs.declared.cert.RowHead.{RowHead}
-use Rattle.plan_cert.specs.declared.cert.Note.{Note}
+use Rattle.cert_lines.specs.declared.row_head.RowHead.{RowHead}
+use Rattle.plan_lines.specs.declared.note.Note.{Note}
 use Rattle.job_setup.specs.Setup.{JobData}
 use Rattle.cert_merge.specs.Entries.{Settled, said_of, merged_at}
 use Rattle.cert_merge.specs.Table.{TableData, IsTable, IsClosedTable}

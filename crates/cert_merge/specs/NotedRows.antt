@@ -1,6 +1,6 @@
 -- The notes of a row among those of all.
 use Rattle.std.specs.Prelude.{◌≡◌, ℕ, suc, ◌<◌, ◌≤◌, List, ◌++◌, length, All, slice_index_or}
-use Rattle.plan_cert.specs.declared.cert.Note.{Note}
+use Rattle.plan_lines.specs.declared.note.Note.{Note}
 
 -- the first so many notes, and no others, are of rows before that of a number
 pub record IsSplit (notes : List Note) (row count : ℕ) : Type 0 where

@@ -1,8 +1,8 @@
 -- What the check of a table's text comes to.
 use Rattle.std.specs.Prelude.{◌≡◌, ◌⊎◌, List, ℕ, length, Result, Ok, Err}
 use Rattle.handling_cost.specs.Plan.{start}
-use Rattle.plan_cert.specs.declared.item.CertFault.{CertFault}
-use Rattle.plan_cert.specs.declared.item.CertFault.TheVariants.{NoMemory}
+use Rattle.plan_lines.specs.declared.item.CertFault.{CertFault}
+use Rattle.plan_lines.specs.declared.item.CertFault.TheVariants.{NoMemory}
 use Rattle.cert_check.specs.declared.fault.CheckFault.{CheckFault}
 use Rattle.cert_check.specs.declared.fault.CheckFault.TheVariants as check
 use Rattle.cert_merge.specs.declared.checked.TableFault.{TableFault}

@@ -6,8 +6,8 @@ use Rattle.std.specs.List.{flat_map}
 use Rattle.brake_base.specs.declared.stroke.Key.{Key}
 use Rattle.job_setup.specs.Setup.{JobData, bend_count, stage_count}
 use Rattle.brake_base.specs.declared.reason.Reason.{Reason}
-use Rattle.plan_cert.specs.WellFormed.{IsRow, IsReasonInRange}
-use Rattle.plan_cert.specs.Lines.{CertLine, lines_text, row_line}
+use Rattle.plan_lines.specs.LinesFit.{IsRow, IsReasonInRange}
+use Rattle.cert_lines.specs.Lines.{CertLine, lines_text, row_line}
 use Rattle.plan_cert.specs.CertText.{line_of_note}
 use Rattle.cert_merge.specs.declared.row_texts.RowText.{RowText}
 use Rattle.cert_merge.specs.declared.row_texts.RowTexts.{RowTexts}

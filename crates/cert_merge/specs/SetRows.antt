@@ -7,7 +7,7 @@ use Rattle.brake_base.specs.declared.reason.Reason.{Reason}
 use Rattle.stage_lanes.specs.declared.actions.ActionSet.{ActionSet}
 use Rattle.stage_lanes.specs.ActionSets.{has_place}
 use Rattle.stage_lanes.specs.Codes.{IsCoded}
-use Rattle.plan_cert.specs.Lines.{lines_text}
+use Rattle.cert_lines.specs.Lines.{lines_text}
 use Rattle.plan_cert.specs.CertText.{rows_lines}
 use Rattle.row_text.specs.Notes.{SetNotes, IsAmong, number_at, reason_at}
 use Rattle.cert_merge.specs.declared.noted_row.NotedRow.{NotedRow}

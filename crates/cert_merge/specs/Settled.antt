@@ -15,7 +15,7 @@ use Rattle.stroke_table.specs.Strokes.{IsFirstAt}
 use Rattle.handling_cost.specs.StepCost.{IsKeyOf, IsActionAt, cost_of, key_after}
 use Rattle.handling_cost.specs.Plan.{start}
 use Rattle.handling_cost.specs.Claim.{IsTrueClaim}
-use Rattle.plan_cert.specs.Lines.{action_at}
+use Rattle.cert_lines.specs.Lines.{action_at}
 use Rattle.cert_merge.specs.Entries.{Settled}
 use Rattle.cert_merge.specs.Merged.{settled_at, IsMerged}
 use Rattle.cert_merge.specs.Table.{TableData, IsTable, IsClosedTable}

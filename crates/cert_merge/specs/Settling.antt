@@ -11,10 +11,10 @@ use Rattle.brake_base.specs.declared.reason.Reason.{Reason}
 use Rattle.brake_base.specs.Worths.{plus, greater}
 use Rattle.job_setup.specs.Setup.{JobData, bend_count, stage_count}
 use Rattle.handling_cost.specs.StepCost.{IsKeyOf, key_after, cost_to}
-use Rattle.plan_cert.specs.declared.cert.RowHead.{RowHead}
-use Rattle.plan_cert.specs.Lines.{action_at}
+use Rattle.cert_lines.specs.declared.row_head.RowHead.{RowHead}
+use Rattle.cert_lines.specs.Lines.{action_at}
 use Rattle.plan_cert.specs.KeyPlaces.{key_place}
-use Rattle.plan_cert.specs.WellFormed.{IsWorth}
+use Rattle.cert_lines.specs.Lines.{IsWorth}
 use Rattle.cert_merge.specs.declared.settled_sets.SettledSet.{SettledSet}
 use Rattle.cert_merge.specs.declared.settled_sets.SettledSets.{SettledSets}
 use Rattle.cert_merge.specs.declared.settled_sets.NextKey.{NextKey}

@@ -3,8 +3,8 @@ use Rattle.std.specs.Prelude.{List}
 use Rattle.job_setup.specs.Setup.{JobData}
 use Rattle.job_setup.specs.ValidJob.{IsJob}
 use Rattle.handling_cost.specs.Good.{MeetsCondition}
-use Rattle.plan_cert.specs.declared.cert.RowHead.{RowHead}
-use Rattle.plan_cert.specs.declared.cert.Note.{Note}
+use Rattle.cert_lines.specs.declared.row_head.RowHead.{RowHead}
+use Rattle.plan_lines.specs.declared.note.Note.{Note}
 use Rattle.plan_cert.specs.WellFormed.{AreRows}
 use Rattle.plan_cert.specs.GoodCert.{HaveRow, HaveNote}
 use Rattle.cert_merge.specs.declared.table.Table.{Table}

@@ -10,7 +10,7 @@ use Rattle.brake_base.specs.Worths.{IsAtMost}
 use Rattle.job_setup.specs.Setup.{JobData}
 use Rattle.handling_cost.specs.Plan.{IsPlan, total, start}
 use Rattle.handling_cost.specs.Proved.{proved_of}
-use Rattle.plan_cert.specs.declared.cert.RowHead.{RowHead}
+use Rattle.cert_lines.specs.declared.row_head.RowHead.{RowHead}
 use Rattle.plan_cert.specs.GoodCert.{worths_in, HaveRow}
 use Rattle.plan_cert.specs.RowFaults.{RowsAreAccounted}
 use Rattle.plan_cert.specs.RowFaults.{IsFirstFault, IsBadReason, IsNotClosed}

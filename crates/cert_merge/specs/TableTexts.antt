@@ -1,8 +1,8 @@
 -- A whole table file from the items of its text.
 use Rattle.std.specs.Prelude.{◌≡◌, ◌⊎◌, List, [], ℕ, Result, Ok, Err}
-use Rattle.plan_cert.specs.declared.item.CertFault.{CertFault}
-use Rattle.plan_cert.specs.declared.item.CertFault.TheVariants as faults
-use Rattle.plan_cert.specs.declared.format.TextKind.TheVariants as kinds
+use Rattle.plan_lines.specs.declared.item.CertFault.{CertFault}
+use Rattle.plan_lines.specs.declared.item.CertFault.TheVariants as faults
+use Rattle.cert_lines.specs.declared.format.TextKind.TheVariants as kinds
 use Rattle.plan_cert.specs.CertReading.{CertFileData, file_of}
 use Rattle.plan_cert.specs.ExactTexts.{IsTableText}
 use Rattle.cert_merge.specs.declared.table.TableFile.{TableFile}

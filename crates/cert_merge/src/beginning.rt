@@ -1,6 +1,6 @@
 //! How a table's text begins, and how much of it is a piece.
 ghost use Rattle.std.specs.Prelude.{◌≡◌, ◌++◌, codes, IfOk};
-ghost use Rattle.plan_cert.specs.JobText.{job_text};
+ghost use Rattle.cert_lines.specs.JobText.{job_text};
 
 use brake_io::PIECE;
 use brake_text::put_word;

@@ -8,7 +8,7 @@ ghost use Rattle.cert_merge.specs.MergeSteps.{Rows, merge_rows, table_said};
 ghost use Rattle.cert_merge.specs.RowTexts.{AreLeft, IsTextOfRow, size_of_side};
 ghost use Rattle.cert_merge.specs.UnitedRows.{AreOfOneRow};
 ghost use Rattle.cert_merge.specs.MergedRows.{AreOfOneKey, AreSides, AreTextsOf, GoesOnBy, HoldsRows, AreMergedRows, IsUnderway, IsWithin, part_text};
-ghost use Rattle.plan_cert.specs.JobText.{job_text};
+ghost use Rattle.cert_lines.specs.JobText.{job_text};
 ghost use Rattle.cert_merge.specs.Table.{TableData};
 ghost use Rattle.cert_merge.specs.TableTexts.{IsTextOfTable};
 

@@ -1,6 +1,6 @@
 //! The merge of two tables of a job by their texts.
 ghost use Rattle.std.specs.Prelude.{IfOk};
-ghost use Rattle.plan_cert.specs.WellFormed.{IsWorth};
+ghost use Rattle.cert_lines.specs.Lines.{IsWorth};
 ghost use Rattle.cert_merge.specs.Table.{TableData};
 ghost use Rattle.cert_merge.specs.MergedRows.{AreTextsOf};
 ghost use Rattle.cert_merge.specs.MergedTexts.{IsMergeOfTexts};

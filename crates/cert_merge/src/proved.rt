@@ -1,7 +1,7 @@
 //! The check of a table's text. The text is read once, and no list of its notes is kept.
 ghost use Rattle.std.specs.Prelude.{◌≡◌, ◌++◌, ℕ, IfOk, List};
 ghost use Rattle.brake_io.specs.Pieces.{HasPassed, MayFollow};
-ghost use Rattle.plan_cert.specs.WellFormed.{IsWorth};
+ghost use Rattle.cert_lines.specs.Lines.{IsWorth};
 ghost use Rattle.cert_merge.specs.Table.{TableData};
 ghost use Rattle.cert_merge.specs.TableChecks.{CostsAtLeast};
 ghost use Rattle.cert_merge.specs.ReadRows.{AreTableParts, ProvedAnswer};

@@ -4,7 +4,7 @@ ghost use Rattle.std.specs.Prelude.{◌≡◌, ◌↔◌, ◌*◌, ◌^◌, ◌<
 ghost use Rattle.job_setup.specs.Setup.{bend_count, stage_count};
 ghost use Rattle.handling_cost.specs.StepCost.{IsActionAt};
 ghost use Rattle.handling_cost.specs.Plan.{IsReasonFor};
-ghost use Rattle.plan_cert.specs.Lines.{action_at};
+ghost use Rattle.cert_lines.specs.Lines.{action_at};
 ghost use Rattle.plan_cert.specs.WellFormed.{AreRowsOf};
 ghost use Rattle.cert_merge.specs.SetActions.{IsAfterOf, IsWorthAfter, AreActionsOf, HaveWorths};
 

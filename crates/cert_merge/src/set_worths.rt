@@ -7,7 +7,7 @@ ghost use Rattle.brake_base.specs.declared.stroke.Key.{Key};
 ghost use Rattle.brake_base.specs.declared.stroke.Worth.TheVariants.{Blocked};
 ghost use Rattle.job_setup.specs.Setup.{stage_count};
 ghost use Rattle.handling_cost.specs.StepCost.{IsKeyOf};
-ghost use Rattle.plan_cert.specs.WellFormed.{IsWorth};
+ghost use Rattle.cert_lines.specs.Lines.{IsWorth};
 ghost use Rattle.cert_merge.specs.Settled.{capped};
 ghost use Rattle.cert_merge.specs.Settling.{AreReady, IsReady, IsLeastAfter, place_in_set};
 ghost use Rattle.stage_lanes.specs.Lanes.{AreLanes};

@@ -1,7 +1,7 @@
 //! A writer of the rows of settled sets.
 ghost use Rattle.std.specs.Prelude.{◌≡◌, ◌<◌, ◌≤◌, None, slice_index_or, IfOk, OnOk};
 ghost use Rattle.stage_lanes.specs.ActionSets.{IsNone};
-ghost use Rattle.plan_cert.specs.WellFormed.{IsWorth};
+ghost use Rattle.cert_lines.specs.Lines.{IsWorth};
 ghost use Rattle.cert_merge.specs.declared.settled_sets.SettledSet.{SettledSet};
 ghost use Rattle.cert_merge.specs.Settling.{IsAmong, said_by};
 ghost use Rattle.cert_merge.specs.SetRows.{AreNotesOf, AreWritable, CanBeWritten, IsSetOf, IsWriterOf, IsRowPut};

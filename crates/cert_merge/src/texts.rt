@@ -1,7 +1,7 @@
 //! The text of a table file, both ways.
 ghost use Rattle.std.specs.Prelude.{◌≡◌, IfOk};
 ghost use Rattle.toml_fields.specs.Results.{GivesOr};
-ghost use Rattle.plan_cert.specs.declared.item.CertFault.TheVariants.{NoMemory};
+ghost use Rattle.plan_lines.specs.declared.item.CertFault.TheVariants.{NoMemory};
 ghost use Rattle.plan_cert.specs.CertText.{table_text};
 ghost use Rattle.cert_merge.specs.Table.{table_data, table_file_data, IsTable};
 ghost use Rattle.cert_merge.specs.TableTexts.{table_file_of, IsExact, GivesBack};

@@ -7,7 +7,7 @@ ghost use Rattle.brake_base.specs.Actions.{number_of_action};
 ghost use Rattle.job_setup.specs.Setup.{JobData};
 ghost use Rattle.cert_words.specs.LineWords.{word_length};
 ghost use Rattle.cert_words.specs.PlanWords.{note_in};
-ghost use Rattle.plan_cert.specs.declared.cert.Note.{Note};
+ghost use Rattle.plan_lines.specs.declared.note.Note.{Note};
 ghost use Rattle.cert_merge.specs.Entries.{Settled, united};
 ghost use Rattle.cert_merge.specs.RowTexts.{said_text};
 ghost use Rattle.cert_merge.specs.UnitedRows.{AreNotesOf, AreOfOneRow, AreReasonsOf};

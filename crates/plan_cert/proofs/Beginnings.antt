@@ -2,12 +2,12 @@
 use Rattle.std.proofs.Common.{◌≡◌, ◌+◌, Some, Result, Ok, Err, refl}
 use Rattle.std.specs.Prelude.{slice_get}
 use Rattle.job_setup.specs.Setup.{JobData}
-use Rattle.plan_cert.specs.declared.format.TextKind.TheVariants.{Certificate}
-use Rattle.plan_cert.specs.declared.item.Item.TheVariants as given
-use Rattle.plan_cert.specs.declared.item.CertFault.{CertFault}
-use Rattle.plan_cert.specs.Reading.{Reading}
-use Rattle.plan_cert.specs.Items.{items}
-use Rattle.plan_cert.specs.PlanItem.{job_answer}
+use Rattle.cert_lines.specs.declared.format.TextKind.TheVariants.{Certificate}
+use Rattle.plan_lines.specs.declared.item.Item.TheVariants as given
+use Rattle.plan_lines.specs.declared.item.CertFault.{CertFault}
+use Rattle.plan_lines.specs.Reading.{Reading}
+use Rattle.plan_lines.specs.Items.{items}
+use Rattle.plan_lines.specs.PlanItem.{job_answer}
 use Rattle.plan_cert.specs.CertReading.{BeginsWith}
 use Rattle.plan_cert.proofs.Collecting.{begins_refused, begins_job}
 

@@ -4,16 +4,16 @@ use Rattle.std.specs.List.{flat_map}
 use Rattle.std.proofs.lemmas.List.{append-nil}
 use Rattle.job_setup.specs.Setup.{JobData, bend_count, stage_count}
 use Rattle.job_setup.specs.ValidJob.{IsJob}
-use Rattle.plan_cert.specs.declared.cert.RowHead.{RowHead}
-use Rattle.plan_cert.specs.declared.cert.Note.{Note}
-use Rattle.plan_cert.specs.declared.format.Format.TheVariants.{Version2}
+use Rattle.cert_lines.specs.declared.row_head.RowHead.{RowHead}
+use Rattle.plan_lines.specs.declared.note.Note.{Note}
+use Rattle.cert_lines.specs.declared.format.Format.TheVariants.{Version2}
 use Rattle.plan_cert.specs.Cert.{CertData}
-use Rattle.plan_cert.specs.Lines.{CertLine, format_line, claim_line, step_line, end_line, line_text, lines_text}
-use Rattle.plan_cert.specs.JobText.{job_lines, job_text}
+use Rattle.cert_lines.specs.Lines.{CertLine, format_line, claim_line, step_line, end_line, line_text, lines_text}
+use Rattle.cert_lines.specs.JobText.{job_lines, job_text}
 use Rattle.plan_cert.specs.WellFormed.{IsNote}
 use Rattle.plan_cert.specs.CertText.{rows_lines, cert_text2}
-use Rattle.plan_cert.proofs.JobTexts.{joined, four, of_kind}
-use Rattle.plan_cert.proofs.Actions.{few_actions}
+use Rattle.cert_lines.proofs.JobTexts.{joined, four, of_kind}
+use Rattle.plan_lines.proofs.Actions.{few_actions}
 
 first_line : line_text (format_line Version2) ≡ codes "brake-cert 2\n"
 unfolding line_text

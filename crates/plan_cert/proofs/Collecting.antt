@@ -3,16 +3,17 @@ use Rattle.std.proofs.Common.{◌≡◌, ℕ, zero, suc, ◌+◌, ◌<◌, Bool,
 use Rattle.std.specs.Prelude.{◌⊎◌, if◌then◌else◌, slice_get}
 use Rattle.std.proofs.lemmas.Bool.{false≢true}
 use Rattle.job_setup.specs.Setup.{JobData}
-use Rattle.plan_cert.specs.declared.format.TextKind.{TextKind}
-use Rattle.plan_cert.specs.declared.item.Item.{Item}
-use Rattle.plan_cert.specs.declared.item.Item.TheVariants as given
-use Rattle.plan_cert.specs.declared.item.CertFault.{CertFault}
-use Rattle.plan_cert.specs.declared.item.CertFault.TheVariants as faults
+use Rattle.cert_lines.specs.declared.format.TextKind.{TextKind}
+use Rattle.plan_lines.specs.declared.item.Item.{Item}
+use Rattle.plan_lines.specs.declared.item.Item.TheVariants as given
+use Rattle.plan_lines.specs.declared.item.CertFault.{CertFault}
+use Rattle.plan_lines.specs.declared.item.CertFault.TheVariants as faults
 use Rattle.plan_cert.specs.Cert.{CertData}
-use Rattle.plan_cert.specs.Reading.{Reading}
-use Rattle.plan_cert.specs.Items.{items, lines_in}
+use Rattle.plan_lines.specs.Reading.{Reading}
+use Rattle.plan_lines.specs.Items.{items}
+use Rattle.cert_lines.specs.LineReading.{lines_in}
 use Rattle.plan_cert.specs.CertReading.{answers_left, Collects, BeginsWith, cert_of, file_of, with_job, with_item, is_last, no_cert, version_in}
-use Rattle.plan_cert.proofs.WholeLines.{some_line}
+use Rattle.cert_lines.proofs.WholeLines.{some_line}
 use Rattle.plan_cert.proofs.Endings.{Ends, ends_lines}
 
 none_at : (answers : List (Result Item CertFault)) (i : ℕ) (a : Result Item CertFault) → answers ≡ [] → slice_get answers i ≡ Some a → ⊥

@@ -17,15 +17,15 @@ use Rattle.handling_cost.specs.Plan.{IsReasonFor}
 use Rattle.handling_cost.specs.Good.{IsClosed, MeetsCondition}
 use Rattle.handling_cost.proofs.Actions.{few_bends}
 use Rattle.handling_cost.proofs.Keys.{number_of_full}
-use Rattle.plan_cert.specs.declared.cert.RowHead.{RowHead}
-use Rattle.plan_cert.specs.declared.cert.Note.{Note}
-use Rattle.plan_cert.specs.Lines.{action_at}
+use Rattle.cert_lines.specs.declared.row_head.RowHead.{RowHead}
+use Rattle.plan_lines.specs.declared.note.Note.{Note}
+use Rattle.cert_lines.specs.Lines.{action_at}
 use Rattle.plan_cert.specs.WellFormed.{NoteIsBefore, AreRowsOf, AreRows}
 use Rattle.plan_cert.specs.KeyPlaces.{key_place}
 use Rattle.plan_cert.specs.GoodCert.{worths_in, HaveRow, HaveNote}
 use Rattle.plan_cert.specs.RowFaults.{IsNoted, IsTried, IsAccounted, RowsAreAccounted}
 use Rattle.plan_cert.proofs.RowOrder.{no_row, row_at, row_of, same_row}
-use Rattle.plan_cert.proofs.ActionNumbers.{number_is, number_below, action_of_number}
+use Rattle.plan_lines.proofs.ActionNumbers.{number_is, number_below, action_of_number}
 
 -- a note where there is none
 no_note : Note

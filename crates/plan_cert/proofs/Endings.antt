@@ -6,23 +6,23 @@ use Rattle.brake_base.specs.declared.stroke.Worth.TheVariants.{Cost, Blocked}
 use Rattle.brake_base.specs.Actions.{number_of_action}
 use Rattle.job_setup.specs.Setup.{JobData, bend_count, stage_count}
 use Rattle.job_setup.specs.StrokeGroup.{is_lead}
-use Rattle.plan_cert.specs.declared.format.TextKind.{TextKind}
-use Rattle.plan_cert.specs.declared.format.Format.{Format}
-use Rattle.plan_cert.specs.declared.format.Format.TheVariants.{Version1, Version2, Table}
-use Rattle.plan_cert.specs.declared.item.Item.{Item}
-use Rattle.plan_cert.specs.declared.item.Item.TheVariants as given
-use Rattle.plan_cert.specs.declared.item.CertFault.{CertFault}
-use Rattle.plan_cert.specs.declared.item.CertFault.TheVariants as faults
-use Rattle.plan_cert.specs.declared.section.Section.{Section}
-use Rattle.plan_cert.specs.declared.section.Section.TheVariants as sections
-use Rattle.plan_cert.specs.Lines.{CertLine, claim_line, step_line, row_line, note_line}
-use Rattle.plan_cert.specs.LineReading.{keyword_in, behind_keyword}
-use Rattle.plan_cert.specs.PlanReading.{behind_claim, may_leave, may_be_row, give, noted, plan_line_in, take_plan_line, first_section, is_end_line}
-use Rattle.plan_cert.specs.Items.{next_number, is_over, end_before, end_or_fault, plan_items, items_of_lines}
+use Rattle.cert_lines.specs.declared.format.TextKind.{TextKind}
+use Rattle.cert_lines.specs.declared.format.Format.{Format}
+use Rattle.cert_lines.specs.declared.format.Format.TheVariants.{Version1, Version2, Table}
+use Rattle.plan_lines.specs.declared.item.Item.{Item}
+use Rattle.plan_lines.specs.declared.item.Item.TheVariants as given
+use Rattle.plan_lines.specs.declared.item.CertFault.{CertFault}
+use Rattle.plan_lines.specs.declared.item.CertFault.TheVariants as faults
+use Rattle.plan_lines.specs.declared.section.Section.{Section}
+use Rattle.plan_lines.specs.declared.section.Section.TheVariants as sections
+use Rattle.cert_lines.specs.Lines.{CertLine, claim_line, step_line, row_line, note_line}
+use Rattle.cert_lines.specs.LineReading.{keyword_in, behind_keyword}
+use Rattle.plan_lines.specs.PlanReading.{behind_claim, may_leave, may_be_row, give, noted, plan_line_in, take_plan_line, first_section, is_end_line}
+use Rattle.plan_lines.specs.Items.{next_number, is_over, end_before, end_or_fault, plan_items, items_of_lines}
 use Rattle.plan_cert.specs.CertReading.{is_last}
-use Rattle.plan_cert.proofs.Each.{Each, Any, each_any, each_then, each_only}
-use Rattle.plan_cert.proofs.PlanItems.{plan_taken, plan_refused}
-use Rattle.plan_cert.proofs.JobSplits.{Shaped, Begins, lines_begin}
+use Rattle.cert_lines.proofs.Each.{Each, Any, each_any, each_then, each_only}
+use Rattle.plan_lines.proofs.PlanItems.{plan_taken, plan_refused}
+use Rattle.plan_lines.proofs.JobSplits.{Shaped, Begins, lines_begin}
 
 -- the last answer is the end or a refusal, and no other is
 abbrev pub Ends : List (Result Item CertFault) → Type 0

@@ -1,8 +1,8 @@
 -- A text gives a certificate exactly where it is that of the certificate.
 use Rattle.std.proofs.Common.{◌≡◌, ℕ, List, Result, Ok, Err, inl, inr, sym, ap, ◌∙◌}
 use Rattle.std.specs.Prelude.{◌⊎◌}
-use Rattle.plan_cert.specs.declared.item.CertFault.{CertFault}
-use Rattle.plan_cert.specs.declared.item.CertFault.TheVariants.{NoMemory}
+use Rattle.plan_lines.specs.declared.item.CertFault.{CertFault}
+use Rattle.plan_lines.specs.declared.item.CertFault.TheVariants.{NoMemory}
 use Rattle.plan_cert.specs.CertReading.{CertFileData, cert_file_of}
 use Rattle.plan_cert.specs.CertItems.{IsReadFrom}
 use Rattle.plan_cert.specs.ExactTexts.{IsTextOf, GivesBack, IsTextIn}

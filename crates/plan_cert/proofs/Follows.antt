@@ -14,19 +14,20 @@ use Rattle.brake_base.specs.Keys.{KeyIsBefore}
 use Rattle.job_setup.specs.Setup.{JobData, bend_count, stage_count}
 use Rattle.job_setup.specs.StrokeGroup.{is_lead}
 use Rattle.handling_cost.specs.StepCost.{IsActionOf}
-use Rattle.plan_cert.specs.declared.format.Format.{Format}
-use Rattle.plan_cert.specs.declared.item.Item.{Item}
-use Rattle.plan_cert.specs.declared.item.Item.TheVariants as given
-use Rattle.plan_cert.specs.declared.section.Section.{Section}
-use Rattle.plan_cert.specs.declared.section.Section.TheVariants as sections
-use Rattle.plan_cert.specs.Lines.{CertLine, claim_line, step_line, row_line, note_line, end_line, action_at}
-use Rattle.plan_cert.specs.WellFormed.{IsWorth, IsStep, IsRow, IsReasonInRange}
-use Rattle.plan_cert.specs.LineReading.{keyword_in, behind_keyword}
-use Rattle.plan_cert.specs.PlanReading.{is_before, behind_claim, are_enough, may_be_row, give, noted, plan_line_in, take_plan_line}
-use Rattle.plan_cert.proofs.Actions.{action_is, few_actions}
-use Rattle.plan_cert.proofs.Each.{Each, each_then, each_weaker, each_only}
-use Rattle.plan_cert.proofs.TextLines.{line_bytes}
-use Rattle.plan_cert.proofs.PlanLineRead.{IsSmall, IsPlanLine, plan_lines_read}
+use Rattle.cert_lines.specs.declared.format.Format.{Format}
+use Rattle.plan_lines.specs.declared.item.Item.{Item}
+use Rattle.plan_lines.specs.declared.item.Item.TheVariants as given
+use Rattle.plan_lines.specs.declared.section.Section.{Section}
+use Rattle.plan_lines.specs.declared.section.Section.TheVariants as sections
+use Rattle.cert_lines.specs.Lines.{CertLine, claim_line, step_line, row_line, note_line, end_line, action_at}
+use Rattle.cert_lines.specs.Lines.{IsWorth}
+use Rattle.plan_lines.specs.LinesFit.{IsStep, IsRow, IsReasonInRange}
+use Rattle.cert_lines.specs.LineReading.{keyword_in, behind_keyword}
+use Rattle.plan_lines.specs.PlanReading.{is_before, behind_claim, are_enough, may_be_row, give, noted, plan_line_in, take_plan_line}
+use Rattle.plan_lines.proofs.Actions.{action_is, few_actions}
+use Rattle.cert_lines.proofs.Each.{Each, each_then, each_weaker, each_only}
+use Rattle.cert_lines.proofs.TextLines.{line_bytes}
+use Rattle.plan_lines.proofs.PlanLineRead.{IsSmall, IsPlanLine, plan_lines_read}
 
 -- a row of this key may stand here
 abbrev pub MayBeRow : Format → JobData → Section → Key → Type 0

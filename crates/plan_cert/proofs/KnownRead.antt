@@ -6,17 +6,18 @@ use Rattle.std.proofs.lemmas.List.{append_assoc, append-nil, length-append, leng
 use Rattle.std.proofs.lemmas.Option.{slice_get-get_or}
 use Rattle.stage_lanes.specs.declared.actions.ActionSet.{ActionSet}
 use Rattle.stage_lanes.specs.ActionSets.{IsNone, places_of}
-use Rattle.plan_cert.specs.declared.cert.Note.{Note}
-use Rattle.plan_cert.specs.declared.item.Item.{Item}
-use Rattle.plan_cert.specs.declared.item.Item.TheVariants as given
-use Rattle.plan_cert.specs.declared.item.CertFault.{CertFault}
-use Rattle.plan_cert.specs.Reading.{Reading}
+use Rattle.plan_lines.specs.declared.note.Note.{Note}
+use Rattle.plan_lines.specs.declared.item.Item.{Item}
+use Rattle.plan_lines.specs.declared.item.Item.TheVariants as given
+use Rattle.plan_lines.specs.declared.item.CertFault.{CertFault}
+use Rattle.plan_lines.specs.Reading.{Reading}
 use Rattle.plan_cert.specs.Cert.{CertData}
-use Rattle.plan_cert.specs.Items.{items}
-use Rattle.plan_cert.specs.CertReading.{cert_of, with_item, with_known, note_by, last_row, answers_left, AnswersLeft, Collects, IsFurther}
-use Rattle.plan_cert.specs.NoteLines.{KnownReasons, number_at, reason_at, or_cover, note_told}
+use Rattle.plan_lines.specs.Items.{items}
+use Rattle.plan_cert.specs.CertReading.{cert_of, with_item, with_known, last_row, answers_left, AnswersLeft, Collects, IsFurther}
+use Rattle.plan_lines.specs.NoteLines.{note_by}
+use Rattle.plan_lines.specs.NoteLines.{KnownReasons, number_at, reason_at, or_cover, note_told}
 use Rattle.plan_cert.proofs.Collecting.{goes_on}
-use Rattle.plan_cert.proofs.NoteSets.{any_place, no_places}
+use Rattle.plan_lines.proofs.NoteSets.{any_place, no_places}
 
 -- what is made of the answers of known notes
 pub known_read : (known : KnownReasons) (places : List ℕ) (before : CertData) (left : List (Result Item CertFault)) → cert_of before (map (note_told known) places ++ left) ≡ cert_of (with_known before known places) left

@@ -25,15 +25,16 @@ use Rattle.part_file.specs.declared.part.Joint.{Joint}
 use Rattle.part_file.specs.Part.{FaceData}
 use Rattle.job_setup.specs.Setup.{StageData, SetupData, JobData, bend_count, stage_count}
 use Rattle.job_setup.specs.ValidJob.{IsStage, IsJob}
-use Rattle.plan_cert.specs.declared.format.Format.TheVariants.{Version1, Version2, Table}
-use Rattle.plan_cert.specs.declared.cert.RowHead.{RowHead}
-use Rattle.plan_cert.specs.Lines.{CertLine, format_line, face_line, fine_line, frame_line, upper_line, lower_line, box_line, pieces_line, load_line, row_line, note_line, face_words, spaced, number, back_word, half_word, worth_word, meeting_words, argument_words, keyword_of, words_of, line_text, lines_text}
-use Rattle.plan_cert.specs.JobText.{part_lines, fixture_lines, fine_lines, rule_lines, punch_lines, die_lines, stage_lines, job_lines, job_text}
-use Rattle.plan_cert.specs.WellFormed.{IsWorth, IsReasonInRange, IsRow}
-use Rattle.plan_cert.proofs.WordsRead.{is_plain, spelled}
-use Rattle.plan_cert.proofs.TextLines.{ArePlain, ArePlainLines}
-use Rattle.plan_cert.proofs.JobLinesFit.{job_told, plain_of_told}
-use Rattle.plan_cert.proofs.PlanLineRead.{IsSmall}
+use Rattle.cert_lines.specs.declared.format.Format.TheVariants.{Version1, Version2, Table}
+use Rattle.cert_lines.specs.declared.row_head.RowHead.{RowHead}
+use Rattle.cert_lines.specs.Lines.{CertLine, format_line, face_line, fine_line, frame_line, upper_line, lower_line, box_line, pieces_line, load_line, row_line, note_line, face_words, spaced, number, back_word, half_word, worth_word, meeting_words, argument_words, keyword_of, words_of, line_text, lines_text}
+use Rattle.cert_lines.specs.JobText.{part_lines, fixture_lines, fine_lines, rule_lines, punch_lines, die_lines, stage_lines, job_lines, job_text}
+use Rattle.cert_lines.specs.Lines.{IsWorth}
+use Rattle.plan_lines.specs.LinesFit.{IsReasonInRange, IsRow}
+use Rattle.cert_lines.proofs.WordsRead.{is_plain, spelled}
+use Rattle.cert_lines.proofs.TextLines.{ArePlain, ArePlainLines}
+use Rattle.cert_lines.proofs.JobLinesFit.{job_told, plain_of_told}
+use Rattle.plan_lines.proofs.PlanLineRead.{IsSmall}
 
 -- ---- lines of few words
 is_at_most : (n most : ℕ) → nat_le n most ≡ true → n ≤ most

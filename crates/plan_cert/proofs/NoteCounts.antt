@@ -16,8 +16,8 @@ use Rattle.job_setup.specs.StrokeGroup.{is_lead}
 use Rattle.job_setup.specs.ValidJob.{IsJob}
 use Rattle.handling_cost.proofs.Actions.{lead_is}
 use Rattle.handling_cost.proofs.Pigeonhole.{at_most}
-use Rattle.plan_cert.specs.declared.cert.RowHead.{RowHead}
-use Rattle.plan_cert.specs.declared.cert.Note.{Note}
+use Rattle.cert_lines.specs.declared.row_head.RowHead.{RowHead}
+use Rattle.plan_lines.specs.declared.note.Note.{Note}
 use Rattle.plan_cert.specs.KeyPlaces.{key_place}
 use Rattle.plan_cert.specs.WellFormed.{NoteIsBefore, AreRowsOf, AreRows}
 use Rattle.plan_cert.proofs.ReadWell.{small_of}

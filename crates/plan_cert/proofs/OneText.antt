@@ -7,10 +7,11 @@ use Rattle.std.proofs.lemmas.Option.{same_Some}
 use Rattle.brake_base.specs.declared.stroke.Worth.TheVariants.{Blocked}
 use Rattle.job_setup.specs.Setup.{JobData}
 use Rattle.job_setup.specs.ValidJob.{IsJob}
-use Rattle.plan_cert.specs.declared.format.Format.TheVariants.{Version2}
-use Rattle.plan_cert.specs.Lines.{CertLine, format_line, claim_line, end_line, line_text, lines_text}
-use Rattle.plan_cert.specs.JobText.{job_lines, job_text}
-use Rattle.plan_cert.specs.WellFormed.{IsStep, IsRow, IsNote, IsWellFormed}
+use Rattle.cert_lines.specs.declared.format.Format.TheVariants.{Version2}
+use Rattle.cert_lines.specs.Lines.{CertLine, format_line, claim_line, end_line, line_text, lines_text}
+use Rattle.cert_lines.specs.JobText.{job_lines, job_text}
+use Rattle.plan_lines.specs.LinesFit.{IsStep, IsRow}
+use Rattle.plan_cert.specs.WellFormed.{IsNote, IsWellFormed}
 use Rattle.plan_cert.specs.CertText.{rows_lines, cert_text2}
 use Rattle.plan_cert.specs.CertReading.{CertFileData, no_cert, cert_file_of}
 use Rattle.plan_cert.specs.ExactTexts.{IsTextOf, IsOnlyJobOf}

@@ -3,11 +3,11 @@ use Rattle.std.proofs.Common.{◌≡◌, ℕ, ◌+◌, List, [], ◌∷◌, ◌+
 use Rattle.std.specs.List.{flat_map, enumerate_from}
 use Rattle.std.proofs.lemmas.List.{map-append}
 use Rattle.brake_base.specs.declared.stroke.Step.{Step}
-use Rattle.plan_cert.specs.declared.item.Item.TheVariants as given
-use Rattle.plan_cert.specs.declared.cert.RowHead.{RowHead}
-use Rattle.plan_cert.specs.declared.cert.Note.{Note}
+use Rattle.plan_lines.specs.declared.item.Item.TheVariants as given
+use Rattle.cert_lines.specs.declared.row_head.RowHead.{RowHead}
+use Rattle.plan_lines.specs.declared.note.Note.{Note}
 use Rattle.plan_cert.specs.Cert.{CertData}
-use Rattle.plan_cert.specs.Lines.{CertLine, claim_line, step_line, row_line}
+use Rattle.cert_lines.specs.Lines.{CertLine, claim_line, step_line, row_line}
 use Rattle.plan_cert.specs.CertText.{line_of_note, row_lines, rows_lines}
 use Rattle.plan_cert.specs.CertItems.{row_items, rows_items}
 use Rattle.plan_cert.proofs.Follows.{line_of_item}

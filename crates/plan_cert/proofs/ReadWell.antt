@@ -8,23 +8,23 @@ use Rattle.brake_base.specs.declared.stroke.Worth.{Worth}
 use Rattle.brake_base.specs.declared.stroke.Worth.TheVariants.{Cost, Blocked}
 use Rattle.job_setup.specs.Setup.{JobData, bend_count}
 use Rattle.job_setup.specs.ValidJob.{IsJob}
-use Rattle.plan_cert.specs.declared.format.Format.{Format}
-use Rattle.plan_cert.specs.declared.format.Format.TheVariants.{Version1, Version2, Table}
-use Rattle.plan_cert.specs.declared.item.Item.{Item}
-use Rattle.plan_cert.specs.declared.item.Item.TheVariants as given
-use Rattle.plan_cert.specs.declared.item.CertFault.{CertFault}
-use Rattle.plan_cert.specs.declared.section.Section.{Section}
-use Rattle.plan_cert.specs.declared.section.Section.TheVariants as sections
-use Rattle.plan_cert.specs.declared.cert.RowHead.{RowHead}
-use Rattle.plan_cert.specs.declared.cert.Note.{Note}
+use Rattle.cert_lines.specs.declared.format.Format.{Format}
+use Rattle.cert_lines.specs.declared.format.Format.TheVariants.{Version1, Version2, Table}
+use Rattle.plan_lines.specs.declared.item.Item.{Item}
+use Rattle.plan_lines.specs.declared.item.Item.TheVariants as given
+use Rattle.plan_lines.specs.declared.item.CertFault.{CertFault}
+use Rattle.plan_lines.specs.declared.section.Section.{Section}
+use Rattle.plan_lines.specs.declared.section.Section.TheVariants as sections
+use Rattle.cert_lines.specs.declared.row_head.RowHead.{RowHead}
+use Rattle.plan_lines.specs.declared.note.Note.{Note}
 use Rattle.plan_cert.specs.Cert.{CertData}
 use Rattle.plan_cert.specs.CertItems.{rows_items}
 use Rattle.plan_cert.specs.WellFormed.{IsWellFormed}
-use Rattle.plan_cert.specs.PlanReading.{behind_claim, may_leave, first_section}
-use Rattle.plan_cert.specs.Items.{items}
+use Rattle.plan_lines.specs.PlanReading.{behind_claim, may_leave, first_section}
+use Rattle.plan_lines.specs.Items.{items}
 use Rattle.plan_cert.specs.CertReading.{CertFileData, no_cert, with_step, with_note, with_item, is_last, cert_of, with_job, version_in}
 use Rattle.plan_cert.proofs.Follows.{MayBeRow, Follows}
-use Rattle.plan_cert.proofs.PlanLineRead.{IsSmall}
+use Rattle.plan_lines.proofs.PlanLineRead.{IsSmall}
 use Rattle.plan_cert.proofs.WellRead.{StepsHold, Holds, step_added, note_number, holds_on, well_formed}
 use Rattle.plan_cert.proofs.ItemLists.{row_behind_rows, note_behind_rows}
 use Rattle.plan_cert.proofs.Endings.{Ends}

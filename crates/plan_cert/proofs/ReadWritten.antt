@@ -6,31 +6,33 @@ use Rattle.std.proofs.lemmas.List.Splits.{join_with_byte-slice_split}
 use Rattle.job_setup.specs.Setup.{JobData, stage_count}
 use Rattle.job_setup.specs.ValidJob.{IsJob}
 use Rattle.plan_cert.specs.ExactTexts.{IsTextIn, IsTextOf}
-use Rattle.plan_cert.specs.CertText.{cert_text2, lines_of_format, format_lines, plan_lines, cert_text1}
-use Rattle.plan_cert.specs.declared.format.Format.{Format}
-use Rattle.plan_cert.specs.declared.format.Format.TheVariants.{Version1, Version2, Table}
-use Rattle.plan_cert.specs.declared.format.TextKind.{TextKind}
-use Rattle.plan_cert.specs.declared.format.TextKind.TheVariants.{Certificate}
-use Rattle.plan_cert.specs.declared.item.Item.{Item}
-use Rattle.plan_cert.specs.declared.item.Item.TheVariants as given
-use Rattle.plan_cert.specs.declared.item.CertFault.{CertFault}
+use Rattle.plan_cert.specs.CertText.{cert_text2, format_lines, plan_lines, cert_text1}
+use Rattle.cert_lines.specs.Lines.{lines_of_format}
+use Rattle.cert_lines.specs.declared.format.Format.{Format}
+use Rattle.cert_lines.specs.declared.format.Format.TheVariants.{Version1, Version2, Table}
+use Rattle.cert_lines.specs.declared.format.TextKind.{TextKind}
+use Rattle.cert_lines.specs.declared.format.TextKind.TheVariants.{Certificate}
+use Rattle.plan_lines.specs.declared.item.Item.{Item}
+use Rattle.plan_lines.specs.declared.item.Item.TheVariants as given
+use Rattle.plan_lines.specs.declared.item.CertFault.{CertFault}
 use Rattle.plan_cert.specs.Cert.{CertData}
-use Rattle.plan_cert.specs.Lines.{CertLine, format_line, end_line, line_text, lines_text}
-use Rattle.plan_cert.specs.JobText.{job_lines}
+use Rattle.cert_lines.specs.Lines.{CertLine, format_line, end_line, line_text, lines_text}
+use Rattle.cert_lines.specs.JobText.{job_lines}
 use Rattle.plan_cert.specs.CertItems.{cert_items, IsReadFrom}
-use Rattle.plan_cert.specs.Formats.{format_of}
-use Rattle.plan_cert.specs.PlanReading.{first_section}
-use Rattle.plan_cert.specs.Items.{lines_in, plan_items, items_of_lines, items}
+use Rattle.cert_lines.specs.Formats.{format_of}
+use Rattle.plan_lines.specs.PlanReading.{first_section}
+use Rattle.cert_lines.specs.LineReading.{lines_in}
+use Rattle.plan_lines.specs.Items.{plan_items, items_of_lines, items}
 use Rattle.plan_cert.specs.CertReading.{CertFileData, file_of, cert_file_of, version_in}
-use Rattle.plan_cert.proofs.FormatLines.{JobIn}
-use Rattle.plan_cert.proofs.WholeLines.{some_line}
-use Rattle.plan_cert.proofs.JobSplits.{Shaped, Begins, lines_begin}
+use Rattle.cert_lines.proofs.FormatLines.{JobIn}
+use Rattle.cert_lines.proofs.WholeLines.{some_line}
+use Rattle.plan_lines.proofs.JobSplits.{Shaped, Begins, lines_begin}
 use Rattle.plan_cert.proofs.Endings.{first_on}
 use Rattle.plan_cert.proofs.Runs.{Run, ends_with, not_refused, plan_runs}
 use Rattle.plan_cert.proofs.StepsTold.{steps_told}
 use Rattle.plan_cert.proofs.ReadWell.{small_of, body_items, IsCertificate, cert_run, accepted_file}
 use Rattle.plan_cert.proofs.Collecting.{ends_items, file_is}
-use Rattle.plan_cert.proofs.TextLines.{line_bytes}
+use Rattle.cert_lines.proofs.TextLines.{line_bytes}
 use Rattle.plan_cert.proofs.Follows.{line_of_item}
 use Rattle.plan_cert.proofs.PlanLinesSpelled.{body_lines}
 

@@ -25,7 +25,7 @@ use Rattle.job_setup.specs.Obstacles.{raised_box, along_stage, upper_boxes, lowe
 use Rattle.job_setup.specs.Reasons.{SomeBox, SomeObstacle, pose_at, IsReason}
 use Rattle.job_setup.proofs.Validity.{shape_of_job}
 use Rattle.handling_cost.specs.Plan.{IsReasonFor}
-use Rattle.plan_cert.specs.WellFormed.{IsReasonInRange}
+use Rattle.plan_lines.specs.LinesFit.{IsReasonInRange}
 
 -- ---- boxes
 ids_few : (shape : ShapeData) → IsShape shape → (mask : Mask) → All (λ id. id ≤ 24) (box_ids shape mask)

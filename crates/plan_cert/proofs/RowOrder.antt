@@ -12,8 +12,9 @@ use Rattle.brake_base.specs.Keys.{KeyIsBefore}
 use Rattle.job_setup.specs.Setup.{JobData, bend_count, stage_count}
 use Rattle.job_setup.specs.ValidJob.{IsJob}
 use Rattle.handling_cost.proofs.Actions.{few_bends}
-use Rattle.plan_cert.specs.declared.cert.RowHead.{RowHead}
-use Rattle.plan_cert.specs.WellFormed.{IsRow, AreRowsOf}
+use Rattle.cert_lines.specs.declared.row_head.RowHead.{RowHead}
+use Rattle.plan_lines.specs.LinesFit.{IsRow}
+use Rattle.plan_cert.specs.WellFormed.{AreRowsOf}
 use Rattle.plan_cert.specs.GoodCert.{worths_in, HaveRow}
 use Rattle.plan_cert.specs.KeyPlaces.{key_place, key_count}
 

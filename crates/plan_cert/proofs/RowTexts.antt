@@ -4,9 +4,9 @@ use Rattle.std.specs.List.{flat_map, enumerate_from, prefix_len}
 use Rattle.std.proofs.lemmas.Grind.{flat_map-append}
 use Rattle.std.proofs.lemmas.List.{append-nil, drop_all}
 use Rattle.std.proofs.lemmas.List.Folds.{flat_map-map}
-use Rattle.plan_cert.specs.declared.cert.RowHead.{RowHead}
-use Rattle.plan_cert.specs.declared.cert.Note.{Note}
-use Rattle.plan_cert.specs.Lines.{CertLine, line_text, lines_text, row_line}
+use Rattle.cert_lines.specs.declared.row_head.RowHead.{RowHead}
+use Rattle.plan_lines.specs.declared.note.Note.{Note}
+use Rattle.cert_lines.specs.Lines.{CertLine, line_text, lines_text, row_line}
 use Rattle.plan_cert.specs.CertText.{line_of_note, row_lines, rows_lines}
 use Rattle.plan_cert.proofs.NoteOrder.{is_of, Ascend, SplitsAt, split}
 

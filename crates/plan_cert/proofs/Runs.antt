@@ -4,23 +4,23 @@ use Rattle.std.specs.Prelude.{if◌then◌else◌}
 use Rattle.std.proofs.lemmas.Bool.{false≢true, and_parts}
 use Rattle.std.proofs.lemmas.Slice.Eq.{bytes_eq-Decides}
 use Rattle.job_setup.specs.Setup.{JobData, bend_count, stage_count}
-use Rattle.plan_cert.specs.declared.format.Format.{Format}
-use Rattle.plan_cert.specs.declared.item.Item.{Item}
-use Rattle.plan_cert.specs.declared.item.Item.TheVariants as given
-use Rattle.plan_cert.specs.declared.item.CertFault.{CertFault}
-use Rattle.plan_cert.specs.declared.item.CertFault.TheVariants as faults
-use Rattle.plan_cert.specs.declared.section.Section.{Section}
-use Rattle.plan_cert.specs.Lines.{end_line}
-use Rattle.plan_cert.specs.LineReading.{keyword_in, behind_keyword}
-use Rattle.plan_cert.specs.PlanReading.{may_leave, take_plan_line, is_end_line}
-use Rattle.plan_cert.specs.Items.{next_number, is_over, end_before, end_or_fault, plan_items}
+use Rattle.cert_lines.specs.declared.format.Format.{Format}
+use Rattle.plan_lines.specs.declared.item.Item.{Item}
+use Rattle.plan_lines.specs.declared.item.Item.TheVariants as given
+use Rattle.plan_lines.specs.declared.item.CertFault.{CertFault}
+use Rattle.plan_lines.specs.declared.item.CertFault.TheVariants as faults
+use Rattle.plan_lines.specs.declared.section.Section.{Section}
+use Rattle.cert_lines.specs.Lines.{end_line}
+use Rattle.cert_lines.specs.LineReading.{keyword_in, behind_keyword}
+use Rattle.plan_lines.specs.PlanReading.{may_leave, take_plan_line, is_end_line}
+use Rattle.plan_lines.specs.Items.{next_number, is_over, end_before, end_or_fault, plan_items}
 use Rattle.plan_cert.specs.CertReading.{is_last}
-use Rattle.plan_cert.proofs.PlanItems.{plan_taken, plan_refused}
-use Rattle.plan_cert.proofs.Each.{Each}
+use Rattle.plan_lines.proofs.PlanItems.{plan_taken, plan_refused}
+use Rattle.cert_lines.proofs.Each.{Each}
 use Rattle.plan_cert.proofs.Follows.{Follows, LineGives, line_of_item, gives_line}
 use Rattle.plan_cert.proofs.Endings.{claim_on}
-use Rattle.plan_cert.proofs.PlanLineRead.{IsSmall}
-use Rattle.plan_cert.proofs.TextLines.{line_bytes}
+use Rattle.plan_lines.proofs.PlanLineRead.{IsSmall}
+use Rattle.cert_lines.proofs.TextLines.{line_bytes}
 use Rattle.plan_cert.proofs.PlanWritten.{oks}
 
 -- items that follow one another from a place on, behind which the text may end

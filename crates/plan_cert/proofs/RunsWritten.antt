@@ -17,29 +17,30 @@ use Rattle.brake_base.proofs.Actions.{split_number}
 use Rattle.job_setup.specs.Setup.{JobData, bend_count, stage_count}
 use Rattle.job_setup.specs.StrokeGroup.{is_lead}
 use Rattle.handling_cost.specs.StepCost.{IsActionOf}
-use Rattle.plan_cert.specs.declared.format.Format.{Format}
-use Rattle.plan_cert.specs.declared.format.Format.TheVariants.{Version1, Version2, Table}
-use Rattle.plan_cert.specs.declared.item.Item.{Item}
-use Rattle.plan_cert.specs.declared.item.Item.TheVariants as given
-use Rattle.plan_cert.specs.declared.item.CertFault.{CertFault}
-use Rattle.plan_cert.specs.declared.item.CertFault.TheVariants as faults
-use Rattle.plan_cert.specs.declared.section.Section.{Section}
-use Rattle.plan_cert.specs.declared.section.Section.TheVariants as sections
-use Rattle.plan_cert.specs.declared.cert.RowHead.{RowHead}
-use Rattle.plan_cert.specs.declared.cert.Note.{Note}
+use Rattle.cert_lines.specs.declared.format.Format.{Format}
+use Rattle.cert_lines.specs.declared.format.Format.TheVariants.{Version1, Version2, Table}
+use Rattle.plan_lines.specs.declared.item.Item.{Item}
+use Rattle.plan_lines.specs.declared.item.Item.TheVariants as given
+use Rattle.plan_lines.specs.declared.item.CertFault.{CertFault}
+use Rattle.plan_lines.specs.declared.item.CertFault.TheVariants as faults
+use Rattle.plan_lines.specs.declared.section.Section.{Section}
+use Rattle.plan_lines.specs.declared.section.Section.TheVariants as sections
+use Rattle.cert_lines.specs.declared.row_head.RowHead.{RowHead}
+use Rattle.plan_lines.specs.declared.note.Note.{Note}
 use Rattle.plan_cert.specs.FirstVersion.{HasStepForEach}
 use Rattle.plan_cert.specs.Cert.{CertData}
-use Rattle.plan_cert.specs.Lines.{claim_line, step_line, note_line, end_line, action_at}
+use Rattle.cert_lines.specs.Lines.{claim_line, step_line, note_line, end_line, action_at}
 use Rattle.plan_cert.specs.CertItems.{row_items, rows_items}
-use Rattle.plan_cert.specs.WellFormed.{HasSteps, IsStep, IsRow, IsReasonInRange, IsNote, NoteIsBefore, AreRows, IsWellFormed}
-use Rattle.plan_cert.specs.LineReading.{only_if}
-use Rattle.plan_cert.specs.PlanReading.{is_before, behind_claim, are_enough, may_leave, may_be_row, give, noted, plan_line_in, take_plan_line}
-use Rattle.plan_cert.specs.Items.{next_number, is_over, plan_items}
-use Rattle.plan_cert.proofs.PlanItems.{plan_taken, plan_refused}
+use Rattle.plan_cert.specs.WellFormed.{HasSteps, IsNote, NoteIsBefore, AreRows, IsWellFormed}
+use Rattle.plan_lines.specs.LinesFit.{IsStep, IsRow, IsReasonInRange}
+use Rattle.cert_lines.specs.LineReading.{only_if}
+use Rattle.plan_lines.specs.PlanReading.{is_before, behind_claim, are_enough, may_leave, may_be_row, give, noted, plan_line_in, take_plan_line}
+use Rattle.plan_lines.specs.Items.{next_number, is_over, plan_items}
+use Rattle.plan_lines.proofs.PlanItems.{plan_taken, plan_refused}
 use Rattle.plan_cert.proofs.Follows.{MayBeRow, Follows, line_of_item}
-use Rattle.plan_cert.proofs.PlanLineRead.{IsSmall, IsPlanLine, plan_lines_read}
-use Rattle.plan_cert.proofs.LinesTaken.{taken_written}
-use Rattle.plan_cert.proofs.TextLines.{ArePlainLines, line_bytes}
+use Rattle.plan_lines.proofs.PlanLineRead.{IsSmall, IsPlanLine, plan_lines_read}
+use Rattle.cert_lines.proofs.LinesTaken.{taken_written}
+use Rattle.cert_lines.proofs.TextLines.{ArePlainLines, line_bytes}
 use Rattle.plan_cert.proofs.PlanWritten.{item_of, of_row, same_number}
 use Rattle.plan_cert.proofs.Runs.{Run, ends_with, lines_for}
 use Rattle.plan_cert.proofs.ReadWell.{body_items}

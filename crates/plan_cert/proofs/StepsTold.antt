@@ -5,16 +5,16 @@ use Rattle.brake_base.specs.declared.stroke.Worth.{Worth}
 use Rattle.brake_base.specs.declared.stroke.Worth.TheVariants.{Cost, Blocked}
 use Rattle.job_setup.specs.Setup.{JobData, bend_count}
 use Rattle.plan_cert.specs.FirstVersion.{HasStepForEach}
-use Rattle.plan_cert.specs.declared.format.Format.{Format}
-use Rattle.plan_cert.specs.declared.format.Format.TheVariants.{Version1}
-use Rattle.plan_cert.specs.declared.item.Item.TheVariants as given
-use Rattle.plan_cert.specs.declared.section.Section.{Section}
-use Rattle.plan_cert.specs.declared.section.Section.TheVariants as sections
-use Rattle.plan_cert.specs.declared.cert.RowHead.{RowHead}
-use Rattle.plan_cert.specs.declared.cert.Note.{Note}
+use Rattle.cert_lines.specs.declared.format.Format.{Format}
+use Rattle.cert_lines.specs.declared.format.Format.TheVariants.{Version1}
+use Rattle.plan_lines.specs.declared.item.Item.TheVariants as given
+use Rattle.plan_lines.specs.declared.section.Section.{Section}
+use Rattle.plan_lines.specs.declared.section.Section.TheVariants as sections
+use Rattle.cert_lines.specs.declared.row_head.RowHead.{RowHead}
+use Rattle.plan_lines.specs.declared.note.Note.{Note}
 use Rattle.plan_cert.specs.Cert.{CertData}
 use Rattle.plan_cert.specs.CertItems.{rows_items}
-use Rattle.plan_cert.specs.PlanReading.{are_enough, behind_claim}
+use Rattle.plan_lines.specs.PlanReading.{are_enough, behind_claim}
 use Rattle.plan_cert.proofs.Runs.{Run}
 use Rattle.plan_cert.proofs.ReadWell.{body_items}
 

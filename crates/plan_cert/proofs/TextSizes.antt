@@ -9,18 +9,19 @@ use Rattle.brake_base.specs.declared.stroke.Worth.{Worth}
 use Rattle.brake_base.specs.declared.stroke.Worth.TheVariants.{Cost, Blocked}
 use Rattle.job_setup.specs.Setup.{JobData, bend_count, stage_count}
 use Rattle.job_setup.specs.ValidJob.{IsJob}
-use Rattle.plan_cert.specs.declared.format.Format.TheVariants.{Version2}
-use Rattle.plan_cert.specs.declared.cert.RowHead.{RowHead}
-use Rattle.plan_cert.specs.declared.cert.Note.{Note}
+use Rattle.cert_lines.specs.declared.format.Format.TheVariants.{Version2}
+use Rattle.cert_lines.specs.declared.row_head.RowHead.{RowHead}
+use Rattle.plan_lines.specs.declared.note.Note.{Note}
 use Rattle.plan_cert.specs.Cert.{CertData}
-use Rattle.plan_cert.specs.Lines.{CertLine, format_line, claim_line, step_line, row_line, end_line, line_text, lines_text, action_at}
-use Rattle.plan_cert.specs.JobText.{job_lines, job_text}
-use Rattle.plan_cert.specs.WellFormed.{IsStep, HasSteps, IsWellFormed}
+use Rattle.cert_lines.specs.Lines.{CertLine, format_line, claim_line, step_line, row_line, end_line, line_text, lines_text, action_at}
+use Rattle.cert_lines.specs.JobText.{job_lines, job_text}
+use Rattle.plan_lines.specs.LinesFit.{IsStep}
+use Rattle.plan_cert.specs.WellFormed.{HasSteps, IsWellFormed}
 use Rattle.plan_cert.specs.CertText.{line_of_note, row_lines, rows_lines, cert_text2}
-use Rattle.plan_cert.proofs.JobTexts.{four}
-use Rattle.plan_cert.proofs.Actions.{in_range, few_actions}
-use Rattle.plan_cert.proofs.TextLines.{ArePlainLines}
-use Rattle.plan_cert.proofs.PlanLineRead.{IsSmall, plan_lines_read}
+use Rattle.cert_lines.proofs.JobTexts.{four}
+use Rattle.plan_lines.proofs.Actions.{in_range, few_actions}
+use Rattle.cert_lines.proofs.TextLines.{ArePlainLines}
+use Rattle.plan_lines.proofs.PlanLineRead.{IsSmall, plan_lines_read}
 use Rattle.plan_cert.proofs.ReadWell.{small_of}
 use Rattle.plan_cert.proofs.NoteOrder.{ascend}
 use Rattle.plan_cert.proofs.PlanWritten.{own_notes, all_own}

@@ -5,42 +5,45 @@ use Rattle.std.proofs.lemmas.Bool.{and_from, or_right}
 use Rattle.std.proofs.lemmas.List.{map-append}
 use Rattle.job_setup.specs.Setup.{JobData, bend_count, stage_count}
 use Rattle.job_setup.specs.ValidJob.{IsJob}
-use Rattle.plan_cert.specs.CertText.{lines_of_format, format_lines}
-use Rattle.plan_cert.specs.declared.format.Format.{Format}
-use Rattle.plan_cert.specs.declared.format.TextKind.{TextKind}
-use Rattle.plan_cert.specs.declared.format.Format.TheVariants.{Version1, Version2, Table}
-use Rattle.plan_cert.specs.declared.item.Item.{Item}
-use Rattle.plan_cert.specs.declared.item.Item.TheVariants as given
-use Rattle.plan_cert.specs.declared.item.CertFault.{CertFault}
-use Rattle.plan_cert.specs.declared.section.Section.TheVariants as sections
+use Rattle.cert_lines.specs.Lines.{lines_of_format}
+use Rattle.plan_cert.specs.CertText.{format_lines}
+use Rattle.cert_lines.specs.declared.format.Format.{Format}
+use Rattle.cert_lines.specs.declared.format.TextKind.{TextKind}
+use Rattle.cert_lines.specs.declared.format.Format.TheVariants.{Version1, Version2, Table}
+use Rattle.plan_lines.specs.declared.item.Item.{Item}
+use Rattle.plan_lines.specs.declared.item.Item.TheVariants as given
+use Rattle.plan_lines.specs.declared.item.CertFault.{CertFault}
+use Rattle.plan_lines.specs.declared.section.Section.TheVariants as sections
 use Rattle.brake_base.specs.declared.stroke.Key.{Key}
 use Rattle.brake_base.specs.declared.stroke.Worth.{Worth}
 use Rattle.cert_words.specs.LineWords.{◌>>=◌}
 use Rattle.cert_words.specs.JobWords.{numbers_in}
-use Rattle.plan_cert.specs.JobLineReading.{line_in, words_line_in, number_line_in, fixture_line_of, rule_line_of, stage_line_of}
-use Rattle.plan_cert.specs.Lines.{CertLine, words_of, format_line, claim_line, step_line, row_line, note_line, end_line, lines_text, action_at}
-use Rattle.plan_cert.specs.JobText.{job_lines}
-use Rattle.plan_cert.specs.JobTest.{is_job}
-use Rattle.plan_cert.specs.LineReading.{behind_keyword}
-use Rattle.plan_cert.specs.Formats.{format_of}
+use Rattle.cert_lines.specs.JobLineReading.{line_in, words_line_in, number_line_in, fixture_line_of, rule_line_of, stage_line_of}
+use Rattle.cert_lines.specs.Lines.{CertLine, words_of, format_line, claim_line, step_line, row_line, note_line, end_line, lines_text, action_at}
+use Rattle.cert_lines.specs.JobText.{job_lines}
+use Rattle.cert_lines.specs.JobTest.{is_job}
+use Rattle.cert_lines.specs.LineReading.{behind_keyword}
+use Rattle.cert_lines.specs.Formats.{format_of}
 use Rattle.cert_words.specs.LineWords.{◌>>=◌}
-use Rattle.plan_cert.specs.JobFold.{is_complete, all_by, take}
-use Rattle.plan_cert.specs.JobLines.{JobLinesData, no_lines, begun_stage, job_of}
-use Rattle.plan_cert.specs.PlanReading.{first_section, may_follow_job, is_end_line, is_claim_line, is_row_line}
-use Rattle.plan_cert.specs.Items.{take_line, next_number, lines_in, plan_items, may_be_judged, items_behind, job_items, items_of_lines, items}
-use Rattle.plan_cert.proofs.JobDecided.{job_decided}
-use Rattle.plan_cert.proofs.PlanLineRead.{IsSmall, claim_reads, row_reads}
+use Rattle.cert_lines.specs.JobFold.{is_complete, all_by, take}
+use Rattle.cert_lines.specs.JobLines.{JobLinesData, no_lines, begun_stage, job_of}
+use Rattle.plan_lines.specs.PlanReading.{first_section, may_follow_job, is_end_line, is_claim_line, is_row_line}
+use Rattle.cert_lines.specs.JobFold.{take_line}
+use Rattle.plan_lines.specs.Items.{next_number, plan_items, may_be_judged, items_behind, job_items, items_of_lines, items}
+use Rattle.cert_lines.specs.LineReading.{lines_in}
+use Rattle.cert_lines.proofs.JobDecided.{job_decided}
+use Rattle.plan_lines.proofs.PlanLineRead.{IsSmall, claim_reads, row_reads}
 use Rattle.plan_cert.proofs.ReadWell.{small_of}
-use Rattle.plan_cert.proofs.TextLines.{ArePlain, ArePlainLines, line_bytes, lines_back, plain_both}
-use Rattle.plan_cert.proofs.FormatLines.{JobIn}
-use Rattle.plan_cert.proofs.FoldShown.{state}
-use Rattle.plan_cert.proofs.FoldFormats.{written}
-use Rattle.plan_cert.proofs.JobLineRead.{job_lines_read}
-use Rattle.plan_cert.proofs.LinesTaken.{taken_written, no_numbers}
-use Rattle.plan_cert.proofs.JobLinesFit.{AreJobLines, job_told, told_of_format, plain_of_told}
+use Rattle.cert_lines.proofs.TextLines.{ArePlain, ArePlainLines, line_bytes, lines_back, plain_both}
+use Rattle.cert_lines.proofs.FormatLines.{JobIn}
+use Rattle.cert_lines.proofs.FoldShown.{state}
+use Rattle.cert_lines.proofs.FoldFormats.{written}
+use Rattle.cert_lines.proofs.JobLineRead.{job_lines_read}
+use Rattle.cert_lines.proofs.LinesTaken.{taken_written, no_numbers}
+use Rattle.cert_lines.proofs.JobLinesFit.{AreJobLines, job_told, told_of_format, plain_of_told}
 use Rattle.plan_cert.proofs.Runs.{Run, ends_with, lines_for}
 use Rattle.plan_cert.proofs.RunsWritten.{run_plain, run_given}
-use Rattle.plan_cert.proofs.JobItems.{good_any, stopped_any, judged_by}
+use Rattle.plan_lines.proofs.JobItems.{good_any, stopped_any, judged_by}
 use Rattle.plan_cert.proofs.Follows.{line_of_item}
 
 -- lines that run are taken before others

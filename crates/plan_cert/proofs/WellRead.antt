@@ -15,20 +15,22 @@ use Rattle.brake_base.specs.declared.reason.Reason.{Reason}
 use Rattle.brake_base.specs.Keys.{KeyIsBefore}
 use Rattle.job_setup.specs.Setup.{JobData, bend_count, stage_count}
 use Rattle.job_setup.specs.StrokeGroup.{is_lead}
-use Rattle.plan_cert.specs.declared.format.Format.{Format}
-use Rattle.plan_cert.specs.declared.item.Item.{Item}
-use Rattle.plan_cert.specs.declared.item.Item.TheVariants as given
-use Rattle.plan_cert.specs.declared.section.Section.{Section}
-use Rattle.plan_cert.specs.declared.section.Section.TheVariants as sections
-use Rattle.plan_cert.specs.declared.cert.RowHead.{RowHead}
-use Rattle.plan_cert.specs.declared.cert.Note.{Note}
+use Rattle.cert_lines.specs.declared.format.Format.{Format}
+use Rattle.plan_lines.specs.declared.item.Item.{Item}
+use Rattle.plan_lines.specs.declared.item.Item.TheVariants as given
+use Rattle.plan_lines.specs.declared.section.Section.{Section}
+use Rattle.plan_lines.specs.declared.section.Section.TheVariants as sections
+use Rattle.cert_lines.specs.declared.row_head.RowHead.{RowHead}
+use Rattle.plan_lines.specs.declared.note.Note.{Note}
 use Rattle.plan_cert.specs.Cert.{CertData}
-use Rattle.plan_cert.specs.Lines.{action_at}
+use Rattle.cert_lines.specs.Lines.{action_at}
 use Rattle.plan_cert.specs.KeyPlaces.{key_place}
-use Rattle.plan_cert.specs.WellFormed.{IsWorth, IsStep, HasSteps, IsRow, IsNote, NoteIsBefore, AreRows, IsWellFormed}
-use Rattle.plan_cert.specs.PlanReading.{behind_claim, may_leave}
+use Rattle.cert_lines.specs.Lines.{IsWorth}
+use Rattle.plan_lines.specs.LinesFit.{IsStep, IsRow}
+use Rattle.plan_cert.specs.WellFormed.{HasSteps, IsNote, NoteIsBefore, AreRows, IsWellFormed}
+use Rattle.plan_lines.specs.PlanReading.{behind_claim, may_leave}
 use Rattle.plan_cert.specs.CertReading.{no_cert, with_step, with_note, with_item}
-use Rattle.plan_cert.proofs.PlanLineRead.{IsSmall}
+use Rattle.plan_lines.proofs.PlanLineRead.{IsSmall}
 use Rattle.plan_cert.proofs.Follows.{MayBeRow, FitsAt, Follows}
 
 -- the claim and the steps so far

@@ -5,28 +5,28 @@ use Rattle.brake_base.specs.declared.stroke.Step.{Step}
 use Rattle.brake_base.specs.declared.stroke.Worth.{Worth}
 use Rattle.brake_base.specs.declared.stroke.Worth.TheVariants.{Blocked}
 use Rattle.job_setup.specs.Setup.{JobData, stage_count}
-use Rattle.plan_cert.specs.declared.format.Format.{Format}
-use Rattle.plan_cert.specs.declared.format.Format.TheVariants.{Version1, Version2, Table}
-use Rattle.plan_cert.specs.declared.format.TextKind.{TextKind}
-use Rattle.plan_cert.specs.declared.format.TextKind.TheVariants.{Certificate, Table as TableKind}
-use Rattle.plan_cert.specs.declared.item.Item.{Item}
-use Rattle.plan_cert.specs.declared.item.Item.TheVariants as given
-use Rattle.plan_cert.specs.declared.item.CertFault.{CertFault}
-use Rattle.plan_cert.specs.declared.section.Section.TheVariants as sections
-use Rattle.plan_cert.specs.declared.cert.RowHead.{RowHead}
-use Rattle.plan_cert.specs.declared.cert.Note.{Note}
-use Rattle.plan_cert.specs.Lines.{CertLine, format_line, lines_text}
+use Rattle.cert_lines.specs.declared.format.Format.{Format}
+use Rattle.cert_lines.specs.declared.format.Format.TheVariants.{Version1, Version2, Table}
+use Rattle.cert_lines.specs.declared.format.TextKind.{TextKind}
+use Rattle.cert_lines.specs.declared.format.TextKind.TheVariants.{Certificate, Table as TableKind}
+use Rattle.plan_lines.specs.declared.item.Item.{Item}
+use Rattle.plan_lines.specs.declared.item.Item.TheVariants as given
+use Rattle.plan_lines.specs.declared.item.CertFault.{CertFault}
+use Rattle.plan_lines.specs.declared.section.Section.TheVariants as sections
+use Rattle.cert_lines.specs.declared.row_head.RowHead.{RowHead}
+use Rattle.plan_lines.specs.declared.note.Note.{Note}
+use Rattle.cert_lines.specs.Lines.{CertLine, format_line, lines_text}
 use Rattle.plan_cert.specs.CertText.{rows_lines, format_lines, table_text}
 use Rattle.plan_cert.specs.WellFormed.{HasSteps}
 use Rattle.plan_cert.specs.ExactTexts.{IsTextOf, IsTableText}
 use Rattle.plan_cert.specs.CertItems.{rows_items, table_items}
 use Rattle.plan_cert.specs.ExactItems.{IsReadToEnd, ReadsCertTexts, ReadsTableTexts}
-use Rattle.plan_cert.specs.Formats.{format_of}
-use Rattle.plan_cert.specs.PlanReading.{first_section}
-use Rattle.plan_cert.specs.Items.{items}
+use Rattle.cert_lines.specs.Formats.{format_of}
+use Rattle.plan_lines.specs.PlanReading.{first_section}
+use Rattle.plan_lines.specs.Items.{items}
 use Rattle.plan_cert.specs.CertReading.{CertFileData}
 use Rattle.plan_cert.proofs.ReadWell.{small_of, table_run}
-use Rattle.plan_cert.proofs.TextLines.{line_bytes}
+use Rattle.cert_lines.proofs.TextLines.{line_bytes}
 use Rattle.plan_cert.proofs.Follows.{line_of_item}
 use Rattle.plan_cert.proofs.Runs.{Run, ends_with}
 use Rattle.plan_cert.proofs.PlanLinesSpelled.{rows_shown}

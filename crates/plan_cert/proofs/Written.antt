@@ -8,19 +8,19 @@ use Rattle.brake_base.specs.declared.stroke.Worth.TheVariants.{Cost, Blocked}
 use Rattle.job_setup.specs.Setup.{JobData, stage_count}
 use Rattle.job_setup.specs.ValidJob.{IsJob}
 use Rattle.plan_cert.specs.FirstVersion.{HasText1}
-use Rattle.plan_cert.specs.declared.format.Format.{Format}
-use Rattle.plan_cert.specs.declared.format.Format.TheVariants.{Version1, Version2}
-use Rattle.plan_cert.specs.declared.format.TextKind.TheVariants.{Certificate}
-use Rattle.plan_cert.specs.declared.item.Item.{Item}
-use Rattle.plan_cert.specs.declared.item.Item.TheVariants as given
-use Rattle.plan_cert.specs.declared.item.CertFault.{CertFault}
-use Rattle.plan_cert.specs.declared.cert.Note.{Note}
+use Rattle.cert_lines.specs.declared.format.Format.{Format}
+use Rattle.cert_lines.specs.declared.format.Format.TheVariants.{Version1, Version2}
+use Rattle.cert_lines.specs.declared.format.TextKind.TheVariants.{Certificate}
+use Rattle.plan_lines.specs.declared.item.Item.{Item}
+use Rattle.plan_lines.specs.declared.item.Item.TheVariants as given
+use Rattle.plan_lines.specs.declared.item.CertFault.{CertFault}
+use Rattle.plan_lines.specs.declared.note.Note.{Note}
 use Rattle.plan_cert.specs.Cert.{CertData}
-use Rattle.plan_cert.specs.Lines.{CertLine, format_line, line_text, lines_text}
+use Rattle.cert_lines.specs.Lines.{CertLine, format_line, line_text, lines_text}
 use Rattle.plan_cert.specs.CertText.{format_lines, plan_lines, cert_text1, cert_text2}
 use Rattle.plan_cert.specs.CertItems.{row_items, rows_items}
 use Rattle.plan_cert.specs.WellFormed.{HasSteps, IsWellFormed}
-use Rattle.plan_cert.specs.Items.{items}
+use Rattle.plan_lines.specs.Items.{items}
 use Rattle.plan_cert.specs.CertReading.{no_cert, cert_of, cert_file_of, version_in}
 use Rattle.plan_cert.proofs.NoteOrder.{ascend}
 use Rattle.plan_cert.proofs.RowOrder.{few_rows}
@@ -29,9 +29,9 @@ use Rattle.plan_cert.proofs.TextsGiven.{text_given}
 use Rattle.plan_cert.proofs.Runs.{Run, ends_with}
 use Rattle.plan_cert.proofs.RunsWritten.{HasEnough, cert_runs}
 use Rattle.plan_cert.proofs.PlanLinesSpelled.{body_lines}
-use Rattle.plan_cert.proofs.FormatLines.{JobIn}
-use Rattle.plan_cert.specs.Formats.{format_of}
-use Rattle.plan_cert.proofs.TextLines.{line_bytes}
+use Rattle.cert_lines.proofs.FormatLines.{JobIn}
+use Rattle.cert_lines.specs.Formats.{format_of}
+use Rattle.cert_lines.proofs.TextLines.{line_bytes}
 use Rattle.plan_cert.proofs.PlanWritten.{oks, fold_steps, fold_rows, own_notes, all_own}
 use Rattle.plan_cert.proofs.Collecting.{file_is}
 

@@ -7,17 +7,17 @@ use Rattle.brake_base.specs.declared.stroke.Step.{Step}
 use Rattle.brake_base.specs.declared.stroke.Worth.TheVariants.{Blocked}
 use Rattle.brake_base.specs.declared.reason.Reason.{Reason}
 use Rattle.plan_cert.specs.declared.cert_reading.CertFile.{CertFile}
-use Rattle.plan_cert.specs.declared.cert.Note.{Note}
-use Rattle.plan_cert.specs.declared.format.TextKind.{TextKind}
-use Rattle.plan_cert.specs.declared.format.TextKind.TheVariants.{Certificate}
-use Rattle.plan_cert.specs.declared.item.Item.{Item}
-use Rattle.plan_cert.specs.declared.item.Item.TheVariants as given
-use Rattle.plan_cert.specs.declared.item.CertFault.{CertFault}
-use Rattle.plan_cert.specs.declared.item.CertFault.TheVariants as faults
-use Rattle.plan_cert.specs.Reading.{Reading}
+use Rattle.cert_lines.specs.declared.format.TextKind.{TextKind}
+use Rattle.cert_lines.specs.declared.format.TextKind.TheVariants.{Certificate}
+use Rattle.plan_lines.specs.declared.item.Item.{Item}
+use Rattle.plan_lines.specs.declared.item.Item.TheVariants as given
+use Rattle.plan_lines.specs.declared.item.CertFault.{CertFault}
+use Rattle.plan_lines.specs.declared.item.CertFault.TheVariants as faults
+use Rattle.plan_lines.specs.Reading.{Reading}
 use Rattle.plan_cert.specs.Cert.{CertData, cert_data}
-use Rattle.plan_cert.specs.Items.{items}
-use Rattle.plan_cert.specs.NoteLines.{KnownReasons, number_at, reason_at, or_cover}
+use Rattle.plan_lines.specs.Items.{items}
+use Rattle.plan_lines.specs.NoteLines.{KnownReasons}
+use Rattle.plan_lines.specs.NoteLines.{note_by}
 
 -- a job, a certificate of it, and the version of its text
 pub record CertFileData : Type 0 where
@@ -53,14 +53,6 @@ with_note c action reason = record c {
     action = action;
     reason = reason;
   } ∷ [];
-}
-
--- the note of the action of a place at a row, with the reason that is known against it
-abbrev pub note_by : ℕ → KnownReasons → ℕ → Note
-note_by row known place = record {
-  row = row;
-  action = number_at known.stages place;
-  reason = or_cover (reason_at known place);
 }
 
 -- so many known notes of the last row

@@ -3,15 +3,16 @@
 use Rattle.std.specs.Prelude.{ℕ, ◌==◌, Bool, true, false, List, [], ◌∷◌, ◌++◌, map, filter}
 use Rattle.std.specs.List.{flat_map, enumerate_from}
 use Rattle.job_setup.specs.Setup.{JobData, stage_count}
-use Rattle.plan_cert.specs.declared.cert.RowHead.{RowHead}
-use Rattle.plan_cert.specs.declared.cert.Note.{Note}
-use Rattle.plan_cert.specs.declared.format.Format.{Format}
-use Rattle.plan_cert.specs.declared.format.Format.TheVariants.{Version1, Version2, Table}
+use Rattle.cert_lines.specs.declared.row_head.RowHead.{RowHead}
+use Rattle.plan_lines.specs.declared.note.Note.{Note}
+use Rattle.cert_lines.specs.declared.format.Format.{Format}
+use Rattle.cert_lines.specs.declared.format.Format.TheVariants.{Version1, Version2, Table}
 use Rattle.plan_cert.specs.Cert.{CertData}
-use Rattle.plan_cert.specs.Lines.{CertLine, format_line, gang_line, force_line, fine_line}
-use Rattle.plan_cert.specs.Lines.{load_line, claim_line, step_line, row_line, note_line, end_line}
-use Rattle.plan_cert.specs.Lines.{lines_text, action_at}
-use Rattle.plan_cert.specs.JobText.{job_lines}
+use Rattle.cert_lines.specs.Lines.{CertLine, format_line}
+use Rattle.cert_lines.specs.Lines.{claim_line, step_line, row_line, note_line, end_line}
+use Rattle.cert_lines.specs.Lines.{lines_text, action_at}
+use Rattle.cert_lines.specs.JobText.{job_lines}
+use Rattle.cert_lines.specs.Lines.{lines_of_format}
 
 -- the line of a note on a machine with so many stages
 abbrev pub line_of_note : ℕ → Note → CertLine
@@ -25,19 +26,6 @@ row_lines stages notes row =
 -- the rows in order, each with its notes
 unfoldable pub rows_lines : ℕ → List RowHead → List Note → List CertLine
 rows_lines stages rows notes = flat_map (row_lines stages notes) (enumerate_from 0 rows)
-
--- version 1 has no lines of gangs, of forces, of depths and of loads
-abbrev pub is_of_version1 : CertLine → Bool
-is_of_version1 (gang_line gang) = false
-is_of_version1 (force_line force) = false
-is_of_version1 (fine_line depth) = false
-is_of_version1 (load_line load limit) = false
-is_of_version1 _ = true
-
--- those of some lines that a format has
-abbrev pub lines_of_format : Format → List CertLine → List CertLine
-lines_of_format Version1 lines = filter is_of_version1 lines
-lines_of_format _ lines = lines
 
 -- the lines of a text: its format, the job, the lines behind the job, and the end
 abbrev pub format_lines : Format → JobData → List CertLine → List CertLine

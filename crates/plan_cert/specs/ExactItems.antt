@@ -1,13 +1,13 @@
 -- Which texts a reader reads to their end: those of a certificate or of a table of a valid job.
 use Rattle.std.specs.Prelude.{◌≡◌, ℕ, List, [], ◌∷◌, ◌++◌, map, Ok}
 use Rattle.job_setup.specs.Setup.{JobData}
-use Rattle.plan_cert.specs.declared.cert.RowHead.{RowHead}
-use Rattle.plan_cert.specs.declared.cert.Note.{Note}
-use Rattle.plan_cert.specs.declared.format.TextKind.{TextKind}
-use Rattle.plan_cert.specs.declared.format.TextKind.TheVariants as kinds
-use Rattle.plan_cert.specs.declared.item.Item.{Item}
-use Rattle.plan_cert.specs.declared.item.Item.TheVariants.{End}
-use Rattle.plan_cert.specs.Items.{items}
+use Rattle.cert_lines.specs.declared.row_head.RowHead.{RowHead}
+use Rattle.plan_lines.specs.declared.note.Note.{Note}
+use Rattle.cert_lines.specs.declared.format.TextKind.{TextKind}
+use Rattle.cert_lines.specs.declared.format.TextKind.TheVariants as kinds
+use Rattle.plan_lines.specs.declared.item.Item.{Item}
+use Rattle.plan_lines.specs.declared.item.Item.TheVariants.{End}
+use Rattle.plan_lines.specs.Items.{items}
 use Rattle.plan_cert.specs.CertReading.{CertFileData}
 use Rattle.plan_cert.specs.CertItems.{cert_items, table_items}
 use Rattle.plan_cert.specs.ExactTexts.{IsTextOf, IsTableText}

@@ -3,16 +3,16 @@
 use Rattle.std.specs.Prelude.{◌≡◌, ◌⊎◌, ℕ, List, Result, Ok, Err}
 use Rattle.job_setup.specs.Setup.{JobData}
 use Rattle.job_setup.specs.ValidJob.{IsJob}
-use Rattle.plan_cert.specs.declared.cert.RowHead.{RowHead}
-use Rattle.plan_cert.specs.declared.cert.Note.{Note}
+use Rattle.cert_lines.specs.declared.row_head.RowHead.{RowHead}
+use Rattle.plan_lines.specs.declared.note.Note.{Note}
 use Rattle.plan_cert.specs.declared.cert_reading.CertFile.{CertFile}
-use Rattle.plan_cert.specs.declared.item.CertFault.{CertFault}
-use Rattle.plan_cert.specs.declared.item.CertFault.TheVariants.{NoMemory}
+use Rattle.plan_lines.specs.declared.item.CertFault.{CertFault}
+use Rattle.plan_lines.specs.declared.item.CertFault.TheVariants.{NoMemory}
 use Rattle.plan_cert.specs.WellFormed.{AreRows, IsWellFormed}
 use Rattle.plan_cert.specs.Cert.{CertData}
 use Rattle.plan_cert.specs.CertText.{cert_text1, cert_text2, table_text}
 use Rattle.plan_cert.specs.FirstVersion.{HasText1}
-use Rattle.plan_cert.specs.JobText.{job_text}
+use Rattle.cert_lines.specs.JobText.{job_text}
 use Rattle.plan_cert.specs.CertReading.{CertFileData, cert_file_data, cert_file_of}
 
 -- of all valid jobs this one alone has the text: one text, one job

@@ -5,16 +5,7 @@ use Rattle.brake_base.specs.declared.stroke.Worth.{Worth}
 use Rattle.brake_base.specs.declared.stroke.Worth.TheVariants.{Cost, Blocked}
 use Rattle.job_setup.specs.Setup.{StageData, JobData, bend_count}
 use Rattle.plan_cert.specs.Cert.{CertData}
-
-abbrev pub HasNoLoad : StageData → Type 0
-HasNoLoad stage = (stage.load ≡ pos 0) × (stage.limit ≡ pos 0)
-
--- a job of which version 1 tells all: it has no gangs, no force, no depth and no loads
-pub record IsJobOfVersion1 (job : JobData) : Type 0 where
-  pub gang : job.setup.gang ≡ false
-  pub force : job.setup.force ≡ pos 0
-  pub fine : job.setup.fine ≡ 0
-  pub loads : All HasNoLoad job.setup.stages
+use Rattle.cert_lines.specs.JobText.{IsJobOfVersion1}
 
 -- with a cost as the claim there is a step for each bend
 abbrev pub HasStepForEach : JobData → Worth → List Step → Type 0

@@ -8,10 +8,10 @@ use Rattle.job_setup.specs.Setup.{JobData, stage_count}
 use Rattle.handling_cost.specs.Good.{IsGood, RowIn, NoteIn}
 use Rattle.handling_cost.specs.Reach.{IsReached, ReachIsAbove}
 use Rattle.handling_cost.specs.Thrifty.{AreThrifty}
-use Rattle.plan_cert.specs.declared.cert.RowHead.{RowHead}
-use Rattle.plan_cert.specs.declared.cert.Note.{Note}
+use Rattle.cert_lines.specs.declared.row_head.RowHead.{RowHead}
+use Rattle.plan_lines.specs.declared.note.Note.{Note}
 use Rattle.plan_cert.specs.Cert.{CertData}
-use Rattle.plan_cert.specs.Lines.{action_at}
+use Rattle.cert_lines.specs.Lines.{action_at}
 use Rattle.plan_cert.specs.WellFormed.{IsWellFormed}
 
 -- the rows as keys with their worths

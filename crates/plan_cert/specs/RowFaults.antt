@@ -5,9 +5,9 @@ use Rattle.job_setup.specs.Setup.{JobData, bend_count, stage_count}
 use Rattle.handling_cost.specs.StepCost.{IsActionAt}
 use Rattle.handling_cost.specs.Plan.{IsReasonFor}
 use Rattle.handling_cost.specs.Good.{IsClosed}
-use Rattle.plan_cert.specs.declared.cert.RowHead.{RowHead}
-use Rattle.plan_cert.specs.declared.cert.Note.{Note}
-use Rattle.plan_cert.specs.Lines.{action_at}
+use Rattle.cert_lines.specs.declared.row_head.RowHead.{RowHead}
+use Rattle.plan_lines.specs.declared.note.Note.{Note}
+use Rattle.cert_lines.specs.Lines.{action_at}
 use Rattle.plan_cert.specs.GoodCert.{HaveRow}
 
 -- there is a note of this reason against the action of a number at the row of a number

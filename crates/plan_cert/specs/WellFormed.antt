@@ -11,45 +11,17 @@ use Rattle.brake_base.specs.Keys.{KeyIsBefore}
 use Rattle.job_setup.specs.Setup.{JobData, bend_count, stage_count}
 use Rattle.job_setup.specs.StrokeGroup.{is_lead}
 use Rattle.handling_cost.specs.StepCost.{IsActionOf}
-use Rattle.plan_cert.specs.declared.cert.RowHead.{RowHead}
-use Rattle.plan_cert.specs.declared.cert.Note.{Note}
+use Rattle.cert_lines.specs.declared.row_head.RowHead.{RowHead}
+use Rattle.plan_lines.specs.declared.note.Note.{Note}
 use Rattle.plan_cert.specs.Cert.{CertData}
-use Rattle.plan_cert.specs.Lines.{action_at}
-
--- the greatest number that is claimed or proved
-abbrev pub IsWorth : Worth → Type 0
-IsWorth (Cost cost) = cost ≤ 1000000000
-IsWorth Blocked = Unit {0}
-
--- a step of a bend, a stage and two faces of the job
-pub record IsStep (job : JobData) (step : Step) : Type 0 where
-  pub action : IsActionOf job step.action
-  pub left : step.gauge.left_face ≤ bend_count job
-  pub right : step.gauge.right_face ≤ bend_count job
+use Rattle.cert_lines.specs.Lines.{action_at}
+use Rattle.cert_lines.specs.Lines.{IsWorth}
+use Rattle.plan_lines.specs.LinesFit.{IsStep, IsRow, IsReasonInRange}
 
 -- with a cost as the claim at most a step for each bend; without a plan none
 abbrev pub HasSteps : JobData → Worth → List Step → Type 0
 HasSteps job (Cost cost) steps = length steps ≤ bend_count job
 HasSteps job Blocked steps = steps ≡ []
-
--- a key of the job at which a bend is unfolded, and what is proved for it
-pub record IsRow (job : JobData) (row : RowHead) : Type 0 where
-  pub mask : row.key.mask.0 + 1 < 2 ^ bend_count job
-  pub attitude : row.key.attitude < 24
-  pub stage : row.key.stage < stage_count job
-  pub worth : IsWorth row.worth
-
--- a box has a number of 0 to 24, an obstacle one of 0 to 63, a stage one of the job
-abbrev pub IsReasonInRange : JobData → Reason → Type 0
-IsReasonInRange job Cover = Unit {0}
-IsReasonInRange job (Rest half) = Unit {0}
-IsReasonInRange job (Frame box) = box ≤ 24
-IsReasonInRange job (Upper box quarter index) = (box ≤ 24) × (index ≤ 63)
-IsReasonInRange job (Nose box quarter stage) = (box ≤ 24) × (stage < stage_count job)
-IsReasonInRange job (Lower box quarter index) = (box ≤ 24) × (index ≤ 63)
-IsReasonInRange job (SelfHit box quarter other) = (box ≤ 24) × (other ≤ 24)
-IsReasonInRange job NoGauge = Unit {0}
-IsReasonInRange job Load = Unit {0}
 
 -- a reason against an action at a row, on the lead of a stroke there
 pub record IsNote (job : JobData) (rows : List RowHead) (note : Note) : Type 0 where

@@ -2,23 +2,23 @@
 ghost use Rattle.std.specs.Prelude.{◌≡◌, ◌+◌, ◌-◌, ◌^◌, min, ◌<◌, ◌≤◌, [], ◌∷◌, ◌++◌, length, map, OnOk, IfOk};
 ghost use Rattle.stage_lanes.specs.ActionSets.{places_of};
 ghost use Rattle.toml_fields.specs.Results.{GivesOr};
-ghost use Rattle.plan_cert.specs.declared.item.CertFault.TheVariants.{NoMemory};
+ghost use Rattle.plan_lines.specs.declared.item.CertFault.TheVariants.{NoMemory};
 ghost use Rattle.plan_cert.specs.Cert.{cert_data};
-ghost use Rattle.plan_cert.specs.Items.{items};
-ghost use Rattle.plan_cert.specs.PlanItem.{item_of};
-ghost use Rattle.plan_cert.specs.CertReading.{cert_file_data, cert_file_of, file_of, cert_of, with_item, with_step, with_note, with_known, note_by, is_last, no_cert, version_in, answers_left, Collects, AnswersLeft, IsFurther, BeginsWith};
-ghost use Rattle.plan_cert.specs.NoteLines.{AreKnownAll};
+ghost use Rattle.plan_lines.specs.Items.{items};
+ghost use Rattle.plan_lines.specs.PlanItem.{item_of};
+ghost use Rattle.plan_cert.specs.CertReading.{cert_file_data, cert_file_of, file_of, cert_of, with_item, with_step, with_note, with_known, is_last, no_cert, version_in, answers_left, Collects, AnswersLeft, IsFurther, BeginsWith};
+ghost use Rattle.plan_lines.specs.NoteLines.{note_by};
+ghost use Rattle.plan_lines.specs.NoteLines.{AreKnownAll};
 ghost use Rattle.plan_cert.specs.CertItems.{IsReadFrom};
 ghost use Rattle.plan_cert.specs.ExactTexts.{IsExact, GivesBack};
 
-use crate::cert::{Cert, Note, RowHead};
-use crate::format::TextKind;
-use crate::item::{CertFault, PlanItem};
-use crate::note_lines::NoteLines;
+use crate::cert::Cert;
 use crate::reader::CertReader;
 use arrayvec::ArrayVec;
 use brake_base::{Reason, Step, Worth};
+use cert_lines::{RowHead, TextKind};
 use job_setup::Job;
+use plan_lines::{CertFault, Note, NoteLines, PlanItem};
 use stage_lanes::ActionSet;
 use std::alloc::{AllocError, Global};
 

@@ -1,18 +1,16 @@
 //! The line reader.
 ghost use Rattle.std.specs.Prelude.{◌≡◌, ◌+◌, ◌<◌, ◌++◌, length, drop, slice_get, Some};
 ghost use Rattle.stage_lanes.specs.ActionSets.{places_of};
-ghost use Rattle.plan_cert.specs.Items.{items};
-ghost use Rattle.plan_cert.specs.PlanItem.{plan_answer, job_answer};
+ghost use Rattle.plan_lines.specs.Items.{items};
+ghost use Rattle.plan_lines.specs.PlanItem.{plan_answer, job_answer};
 ghost use Rattle.plan_cert.specs.ExactItems.{ReadsCertTexts, ReadsTableTexts};
-ghost use Rattle.plan_cert.specs.NoteLines.{notes_told, AreKnownAll, LearnsFrom};
+ghost use Rattle.plan_lines.specs.NoteLines.{notes_told, AreKnownAll, LearnsFrom};
 
-use crate::format::TextKind;
-use crate::item::{CertFault, Item, PlanItem};
-use crate::job_answers::first_answer;
-use crate::note_lines::{NoteLines, take_notes};
-use crate::plan_answers::answer_behind_job;
-use crate::plan_reader::PlanReader;
+use cert_lines::TextKind;
 use job_setup::Job;
+use plan_lines::{
+    CertFault, Item, NoteLines, PlanItem, PlanReader, answer_behind_job, first_answer, take_notes,
+};
 use stage_lanes::ActionSet;
 use std::marker::Model;
 
@@ -28,9 +26,9 @@ pub struct CertReader<'a> {
 
 impl<'a> Model for CertReader<'a> {
     ghost use Rattle.std.specs.Prelude.{drop};
-    ghost use Rattle.plan_cert.specs.Items.{items};
-    ghost use Rattle.plan_cert.specs.Facts.{HasFew};
-    ghost use Rattle.plan_cert.specs.Reading.{Reading, Leaves};
+    ghost use Rattle.plan_lines.specs.Items.{items};
+    ghost use Rattle.plan_lines.specs.Facts.{HasFew};
+    ghost use Rattle.plan_lines.specs.Reading.{Reading, Leaves};
 
     ghost Value = { Reading };
 

@@ -1,14 +1,15 @@
 //! The lines of the rows of a certificate, and of their notes.
 ghost use Rattle.std.specs.Prelude.{◌≡◌, ◌++◌, ◌∷◌, [], ◌<◌, ◌≤◌, ◌*◌, ◌^◌, ◌==◌, take, drop, All, AllPairs, OnOk};
 ghost use Rattle.std.specs.List.{flat_map, prefix_len};
-ghost use Rattle.plan_cert.specs.Lines.{back_word, half_word, worth_word, spaced, action_words, meeting_words, argument_words, reason_words, action_at, line_text, lines_text, row_line, note_line};
-ghost use Rattle.plan_cert.specs.WellFormed.{IsWorth, NoteIsBefore};
+ghost use Rattle.cert_lines.specs.Lines.{back_word, half_word, worth_word, spaced, action_words, meeting_words, argument_words, reason_words, action_at, line_text, lines_text, row_line, note_line};
+ghost use Rattle.cert_lines.specs.Lines.{IsWorth};
+ghost use Rattle.plan_cert.specs.WellFormed.{NoteIsBefore};
 ghost use Rattle.plan_cert.specs.CertText.{line_of_note, rows_lines};
 
-use crate::cert::{Note, RowHead};
-use crate::words::{put_count, put_spaced};
 use brake_base::{Action, Back, Half, Quarter, Reason, Worth, action_of};
 use brake_text::put_word;
+use cert_lines::{RowHead, put_count, put_spaced};
+use plan_lines::Note;
 use std::alloc::AllocError;
 
 /// A cost, or that there is no way on.
@@ -43,7 +44,7 @@ fn half_word(half: Half) -> &'static [u8]
 }
 
 /// The words of an action.
-#[tactic(auto, using(crate::proofs::Texts::pieces))]
+#[tactic(auto, using(cert_lines::proofs::Texts::pieces))]
 pub(crate) fn put_action(out: &mut Vec<u8>, action: &Action) -> Result<(), AllocError>
     ensures { OnOk result (out.new.items
         ≡ out.old.items ++ flat_map spaced (action_words action.now)) }
@@ -54,7 +55,7 @@ pub(crate) fn put_action(out: &mut Vec<u8>, action: &Action) -> Result<(), Alloc
 }
 
 /// A box of the part in a quarter, and what it meets there.
-#[tactic(auto, using(crate::proofs::Texts::pieces))]
+#[tactic(auto, using(cert_lines::proofs::Texts::pieces))]
 fn put_meeting(out: &mut Vec<u8>, body: u8, quarter: Quarter, other: u8) -> Result<(), AllocError>
     ensures { OnOk result (out.new.items
         ≡ out.old.items ++ flat_map spaced (meeting_words body quarter other)) }
@@ -65,7 +66,7 @@ fn put_meeting(out: &mut Vec<u8>, body: u8, quarter: Quarter, other: u8) -> Resu
 }
 
 /// What a reason names.
-#[tactic(auto, using(crate::proofs::Texts::pieces))]
+#[tactic(auto, using(cert_lines::proofs::Texts::pieces))]
 fn put_arguments(out: &mut Vec<u8>, reason: Reason) -> Result<(), AllocError>
     ensures { OnOk result (out.new.items
         ≡ out.old.items ++ flat_map spaced (argument_words reason)) }
@@ -84,7 +85,7 @@ fn put_arguments(out: &mut Vec<u8>, reason: Reason) -> Result<(), AllocError>
 }
 
 /// The words of a reason.
-#[tactic(auto, using(crate::proofs::Texts::pieces))]
+#[tactic(auto, using(cert_lines::proofs::Texts::pieces))]
 pub fn put_reason(out: &mut Vec<u8>, reason: Reason) -> Result<(), AllocError>
     ensures { OnOk result (out.new.items ≡ out.old.items ++ flat_map spaced (reason_words reason)) }
 {
@@ -102,7 +103,7 @@ fn action_at(stages: u8, number: u8) -> Action
 }
 
 /// The line of a note.
-#[tactic(auto, using(crate::proofs::Texts::pieces), unfolding(crate::specs::Lines::line_text))]
+#[tactic(auto, using(cert_lines::proofs::Texts::pieces), unfolding(cert_lines::specs::Lines::line_text))]
 fn put_note(out: &mut Vec<u8>, stages: u8, note: &Note) -> Result<(), AllocError>
     requires action { note.now.action < 24 * stages }
     requires stages { stages ≤ 6 }
@@ -130,7 +131,7 @@ fn put_notes(out: &mut Vec<u8>, stages: u8, notes: &[Note]) -> Result<(), AllocE
 }
 
 /// The line of a row.
-#[tactic(auto, using(crate::proofs::Texts::pieces), unfolding(crate::specs::Lines::line_text))]
+#[tactic(auto, using(cert_lines::proofs::Texts::pieces), unfolding(cert_lines::specs::Lines::line_text))]
 fn put_row(out: &mut Vec<u8>, row: &RowHead) -> Result<(), AllocError>
     requires { IsWorth row.now.worth }
     ensures { OnOk result (out.new.items ≡ out.old.items ++ line_text (row_line row.now)) }

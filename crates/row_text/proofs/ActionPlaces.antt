@@ -6,8 +6,8 @@ use Rattle.brake_base.specs.declared.stroke.Back.TheVariants.{Parent, Child}
 use Rattle.brake_base.specs.declared.stroke.Action.{Action}
 use Rattle.brake_base.specs.Actions.{IsActionAmong, back_number, number_of_action}
 use Rattle.stage_lanes.specs.ActionSets.{place_of}
-use Rattle.plan_cert.specs.Lines.{action_at}
-use Rattle.plan_cert.proofs.ActionNumbers.{action_of_number, number_below}
+use Rattle.cert_lines.specs.Lines.{action_at}
+use Rattle.plan_lines.proofs.ActionNumbers.{action_of_number, number_below}
 use Rattle.row_text.specs.Notes.{number_at}
 
 -- an action of a machine with fewer stages is one of a machine with eight

@@ -10,13 +10,13 @@ use Rattle.brake_base.specs.declared.reason.Reason.TheVariants.{Cover}
 use Rattle.brake_base.specs.Actions.{IsActionAmong, number_of_action}
 use Rattle.stage_lanes.specs.declared.actions.ActionSet.{ActionSet}
 use Rattle.stage_lanes.specs.ActionSets.{has_place, place_of, places_of, ArePlaces, IsNone, IsFirst}
-use Rattle.plan_cert.specs.Lines.{line_text, lines_text, note_line, action_at}
+use Rattle.cert_lines.specs.Lines.{line_text, lines_text, note_line, action_at}
 use Rattle.plan_cert.specs.CertText.{line_of_note}
 use Rattle.row_text.specs.Notes.{SetNotes, IsAmong, AreOfStages, number_at, note_at, notes_of}
 use Rattle.row_text.specs.Blocks.{block_text}
 use Rattle.row_text.specs.Writer.{AreLines}
 use Rattle.row_text.proofs.ActionPlaces.{among_eight, place_below, action_of_place, number_of_place, stage_of_place, action_at_number, same_place}
-use Rattle.plan_cert.proofs.NoteSets.{first_place, no_places}
+use Rattle.plan_lines.proofs.NoteSets.{first_place, no_places}
 use Rattle.row_text.proofs.SetLists.{same_texts}
 
 pub stages_of_some : (stages : ℕ) (set other : ActionSet) → IsAmong set other → AreOfStages stages other → AreOfStages stages set

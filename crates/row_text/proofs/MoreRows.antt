@@ -4,11 +4,11 @@ use Rattle.std.specs.List.{flat_map, enumerate_from}
 use Rattle.std.proofs.lemmas.Grind.{flat_map-append}
 use Rattle.std.proofs.lemmas.List.{append-nil, length-map}
 use Rattle.std.proofs.lemmas.List.Elements.{filter-append}
-use Rattle.plan_cert.specs.declared.cert.RowHead.{RowHead}
-use Rattle.plan_cert.specs.declared.cert.Note.{Note}
+use Rattle.cert_lines.specs.declared.row_head.RowHead.{RowHead}
+use Rattle.plan_lines.specs.declared.note.Note.{Note}
 use Rattle.stage_lanes.specs.declared.actions.ActionSet.{ActionSet}
 use Rattle.stage_lanes.specs.ActionSets.{places_of}
-use Rattle.plan_cert.specs.Lines.{CertLine, line_text, lines_text, row_line}
+use Rattle.cert_lines.specs.Lines.{CertLine, line_text, lines_text, row_line}
 use Rattle.plan_cert.specs.CertText.{line_of_note, row_lines, rows_lines}
 use Rattle.plan_cert.proofs.NoteOrder.{is_of}
 use Rattle.plan_cert.proofs.RowTexts.{lines_from}

@@ -1,7 +1,7 @@
 -- The line of a row from its parts.
 use Rattle.std.proofs.Common.{◌≡◌, ℕ, List, [], ◌∷◌, ◌++◌, codes, ap, sym, ◌∙◌, append_assoc}
-use Rattle.plan_cert.specs.declared.cert.RowHead.{RowHead}
-use Rattle.plan_cert.specs.Lines.{number, spaced, worth_word, line_text, row_line}
+use Rattle.cert_lines.specs.declared.row_head.RowHead.{RowHead}
+use Rattle.cert_lines.specs.Lines.{number, spaced, worth_word, line_text, row_line}
 use Rattle.row_text.specs.RowWords.{row_start, key_words}
 
 -- pieces of a text, joined in two ways

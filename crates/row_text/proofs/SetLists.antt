@@ -4,7 +4,7 @@ use Rattle.std.specs.List.{flat_map}
 use Rattle.std.proofs.lemmas.Grind.{flat_map-append}
 use Rattle.stage_lanes.specs.declared.actions.ActionSet.{ActionSet}
 use Rattle.stage_lanes.specs.ActionSets.{has_place, numbers_below, places_of}
-use Rattle.plan_cert.proofs.NoteSets.{skip, keep, one_more}
+use Rattle.plan_lines.proofs.NoteSets.{skip, keep, one_more}
 
 -- two texts of a set's places are one where those of each place are
 same_texts_below : (f : ℕ → Bool) (s t : ℕ → List ℕ) (n : ℕ) → ((k : ℕ) → k < n → f k ≡ true → s k ≡ t k) → flat_map s (filter f (numbers_below n)) ≡ flat_map t (filter f (numbers_below n))

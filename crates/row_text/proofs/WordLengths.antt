@@ -14,7 +14,7 @@ use Rattle.brake_base.specs.declared.reason.Reason.{Reason}
 use Rattle.brake_base.specs.declared.reason.Reason.TheVariants.{Cover, Rest, Frame, Upper, Nose, Lower, SelfHit, NoGauge, Load}
 use Rattle.brake_base.specs.Reasons.{kind_of, quarter_number}
 use Rattle.stage_lanes.specs.Codes.{IsCoded}
-use Rattle.plan_cert.specs.Lines.{number, spaced, back_word, half_word, action_words, meeting_words, argument_words, reason_words, line_text, note_line}
+use Rattle.cert_lines.specs.Lines.{number, spaced, back_word, half_word, action_words, meeting_words, argument_words, reason_words, line_text, note_line}
 use Rattle.row_text.specs.RowWords.{row_start, key_words}
 
 number_length : (k n : ℕ) → 0 < k → n < 10 ^ k → n < 2 ^ 64 → length (number n) ≤ k

@@ -8,8 +8,8 @@ use Rattle.brake_base.specs.declared.reason.Reason.TheVariants.{Cover}
 use Rattle.brake_base.specs.Actions.{IsActionAmong, number_of_action}
 use Rattle.stage_lanes.specs.declared.actions.ActionSet.{ActionSet}
 use Rattle.stage_lanes.specs.ActionSets.{has_place, place_of, ArePlaces, IsNone}
-use Rattle.plan_cert.specs.declared.cert.RowHead.{RowHead}
-use Rattle.plan_cert.specs.Lines.{line_text, lines_text, row_line, note_line}
+use Rattle.cert_lines.specs.declared.row_head.RowHead.{RowHead}
+use Rattle.cert_lines.specs.Lines.{line_text, lines_text, row_line, note_line}
 use Rattle.plan_cert.specs.CertText.{line_of_note}
 use Rattle.row_text.specs.declared.block.NoteBlock.{NoteBlock}
 use Rattle.row_text.specs.RowWords.{row_start}

@@ -1,6 +1,6 @@
 -- The parts of the line of a row.
 use Rattle.std.specs.Prelude.{ℕ, List, ◌++◌, codes}
-use Rattle.plan_cert.specs.Lines.{number, spaced}
+use Rattle.cert_lines.specs.Lines.{number, spaced}
 
 -- the beginning of the line of a row at a set of folded bends, by its number
 abbrev pub row_start : ℕ → List ℕ

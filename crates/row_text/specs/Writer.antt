@@ -2,7 +2,7 @@
 use Rattle.std.specs.Prelude.{◌≡◌, ℕ, ◌+◌, ◌*◌, ◌<◌, ◌≤◌, IsTrue, List, [], length, slice_index_or}
 use Rattle.stage_lanes.specs.declared.actions.ActionSet.{ActionSet}
 use Rattle.stage_lanes.specs.ActionSets.{has_place}
-use Rattle.plan_cert.specs.Lines.{line_text, note_line, action_at}
+use Rattle.cert_lines.specs.Lines.{line_text, note_line, action_at}
 use Rattle.row_text.specs.declared.block.NoteBlock.{NoteBlock}
 use Rattle.row_text.specs.RowWords.{row_start, key_words}
 use Rattle.row_text.specs.Notes.{SetNotes, AreOfStages, number_at, reason_at}

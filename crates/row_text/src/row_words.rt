@@ -1,7 +1,7 @@
 //! The parts of the lines of rows and notes.
 ghost use Rattle.std.specs.Prelude.{◌≡◌, ◌<◌, ◌++◌, OnOk, IfOk};
 ghost use Rattle.std.specs.List.{flat_map};
-ghost use Rattle.plan_cert.specs.Lines.{spaced, back_word, action_words, line_text, note_line};
+ghost use Rattle.cert_lines.specs.Lines.{spaced, back_word, action_words, line_text, note_line};
 ghost use Rattle.stage_lanes.specs.Codes.{IsCoded};
 ghost use Rattle.row_text.specs.RowWords.{row_start, key_words};
 
@@ -22,7 +22,7 @@ pub(crate) fn row_start(line: &mut Vec<u8>, mask: Mask) -> Result<ShortText, All
 }
 
 /// The words of an attitude and a stage.
-#[tactic(auto, using(plan_cert::proofs::Texts::pieces))]
+#[tactic(auto, using(cert_lines::proofs::Texts::pieces))]
 pub(crate) fn key_words(
     line: &mut Vec<u8>,
     attitude: u8,
@@ -49,7 +49,7 @@ fn back_word(back: Back) -> &'static [u8]
 }
 
 /// The words of an action.
-#[tactic(auto, using(plan_cert::proofs::Texts::pieces))]
+#[tactic(auto, using(cert_lines::proofs::Texts::pieces))]
 fn put_action(out: &mut Vec<u8>, action: Action) -> Result<(), AllocError>
     ensures { OnOk result (out.new.items ≡ out.old.items ++ flat_map spaced (action_words action)) }
 {
@@ -59,7 +59,7 @@ fn put_action(out: &mut Vec<u8>, action: Action) -> Result<(), AllocError>
 }
 
 /// The line of a note.
-#[tactic(auto, using(plan_cert::proofs::Texts::pieces), unfolding(plan_cert::specs::Lines::line_text))]
+#[tactic(auto, using(cert_lines::proofs::Texts::pieces), unfolding(cert_lines::specs::Lines::line_text))]
 fn put_note(out: &mut Vec<u8>, action: Action, reason: Reason) -> Result<(), AllocError>
     ensures { OnOk result (out.new.items ≡ out.old.items ++ line_text (note_line action reason)) }
 {

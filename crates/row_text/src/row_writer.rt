@@ -1,9 +1,9 @@
 //! The writer of rows.
 ghost use Rattle.std.specs.Prelude.{◌≡◌, ◌↔◌, ◌≤◌, ◌<◌, ◌+◌, ◌*◌, ◌++◌, ◌∷◌, ◌&&◌, ◌||◌, ◌==◌, not, IsTrue, length, map, if◌then◌else◌, ℕ, OnOk, OnErr, IfOk};
 ghost use Rattle.brake_base.specs.Actions.{IsActionAmong, number_of_action};
-ghost use Rattle.plan_cert.specs.Lines.{line_text, lines_text, row_line};
+ghost use Rattle.cert_lines.specs.Lines.{line_text, lines_text, row_line};
 ghost use Rattle.plan_cert.specs.CertText.{line_of_note};
-ghost use Rattle.plan_cert.specs.WellFormed.{IsWorth};
+ghost use Rattle.cert_lines.specs.Lines.{IsWorth};
 ghost use Rattle.stage_lanes.specs.ActionSets.{has_place, place_of, ArePlaces, IsNone};
 ghost use Rattle.stage_lanes.specs.Codes.{IsCoded};
 ghost use Rattle.row_text.specs.Notes.{IsAmong, reason_at, notes_of, GoOnAs};

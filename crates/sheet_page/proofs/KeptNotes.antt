@@ -7,11 +7,11 @@ use Rattle.std.proofs.lemmas.Bool.{cases_lt}
 use Rattle.std.proofs.lemmas.List.{get_or-take, get_or-drop, length-take}
 use Rattle.job_setup.specs.Setup.{JobData, bend_count, stage_count}
 use Rattle.job_setup.specs.StrokeGroup.{is_lead}
-use Rattle.plan_cert.specs.declared.cert.Note.{Note}
-use Rattle.plan_cert.specs.declared.cert.RowHead.{RowHead}
-use Rattle.plan_cert.specs.Lines.{action_at}
+use Rattle.plan_lines.specs.declared.note.Note.{Note}
+use Rattle.cert_lines.specs.declared.row_head.RowHead.{RowHead}
+use Rattle.cert_lines.specs.Lines.{action_at}
 use Rattle.plan_cert.specs.WellFormed.{IsNote}
-use Rattle.plan_cert.proofs.ActionNumbers.{bend_of_number}
+use Rattle.plan_lines.proofs.ActionNumbers.{bend_of_number}
 use Rattle.sheet_page.specs.Kept.{IsNoteAt, AreNotesAt, HaveActions, notes_between}
 
 few_numbers : (bends stages number : ℕ) → bends ≤ 12 → number < 2 * bends * stages → number < 24 * stages

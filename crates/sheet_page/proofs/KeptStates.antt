@@ -10,7 +10,7 @@ use Rattle.std.proofs.lemmas.List.Folds.{find-append}
 use Rattle.std.proofs.lemmas.List.Sums.{sum_by-append}
 use Rattle.brake_base.specs.Masks.{bends_of}
 use Rattle.job_setup.specs.Setup.{JobData}
-use Rattle.plan_cert.specs.declared.cert.Note.{Note}
+use Rattle.plan_lines.specs.declared.note.Note.{Note}
 use Rattle.sheet_page.specs.declared.kept.State.{State}
 use Rattle.sheet_page.specs.declared.kept.DeadEnds.{DeadEnds}
 use Rattle.sheet_page.specs.Kept.{StateData, state_data, IsStateOf, IsFlatState, AreDeadEnds, most_folded, furthest, folded, dead_ends, refusal_count, is_of}

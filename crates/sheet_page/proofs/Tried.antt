@@ -11,8 +11,8 @@ use Rattle.handling_cost.specs.StepCost.{IsActionAt}
 use Rattle.handling_cost.specs.Plan.{pose_before}
 use Rattle.handling_cost.proofs.ActionGroups.{action_leads}
 use Rattle.handling_cost.proofs.Actions.{few_bends}
-use Rattle.plan_cert.specs.declared.cert.Note.{Note}
-use Rattle.plan_cert.specs.Lines.{action_at}
+use Rattle.plan_lines.specs.declared.note.Note.{Note}
+use Rattle.cert_lines.specs.Lines.{action_at}
 use Rattle.sheet_page.specs.Kept.{key_at, IsNoteAt}
 
 -- it is an action of the job

@@ -9,9 +9,9 @@ use Rattle.brake_base.specs.Reasons.{kind_of}
 use Rattle.job_setup.specs.Setup.{JobData, stage_count}
 use Rattle.handling_cost.specs.StepCost.{IsActionAt}
 use Rattle.plan_cert.specs.Cert.{CertData}
-use Rattle.plan_cert.specs.Lines.{action_at}
-use Rattle.plan_cert.specs.declared.cert.Note.{Note}
-use Rattle.plan_cert.specs.declared.cert.RowHead.{RowHead}
+use Rattle.cert_lines.specs.Lines.{action_at}
+use Rattle.plan_lines.specs.declared.note.Note.{Note}
+use Rattle.cert_lines.specs.declared.row_head.RowHead.{RowHead}
 use Rattle.sheet_page.specs.declared.kept.State.{State}
 use Rattle.sheet_page.specs.declared.kept.Counts.{Counts}
 use Rattle.sheet_page.specs.declared.kept.DeadEnds.{DeadEnds}

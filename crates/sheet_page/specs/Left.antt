@@ -9,8 +9,8 @@ use Rattle.brake_base.specs.Actions.{number_of_action}
 use Rattle.brake_base.specs.Masks.{numbers_to}
 use Rattle.job_setup.specs.Setup.{JobData, bend_count, stage_count}
 use Rattle.job_setup.specs.StrokeGroup.{is_lead}
-use Rattle.plan_cert.specs.declared.cert.Note.{Note}
-use Rattle.plan_cert.specs.Lines.{action_at}
+use Rattle.plan_lines.specs.declared.note.Note.{Note}
+use Rattle.cert_lines.specs.Lines.{action_at}
 use Rattle.sheet_page.specs.Ways.{stations_with}
 
 -- the action of a note

@@ -5,7 +5,7 @@ use Rattle.brake_base.specs.declared.mask.Mask.{Mask}
 use Rattle.brake_base.specs.declared.reason.Reason.{Reason}
 use Rattle.brake_base.specs.declared.reason.Reason.TheVariants.{Upper, Nose, Lower, SelfHit}
 use Rattle.job_setup.specs.Setup.{JobData}
-use Rattle.plan_cert.specs.declared.cert.Note.{Note}
+use Rattle.plan_lines.specs.declared.note.Note.{Note}
 use Rattle.sheet_views.specs.Drawing.{drawing_of}
 use Rattle.sheet_views.specs.Swept.{swept_by}
 use Rattle.sheet_figures.specs.Refusals.{IsRefusal}

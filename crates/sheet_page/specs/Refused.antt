@@ -10,7 +10,7 @@ use Rattle.brake_base.specs.Masks.{numbers_to}
 use Rattle.part_file.specs.Part.{face_at}
 use Rattle.job_setup.specs.Setup.{JobData, bend_count, stage_count}
 use Rattle.handling_cost.specs.Plan.{pose_before}
-use Rattle.plan_cert.specs.declared.cert.Note.{Note}
+use Rattle.plan_lines.specs.declared.note.Note.{Note}
 use Rattle.svg_text.specs.Escapes.{escaped}
 use Rattle.svg_text.specs.Forms.{line_of}
 use Rattle.sheet_words.specs.Reasons.{reason_words}

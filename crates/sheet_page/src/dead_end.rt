@@ -1,6 +1,6 @@
 //! A state of the part at which every stroke is refused.
 ghost use Rattle.std.specs.Prelude.{◌≡◌, ◌^◌, ◌<◌, ◌≤◌, [], ◌++◌, pos, ◌+ℤ◌, ◌≤ℤ◌, int_lt, unsigned_abs, ◌&&◌, IsTrue, length, take, drop, slice_index_or, IfOk, OnOk};
-ghost use Rattle.plan_cert.specs.declared.cert.Note.{Note};
+ghost use Rattle.plan_lines.specs.declared.note.Note.{Note};
 ghost use Rattle.sheet_page.specs.Kept.{AreNotesAt};
 ghost use Rattle.sheet_page.specs.NoPlan.{folded_words, dead_end_text, IsDeadEnd, IsPictureCount};
 ghost use Rattle.sheet_page.specs.Pictured.{hitting_box, is_one_box, is_one_hit, is_pictured, AreOfNote, GoesOn, AreLast};

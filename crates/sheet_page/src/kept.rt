@@ -5,7 +5,7 @@ ghost use Rattle.std.specs.List.{AllWithin};
 ghost use Rattle.brake_base.specs.Masks.{bends_of};
 ghost use Rattle.brake_base.specs.Reasons.{kind_of};
 ghost use Rattle.plan_cert.specs.Cert.{cert_data};
-ghost use Rattle.plan_cert.specs.declared.cert.Note.{Note};
+ghost use Rattle.plan_lines.specs.declared.note.Note.{Note};
 ghost use Rattle.plan_cert.specs.WellFormed.{IsNote, NoteIsBefore};
 ghost use Rattle.job_setup.specs.Setup.{JobData, stage_count};
 ghost use Rattle.sheet_page.specs.Kept.{HaveActions, StateData, state_data, IsStateOf, notes_of, is_mask_before, is_bend, is_kind, count_in, is_of, IsFlatState, AreDeadEnds, IsKept, HasFew, last_states, states_of};

@@ -3,7 +3,7 @@ use Rattle.std.proofs.lemmas.Result.{IfOk-weaker}
 use Rattle.job_setup.specs.Setup.{JobData, bend_count}
 use Rattle.part_gen.specs.Generator.{generated_job}
 use Rattle.plan_cert.specs.CertText.{cert_text2}
-use Rattle.plan_cert.specs.WellFormed.{IsWorth}
+use Rattle.cert_lines.specs.Lines.{IsWorth}
 use Rattle.cert_check.specs.Texts.{IsTextOfCert}
 use Rattle.brake_commands.proofs.CertTexts.{text_is}
 use Rattle.command_runner.specs.Answers.{answer_data, one_text}

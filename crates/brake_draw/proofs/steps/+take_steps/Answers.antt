@@ -1,6 +1,6 @@
 use Rattle.std.proofs.Common.{◌≡◌, ◌<◌, true, false, length, sym, ◌∙◌, subst, arith}
-use Rattle.plan_cert.specs.PlanItem.{item_of}
-use Rattle.plan_cert.specs.Reading.{Reading}
+use Rattle.plan_lines.specs.PlanItem.{item_of}
+use Rattle.plan_lines.specs.Reading.{Reading}
 use Rattle.plan_cert.specs.CertReading.{answers_left}
 use Rattle.brake_draw.specs.Steps.{is_before_rows}
 use Rattle.brake_draw.proofs.FirstSteps.{left_behind, fewer_left, steps_on, steps_end, steps_refused}

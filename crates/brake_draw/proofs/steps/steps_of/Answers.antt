@@ -1,6 +1,6 @@
 use Rattle.std.proofs.Common.{refl, sym, ◌∙◌, subst}
-use Rattle.plan_cert.specs.declared.item.Item.TheVariants as given
-use Rattle.plan_cert.specs.Reading.{Reading}
+use Rattle.plan_lines.specs.declared.item.Item.TheVariants as given
+use Rattle.plan_lines.specs.Reading.{Reading}
 use Rattle.plan_cert.specs.CertReading.{AnswersLeft}
 use Rattle.plan_cert.proofs.Collecting.{goes_on}
 use Rattle.brake_draw.proofs.FirstSteps.{steps_read, begins_with_job}

@@ -1,8 +1,8 @@
 use Rattle.std.proofs.Common.{List, ◌∷◌, Result, Ok, ap, sym, subst}
-use Rattle.plan_cert.specs.declared.item.Item.{Item}
-use Rattle.plan_cert.specs.declared.item.PlanItem.{PlanItem}
-use Rattle.plan_cert.specs.declared.item.CertFault.{CertFault}
-use Rattle.plan_cert.specs.PlanItem.{item_of}
+use Rattle.plan_lines.specs.declared.item.Item.{Item}
+use Rattle.plan_lines.specs.declared.item.PlanItem.{PlanItem}
+use Rattle.plan_lines.specs.declared.item.CertFault.{CertFault}
+use Rattle.plan_lines.specs.PlanItem.{item_of}
 use Rattle.job_setup.specs.Setup.{JobData}
 use Rattle.plan_cert.specs.Cert.{CertData}
 use Rattle.cert_check.specs.declared.row_notes.RowNotes.{RowNotes}

@@ -1,9 +1,9 @@
 use Rattle.std.proofs.Common.{Bool, List, Result, Ok, Err, not, sym, ap, subst, ◌∙◌}
-use Rattle.plan_cert.specs.declared.item.Item.{Item}
-use Rattle.plan_cert.specs.declared.item.CertFault.{CertFault}
-use Rattle.plan_cert.specs.PlanItem.{item_of, plan_answer}
-use Rattle.plan_cert.specs.declared.item.PlanItem.{PlanItem}
-use Rattle.plan_cert.specs.Reading.{GivesNext}
+use Rattle.plan_lines.specs.declared.item.Item.{Item}
+use Rattle.plan_lines.specs.declared.item.CertFault.{CertFault}
+use Rattle.plan_lines.specs.PlanItem.{item_of, plan_answer}
+use Rattle.plan_lines.specs.declared.item.PlanItem.{PlanItem}
+use Rattle.plan_lines.specs.Reading.{GivesNext}
 use Rattle.plan_cert.specs.CertReading.{answers_left, is_last, cert_of}
 use Rattle.cert_check.specs.ReadCert.{ItemAnswer, PieceAnswer, behind}
 use Rattle.cert_check.proofs.ItemLemmas.{left_on, of_fault, item_read, answer_behind}

@@ -1,8 +1,8 @@
 use Rattle.std.proofs.Common.{Ok, ◌++◌, sym, subst}
 use Rattle.job_setup.specs.Setup.{JobData}
-use Rattle.plan_cert.specs.declared.item.Item.TheVariants as given
-use Rattle.plan_cert.specs.Items.{items}
-use Rattle.plan_cert.specs.Reading.{GivesNext}
+use Rattle.plan_lines.specs.declared.item.Item.TheVariants as given
+use Rattle.plan_lines.specs.Items.{items}
+use Rattle.plan_lines.specs.Reading.{GivesNext}
 use Rattle.cert_check.proofs.ReadLemmas.{job_read, edge_refused}
 use Rattle.cert_check.proofs.read_cert.read_job.Goals as goal
 

@@ -1,5 +1,5 @@
 use Rattle.std.proofs.Common.{◌++◌, false, true, refl, ◌∙◌}
-use Rattle.plan_cert.proofs.WholeLines.{all_behind, behind_both}
+use Rattle.cert_lines.proofs.WholeLines.{all_behind, behind_both}
 use Rattle.cert_check.specs.KnownNotes.{KnowsSound}
 use Rattle.cert_check.specs.RowNotes.{IsTesting}
 use Rattle.cert_check.proofs.KnownLemmas.{knows_none}

@@ -1,7 +1,8 @@
 use Rattle.std.proofs.Common.{List, ℕ, ◌++◌, length}
-use Rattle.plan_cert.specs.declared.format.TextKind.{TextKind}
-use Rattle.plan_cert.specs.Facts.{HasFew}
-use Rattle.plan_cert.specs.Reading.{IsBehind, MayBeBehind}
+use Rattle.cert_lines.specs.declared.format.TextKind.{TextKind}
+use Rattle.plan_lines.specs.Facts.{HasFew}
+use Rattle.cert_lines.specs.LineReading.{IsBehind}
+use Rattle.plan_lines.specs.Reading.{MayBeBehind}
 use Rattle.cert_check.specs.RowNotes.{IsTesting}
 use Rattle.cert_check.specs.KnownNotes.{KnowsSound}
 use Rattle.cert_check.specs.ReadCert.{IsReadBefore}

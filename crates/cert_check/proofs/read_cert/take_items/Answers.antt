@@ -1,16 +1,16 @@
 use Rattle.std.proofs.Common.{◌+◌, ◌++◌, List, Result, true, refl, length, ◌∙◌, ap, subst, arith}
 use Rattle.std.proofs.lemmas.List.{length-map}
 use Rattle.stage_lanes.specs.ActionSets.{places_of}
-use Rattle.plan_cert.specs.declared.item.Item.{Item}
-use Rattle.plan_cert.specs.declared.item.CertFault.{CertFault}
-use Rattle.plan_cert.specs.Reading.{Reading}
+use Rattle.plan_lines.specs.declared.item.Item.{Item}
+use Rattle.plan_lines.specs.declared.item.CertFault.{CertFault}
+use Rattle.plan_lines.specs.Reading.{Reading}
 use Rattle.plan_cert.specs.CertReading.{answers_left, cert_of, with_known}
-use Rattle.plan_cert.specs.NoteLines.{note_told, notes_told}
+use Rattle.plan_lines.specs.NoteLines.{note_told, notes_told}
 use Rattle.cert_check.specs.ReadCert.{IsUnderway}
 use Rattle.plan_cert.proofs.KnownRead.{known_read, some_places}
 use Rattle.cert_check.proofs.KnownLemmas.{known_behind, underway_known}
 use Rattle.cert_check.proofs.ReadLemmas.{all_given, moved, none_told, reads_on, some_weaker}
-use Rattle.plan_cert.proofs.WholeLines.{behind_both}
+use Rattle.cert_lines.proofs.WholeLines.{behind_both}
 use Rattle.cert_check.proofs.read_cert.take_items.Goals as goal
 
 pub returns-else-is_empty-clause-item : goal.returns-else-is_empty-clause-item

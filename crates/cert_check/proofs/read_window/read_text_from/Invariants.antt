@@ -1,6 +1,6 @@
 use Rattle.std.proofs.Common.{ℕ, List}
 use Rattle.brake_io.specs.Pieces.{HasPassed, reads_left}
-use Rattle.plan_cert.specs.Facts.{HasFew}
+use Rattle.plan_lines.specs.Facts.{HasFew}
 use Rattle.cert_check.specs.RowNotes.{IsTesting}
 use Rattle.cert_check.proofs.WindowLemmas.{IsReadAt}
 use Rattle.cert_check.proofs.read_window.read_text_from.Given as goal

@@ -1,5 +1,5 @@
 use Rattle.std.proofs.Common.{◌≡◌, ◌+◌, ℕ, length, set, get_or, arith, refl, sym, ◌∙◌, ap, subst, length-set}
-use Rattle.plan_cert.specs.declared.cert.RowHead.{RowHead}
+use Rattle.cert_lines.specs.declared.row_head.RowHead.{RowHead}
 use Rattle.plan_cert.specs.KeyPlaces.{key_place}
 use Rattle.cert_check.specs.RowTable.{IsIndexed}
 use Rattle.plan_cert.proofs.RowOrder.{few_rows, number_within}

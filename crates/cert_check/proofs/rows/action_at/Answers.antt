@@ -1,9 +1,9 @@
 use Rattle.std.proofs.Common.{◌≡◌, ℕ, subst}
 use Rattle.job_setup.specs.Setup.{bend_count, stage_count}
 use Rattle.handling_cost.proofs.Actions.{few_bends}
-use Rattle.plan_cert.specs.Lines.{action_at}
-use Rattle.plan_cert.proofs.Actions.{action_is, few_actions}
-use Rattle.plan_cert.proofs.ActionNumbers.{bend_of_number}
+use Rattle.cert_lines.specs.Lines.{action_at}
+use Rattle.plan_lines.proofs.Actions.{action_is, few_actions}
+use Rattle.plan_lines.proofs.ActionNumbers.{bend_of_number}
 use Rattle.cert_check.proofs.rows.action_at.Goals as goal
 
 pub returns-clause-value : goal.returns-clause-value

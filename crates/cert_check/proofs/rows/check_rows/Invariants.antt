@@ -1,5 +1,5 @@
 use Rattle.std.proofs.Common.{◌≡◌, ◌≤◌, Some, List}
-use Rattle.plan_cert.specs.declared.cert.Note.{Note}
+use Rattle.plan_lines.specs.declared.note.Note.{Note}
 use Rattle.plan_cert.specs.RowFaults.{RowsAreAccounted}
 use Rattle.cert_check.specs.declared.row_notes.NotePlace.{NotePlace}
 use Rattle.cert_check.specs.RowNotes.{HasNotes}

@@ -5,10 +5,10 @@ use Rattle.handling_cost.specs.StepCost.{IsKeyOf, cost_of, cost_to, attitude_at}
 use Rattle.handling_cost.specs.Bound.{bound_of}
 use Rattle.handling_cost.proofs.Keys.{next_in_range}
 use Rattle.handling_cost.proofs.Small.{bound_small}
-use Rattle.plan_cert.specs.Lines.{action_at}
+use Rattle.cert_lines.specs.Lines.{action_at}
 use Rattle.cert_check.specs.Rows.{ProvesAfter}
 use Rattle.cert_check.proofs.RowLemmas.{row_key}
-use Rattle.plan_cert.proofs.NumberedActions.{tried_at}
+use Rattle.plan_lines.proofs.NumberedActions.{tried_at}
 use Rattle.cert_check.proofs.ActionLemmas.{next_key_is}
 use Rattle.cert_check.proofs.rows.is_closed.Goals as goal
 

@@ -4,10 +4,10 @@ use Rattle.brake_base.specs.declared.stroke.Action.{Action}
 use Rattle.brake_base.specs.Actions.{IsActionAmong}
 use Rattle.stage_lanes.specs.ActionSets.{has}
 use Rattle.job_setup.specs.Setup.{stage_count}
-use Rattle.plan_cert.specs.Lines.{action_at}
+use Rattle.cert_lines.specs.Lines.{action_at}
 use Rattle.cert_check.specs.declared.set_actions.NextKey.{NextKey}
 use Rattle.cert_check.specs.SetActions.{IsNext, IsNextOf}
-use Rattle.plan_cert.proofs.NumberedActions.{tried_at}
+use Rattle.plan_lines.proofs.NumberedActions.{tried_at}
 use Rattle.cert_check.proofs.NoteLemmas.{wide}
 use Rattle.cert_check.proofs.RowLemmas.{number_answer}
 use Rattle.cert_check.proofs.rows.is_open.Goals as goal

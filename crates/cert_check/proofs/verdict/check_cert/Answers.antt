@@ -3,7 +3,8 @@ use Rattle.std.specs.Prelude.{All}
 use Rattle.brake_base.specs.declared.stroke.Step.{Step}
 use Rattle.brake_base.specs.declared.stroke.Worth.{Worth}
 use Rattle.handling_cost.specs.Good.{AreClaimed}
-use Rattle.plan_cert.specs.WellFormed.{HasSteps, IsStep}
+use Rattle.plan_cert.specs.WellFormed.{HasSteps}
+use Rattle.plan_lines.specs.LinesFit.{IsStep}
 use Rattle.cert_check.specs.Steps.{AreFaulty}
 use Rattle.cert_check.proofs.Deciding.{cert_answer, steps_refused}
 use Rattle.cert_check.proofs.verdict.check_cert.Goals as goal

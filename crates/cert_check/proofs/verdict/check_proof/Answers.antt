@@ -1,6 +1,6 @@
 use Rattle.std.proofs.Common.{◌≡◌, List, Ok, Err, length, sym, ◌∙◌, ap, subst}
 use Rattle.brake_base.specs.declared.stroke.Worth.{Worth}
-use Rattle.plan_cert.specs.declared.cert.RowHead.{RowHead}
+use Rattle.cert_lines.specs.declared.row_head.RowHead.{RowHead}
 use Rattle.plan_cert.specs.WellFormed.{AreRowsOf}
 use Rattle.cert_check.specs.RowTable.{RowsOf}
 use Rattle.cert_check.specs.RowNotes.{HasNotes}

@@ -1,5 +1,5 @@
 use Rattle.std.proofs.Common.{◌≡◌, ◌∙◌, ◌-◌, List, length, subst, refl, arith, rules, vec_len}
-use Rattle.plan_cert.specs.declared.cert.RowHead.{RowHead}
+use Rattle.cert_lines.specs.declared.row_head.RowHead.{RowHead}
 use Rattle.cert_merge.specs.BaseRows.{AreTaken}
 use Rattle.cert_merge.specs.MergeSteps.{table_said}
 use Rattle.cert_merge.specs.Table.{IsTable}

@@ -1,8 +1,8 @@
 use Rattle.std.proofs.Common.{◌≡◌, ℕ, subst}
 use Rattle.job_setup.specs.Setup.{bend_count, stage_count}
 use Rattle.handling_cost.proofs.Actions.{few_bends}
-use Rattle.plan_cert.specs.Lines.{action_at}
-use Rattle.plan_cert.proofs.Actions.{action_is, few_actions}
+use Rattle.cert_lines.specs.Lines.{action_at}
+use Rattle.plan_lines.proofs.Actions.{action_is, few_actions}
 use Rattle.cert_merge.proofs.checked.action_at.Goals as goal
 
 pub returns : goal.returns

@@ -1,6 +1,6 @@
 use Rattle.std.proofs.Common.{Option, Ok, Err, refl, sym, ◌∙◌, subst}
 use Rattle.brake_base.specs.declared.reason.Reason.{Reason}
-use Rattle.plan_cert.proofs.NumberedActions.{tried_at}
+use Rattle.plan_lines.proofs.NumberedActions.{tried_at}
 use Rattle.cert_merge.specs.declared.checked.TableFault.TheVariants.{BadReason, NotClosed}
 use Rattle.cert_merge.specs.SetActions.{ActionAnswer}
 use Rattle.cert_merge.proofs.checked.check_action.Goals as goal

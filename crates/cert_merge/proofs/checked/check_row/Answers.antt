@@ -2,7 +2,7 @@ use Rattle.std.proofs.Common.{◌*◌, ◌<◌, None, Ok, Err, get_or, refl, sym
 use Rattle.std.proofs.lemmas.Result.{err_from_is_err_and}
 use Rattle.job_setup.specs.Setup.{bend_count, stage_count}
 use Rattle.brake_base.specs.declared.mask.Mask.{Mask}
-use Rattle.plan_cert.specs.Lines.{action_at}
+use Rattle.cert_lines.specs.Lines.{action_at}
 use Rattle.plan_cert.specs.WellFormed.{AreRowsOf}
 use Rattle.plan_cert.proofs.RowOrder.{few_rows}
 use Rattle.cert_merge.specs.Table.{table_data}

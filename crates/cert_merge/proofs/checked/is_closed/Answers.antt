@@ -3,8 +3,8 @@ use Rattle.brake_base.specs.declared.stroke.Action.{Action}
 use Rattle.brake_base.specs.Worths.{IsAtMost, plus}
 use Rattle.job_setup.specs.Setup.{stage_count}
 use Rattle.handling_cost.specs.StepCost.{attitude_at, cost_of, cost_to}
-use Rattle.plan_cert.specs.Lines.{action_at}
-use Rattle.plan_cert.proofs.NumberedActions.{tried_at}
+use Rattle.cert_lines.specs.Lines.{action_at}
+use Rattle.plan_lines.proofs.NumberedActions.{tried_at}
 use Rattle.cert_merge.proofs.checked.is_closed.Goals as goal
 
 pub cost_to-cost-requires-clause-to : goal.cost_to-cost-requires-clause-to

@@ -1,6 +1,6 @@
 use Rattle.std.proofs.Common.{rules, arith, get_or}
 use Rattle.std.proofs.lemmas.List.Sorted.{IsPartitionPoint-from_clause}
-use Rattle.plan_cert.specs.declared.cert.RowHead.{RowHead}
+use Rattle.cert_lines.specs.declared.row_head.RowHead.{RowHead}
 use Rattle.brake_base.specs.Keys.{key_numbers}
 use Rattle.cert_merge.specs.MergeSteps.{key_before}
 use Rattle.cert_merge.proofs.Orders.{told, tested}

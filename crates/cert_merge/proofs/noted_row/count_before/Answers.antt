@@ -2,7 +2,7 @@ use Rattle.std.proofs.Common.{rules, arith, get_or}
 use Rattle.std.proofs.lemmas.Bool.{ltb-true, ltb-false}
 use Rattle.std.proofs.lemmas.List.Sorted.{IsPartitionPoint-from_clause, IsPartitionedBy-ltb}
 use Rattle.std.specs.Prelude.{nat_lt}
-use Rattle.plan_cert.specs.declared.cert.Note.{Note}
+use Rattle.plan_lines.specs.declared.note.Note.{Note}
 use Rattle.cert_merge.proofs.noted_row.count_before.Goals as goal
 
 pub returns : goal.returns

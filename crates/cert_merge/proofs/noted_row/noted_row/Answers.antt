@@ -1,5 +1,5 @@
 use Rattle.std.proofs.Common.{◌∙◌, ◌<◌, List, subst}
-use Rattle.plan_cert.specs.declared.cert.Note.{Note}
+use Rattle.plan_lines.specs.declared.note.Note.{Note}
 use Rattle.cert_merge.specs.Table.{table_data}
 use Rattle.cert_merge.specs.NotedRows.{IsCut}
 use Rattle.cert_merge.proofs.Cuts.{all_cut, cut_noted, row_is}

@@ -1,5 +1,5 @@
 use Rattle.std.proofs.Common.{◌≡◌, ℕ, All, None, slice_index_or, length, take}
-use Rattle.plan_cert.specs.declared.cert.Note.{Note}
+use Rattle.plan_lines.specs.declared.note.Note.{Note}
 use Rattle.cert_merge.specs.Merged.{reason_noted}
 use Rattle.cert_merge.proofs.noted_row.reasons_in.Given as goal
 

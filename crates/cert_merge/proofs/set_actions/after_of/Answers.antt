@@ -4,7 +4,7 @@ use Rattle.brake_base.specs.declared.stroke.Action.{Action}
 use Rattle.job_setup.specs.Setup.{stage_count}
 use Rattle.handling_cost.specs.StepCost.{IsActionAt, key_after}
 use Rattle.handling_cost.proofs.Keys.{some_stage}
-use Rattle.plan_cert.specs.Lines.{action_at}
+use Rattle.cert_lines.specs.Lines.{action_at}
 use Rattle.cert_merge.specs.SetActions.{IsAfter}
 use Rattle.cert_merge.specs.TableChecks.{proved_by}
 use Rattle.cert_merge.proofs.SetLemmas.{after_by_mask, no_lead}

@@ -1,7 +1,7 @@
 use Rattle.std.proofs.Common.{ℕ, Option, None, ◌∙◌, arith, length-set}
 use Rattle.std.proofs.lemmas.List.{length-replicate}
 use Rattle.job_setup.specs.Setup.{stage_count}
-use Rattle.plan_cert.specs.Lines.{action_at}
+use Rattle.cert_lines.specs.Lines.{action_at}
 use Rattle.cert_merge.specs.declared.set_actions.After.{After}
 use Rattle.cert_merge.specs.SetActions.{IsAfterOf, IsWorthAfter}
 use Rattle.cert_merge.proofs.SetLemmas.{each_on}

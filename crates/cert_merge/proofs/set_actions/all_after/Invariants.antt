@@ -1,6 +1,6 @@
 use Rattle.std.proofs.Common.{◌≡◌, ℕ, ◌<◌, None, length, get_or}
 use Rattle.job_setup.specs.Setup.{stage_count}
-use Rattle.plan_cert.specs.Lines.{action_at}
+use Rattle.cert_lines.specs.Lines.{action_at}
 use Rattle.cert_merge.specs.SetActions.{IsAfterOf, IsWorthAfter}
 use Rattle.cert_merge.proofs.set_actions.all_after.Given as goal
 

@@ -2,7 +2,7 @@ use Rattle.std.proofs.Common.{◌∙◌, arith, sym, ap}
 use Rattle.brake_base.specs.declared.stroke.Action.{Action}
 use Rattle.job_setup.specs.Setup.{bend_count, stage_count}
 use Rattle.handling_cost.proofs.Actions.{few_bends, lead_is}
-use Rattle.plan_cert.proofs.ActionNumbers.{bend_of_number}
+use Rattle.plan_lines.proofs.ActionNumbers.{bend_of_number}
 use Rattle.cert_merge.proofs.SettledWorths.{first_found, none_found}
 use Rattle.cert_merge.proofs.settled_sets.first_reason_of.Goals as goal
 

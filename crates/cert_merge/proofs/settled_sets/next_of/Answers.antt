@@ -3,7 +3,7 @@ use Rattle.brake_base.specs.declared.stroke.Action.{Action}
 use Rattle.job_setup.specs.Setup.{bend_count, stage_count}
 use Rattle.handling_cost.specs.StepCost.{IsActionAt}
 use Rattle.handling_cost.proofs.Actions.{few_bends}
-use Rattle.plan_cert.proofs.ActionNumbers.{bend_of_number}
+use Rattle.plan_lines.proofs.ActionNumbers.{bend_of_number}
 use Rattle.cert_merge.specs.Settling.{proved_over}
 use Rattle.cert_merge.proofs.SettledWorths.{lead_tried, never_tried, next_found}
 use Rattle.cert_merge.proofs.settled_sets.next_of.Goals as goal

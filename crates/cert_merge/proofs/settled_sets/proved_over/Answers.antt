@@ -1,7 +1,7 @@
 use Rattle.std.proofs.Common.{◌∙◌, arith, sym, ap, subst}
 use Rattle.brake_base.specs.declared.stroke.Worth.{Worth}
 use Rattle.brake_base.specs.declared.stroke.Worth.TheVariants.{Cost}
-use Rattle.plan_cert.specs.WellFormed.{IsWorth}
+use Rattle.cert_lines.specs.Lines.{IsWorth}
 use Rattle.plan_cert.proofs.RowOrder.{few_stages}
 use Rattle.cert_merge.specs.Settling.{proved_over, said_in, with_said, with_worth}
 use Rattle.cert_merge.proofs.SettledWorths.{with_row, with_settled, with_small, row_in_small, said_small}

@@ -2,7 +2,7 @@ use Rattle.std.proofs.Common.{◌∙◌, ◌+◌, ◌-◌, ◌*◌, ◌≤◌, �
 use Rattle.brake_base.specs.declared.stroke.Key.{Key}
 use Rattle.handling_cost.specs.StepCost.{IsKeyOf}
 use Rattle.handling_cost.proofs.Keys.{start_in_range}
-use Rattle.plan_cert.specs.declared.cert.RowHead.{RowHead}
+use Rattle.cert_lines.specs.declared.row_head.RowHead.{RowHead}
 use Rattle.plan_cert.specs.WellFormed.{AreRowsOf}
 use Rattle.cert_merge.specs.SettledPieces.{IsWholeText}
 use Rattle.cert_merge.specs.Settling.{proved_over}

@@ -1,9 +1,9 @@
 use Rattle.std.proofs.Common.{◌≡◌, Err, inl, inr, subst, sym, ap}
 use Rattle.std.specs.Prelude.{◌⊎◌}
 use Rattle.std.proofs.lemmas.Result.{err_from_is_err_and}
-use Rattle.plan_cert.specs.declared.item.CertFault.{CertFault}
-use Rattle.plan_cert.specs.declared.item.CertFault.TheVariants.{NoMemory}
-use Rattle.plan_cert.specs.declared.format.TextKind.TheVariants.{Table}
+use Rattle.plan_lines.specs.declared.item.CertFault.{CertFault}
+use Rattle.plan_lines.specs.declared.item.CertFault.TheVariants.{NoMemory}
+use Rattle.cert_lines.specs.declared.format.TextKind.TheVariants.{Table}
 use Rattle.plan_cert.specs.CertReading.{file_of}
 use Rattle.cert_merge.specs.TableTexts.{as_table, table_file_of, IsExact}
 use Rattle.cert_merge.proofs.TableExact.{text_gives, text_of_given, none_refused}

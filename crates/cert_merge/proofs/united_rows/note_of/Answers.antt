@@ -1,5 +1,5 @@
 use Rattle.std.proofs.Common.{sym}
-use Rattle.plan_cert.proofs.PlanLineRead.{note_among}
+use Rattle.plan_lines.proofs.PlanLineRead.{note_among}
 use Rattle.cert_merge.proofs.UnitedRows.{among_all}
 use Rattle.cert_merge.proofs.united_rows.note_of.Goals as goal
 

@@ -1,5 +1,5 @@
 use Rattle.std.proofs.Common.{List, All, ◌<◌, refl, sym, subst}
-use Rattle.plan_cert.specs.declared.cert.Note.{Note}
+use Rattle.plan_lines.specs.declared.note.Note.{Note}
 use Rattle.cert_merge.proofs.UnitedRows.{HasPushed, few_more, none_pushed, one_pushed, not_none, all_pushed}
 use Rattle.cert_merge.proofs.united_rows.push_notes.Goals as goal
 

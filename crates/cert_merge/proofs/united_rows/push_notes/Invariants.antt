@@ -1,6 +1,6 @@
 use Rattle.std.proofs.Common.{List, All, ◌<◌, length}
 use Rattle.job_setup.specs.Setup.{JobData}
-use Rattle.plan_cert.specs.declared.cert.Note.{Note}
+use Rattle.plan_lines.specs.declared.note.Note.{Note}
 use Rattle.cert_merge.specs.UnitedRows.{AreNotesOf}
 use Rattle.cert_merge.proofs.UnitedRows.{HasPushed}
 use Rattle.cert_merge.proofs.united_rows.push_notes.Given as goal

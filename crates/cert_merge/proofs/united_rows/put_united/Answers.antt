@@ -1,7 +1,7 @@
 use Rattle.std.proofs.Common.{◌≡◌, ◌++◌, ◌∷◌, [], ℕ, List, None, Result, Ok, Err, ap, ◌∙◌}
 use Rattle.std.specs.Prelude.{slice_index_or, OnOk}
-use Rattle.plan_cert.specs.declared.cert.Note.{Note}
-use Rattle.plan_cert.specs.Lines.{lines_text}
+use Rattle.plan_lines.specs.declared.note.Note.{Note}
+use Rattle.cert_lines.specs.Lines.{lines_text}
 use Rattle.plan_cert.specs.CertText.{rows_lines}
 use Rattle.cert_merge.specs.MergeSteps.{most_actions, notes_upto}
 use Rattle.cert_merge.proofs.UnitedRows.{few_there, order_there, text_there}

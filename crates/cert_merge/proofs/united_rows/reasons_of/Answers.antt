@@ -1,6 +1,6 @@
 use Rattle.std.proofs.Common.{◌≡◌, ◌++◌, ℕ, List, All, None, ap, subst, ◌∙◌}
 use Rattle.std.specs.Prelude.{slice_index_or}
-use Rattle.plan_cert.specs.declared.cert.Note.{Note}
+use Rattle.plan_lines.specs.declared.note.Note.{Note}
 use Rattle.cert_merge.specs.Merged.{reason_noted}
 use Rattle.cert_merge.proofs.UnitedRows.{reasons_there}
 use Rattle.cert_merge.proofs.united_rows.reasons_of.Goals as goal

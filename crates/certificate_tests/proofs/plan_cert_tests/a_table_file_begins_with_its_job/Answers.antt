@@ -1,5 +1,5 @@
 use Rattle.std.proofs.Common.{arith, ◌≡◌, ap}
-use Rattle.plan_cert.specs.Reading.{Reading}
+use Rattle.plan_lines.specs.Reading.{Reading}
 use Rattle.plan_cert.proofs.Collecting.{some_answer}
 use Rattle.certificate_tests.proofs.plan_cert_tests.a_table_file_begins_with_its_job.Goals as goal
 

@@ -1,6 +1,6 @@
 use Rattle.std.proofs.Common.{◌-◌, ◌<◌, not, length, Ok}
 use Rattle.plan_cert.specs.Cert.{cert_data}
-use Rattle.plan_cert.specs.Items.{items}
+use Rattle.plan_lines.specs.Items.{items}
 use Rattle.plan_cert.specs.CertReading.{Collects}
 use Rattle.plan_cert.proofs.cert_reading.collect.Given as goal
 

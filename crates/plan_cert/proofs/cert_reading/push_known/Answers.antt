@@ -2,10 +2,10 @@ use Rattle.std.proofs.Common.{◌≡◌, ◌<◌, ℕ, ◌%◌, suc, List, [], �
 use Rattle.std.proofs.lemmas.List.{append-nil}
 use Rattle.std.proofs.lemmas.List.Elements.{All-rest}
 use Rattle.stage_lanes.specs.ActionSets.{place_of, places_of}
-use Rattle.plan_cert.specs.declared.cert.Note.{Note}
-use Rattle.plan_cert.specs.CertReading.{note_by}
-use Rattle.plan_cert.specs.NoteLines.{IsKnownAt}
-use Rattle.plan_cert.proofs.NoteSets.{first_place, no_places, place_below, at_place, stage_of_place}
+use Rattle.plan_lines.specs.declared.note.Note.{Note}
+use Rattle.plan_lines.specs.NoteLines.{note_by}
+use Rattle.plan_lines.specs.NoteLines.{IsKnownAt}
+use Rattle.plan_lines.proofs.NoteSets.{first_place, no_places, place_below, at_place, stage_of_place}
 use Rattle.plan_cert.proofs.cert_reading.push_known.Goals as goal
 
 pub note-requires : goal.note-requires

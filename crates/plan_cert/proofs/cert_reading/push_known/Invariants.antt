@@ -1,7 +1,7 @@
 use Rattle.std.proofs.Common.{◌≡◌, ◌++◌, length, map}
 use Rattle.stage_lanes.specs.ActionSets.{places_of}
-use Rattle.plan_cert.specs.CertReading.{note_by}
-use Rattle.plan_cert.specs.NoteLines.{AreKnownAll}
+use Rattle.plan_lines.specs.NoteLines.{note_by}
+use Rattle.plan_lines.specs.NoteLines.{AreKnownAll}
 use Rattle.plan_cert.proofs.cert_reading.push_known.Given as goal
 
 -- the notes so far and those of the actions that are left are all

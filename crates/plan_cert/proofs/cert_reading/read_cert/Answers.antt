@@ -2,8 +2,8 @@ use Rattle.std.proofs.Common.{◌≡◌, Ok, Err}
 use Rattle.std.specs.Prelude.{Result, IfOk}
 use Rattle.toml_fields.specs.Results.{GivesOr}
 use Rattle.plan_cert.specs.declared.cert_reading.CertFile.{CertFile}
-use Rattle.plan_cert.specs.declared.item.CertFault.{CertFault}
-use Rattle.plan_cert.specs.declared.item.CertFault.TheVariants.{NoMemory}
+use Rattle.plan_lines.specs.declared.item.CertFault.{CertFault}
+use Rattle.plan_lines.specs.declared.item.CertFault.TheVariants.{NoMemory}
 use Rattle.plan_cert.specs.CertReading.{cert_file_data, cert_file_of}
 use Rattle.plan_cert.specs.CertItems.{IsReadFrom}
 use Rattle.plan_cert.specs.ExactTexts.{IsExact}

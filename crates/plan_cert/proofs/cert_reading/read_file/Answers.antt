@@ -2,7 +2,7 @@ use Rattle.std.proofs.Common.{◌≡◌, Ok, Err, subst, sym}
 use Rattle.std.specs.Prelude.{◌⊎◌}
 use Rattle.std.proofs.lemmas.Result.{err_from_is_err_and}
 use Rattle.toml_fields.specs.Results.{GivesOr}
-use Rattle.plan_cert.specs.declared.item.CertFault.TheVariants.{NoMemory}
+use Rattle.plan_lines.specs.declared.item.CertFault.TheVariants.{NoMemory}
 use Rattle.plan_cert.specs.Cert.{cert_data}
 use Rattle.plan_cert.specs.CertReading.{cert_file_data, file_of, BeginsWith}
 use Rattle.plan_cert.proofs.Collecting.{read_ok, read_err}

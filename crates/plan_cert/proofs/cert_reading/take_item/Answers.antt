@@ -1,8 +1,8 @@
 use Rattle.std.proofs.Common.{Err, inr, subst, sym, ap, ◌∙◌}
 use Rattle.std.proofs.lemmas.Result.{err_from_is_err_and}
 use Rattle.plan_cert.specs.Cert.{cert_data}
-use Rattle.plan_cert.specs.Items.{items}
-use Rattle.plan_cert.specs.PlanItem.{item_of}
+use Rattle.plan_lines.specs.Items.{items}
+use Rattle.plan_lines.specs.PlanItem.{item_of}
 use Rattle.plan_cert.specs.CertReading.{Collects}
 use Rattle.plan_cert.proofs.Collecting.{refused, collects}
 use Rattle.plan_cert.proofs.cert_reading.take_item.Goals as goal

@@ -1,9 +1,9 @@
 use Rattle.std.proofs.Common.{refl, sym, subst, ap, ◌∙◌, ◌+◌}
 use Rattle.stage_lanes.specs.ActionSets.{places_of}
 use Rattle.plan_cert.specs.Cert.{cert_data}
-use Rattle.plan_cert.specs.Reading.{Reading}
+use Rattle.plan_lines.specs.Reading.{Reading}
 use Rattle.plan_cert.specs.CertReading.{AnswersLeft, Collects, with_known}
-use Rattle.plan_cert.specs.NoteLines.{KnownReasons}
+use Rattle.plan_lines.specs.NoteLines.{KnownReasons}
 use Rattle.plan_cert.proofs.KnownRead.{known_further, known_collects, none_read}
 use Rattle.plan_cert.proofs.cert_reading.take_items.Goals as goal
 

@@ -1,4 +1,4 @@
-use Rattle.plan_cert.proofs.Actions.{action_is}
+use Rattle.plan_lines.proofs.Actions.{action_is}
 use Rattle.plan_cert.proofs.rows.action_at.Goals as goal
 
 pub returns : goal.returns

@@ -1,6 +1,6 @@
 use Rattle.std.proofs.Common.{◌≡◌, ◌++◌, take}
 use Rattle.std.specs.List.{flat_map}
-use Rattle.plan_cert.specs.Lines.{line_text}
+use Rattle.cert_lines.specs.Lines.{line_text}
 use Rattle.plan_cert.specs.CertText.{line_of_note}
 use Rattle.plan_cert.proofs.rows.put_notes.Given as goal
 

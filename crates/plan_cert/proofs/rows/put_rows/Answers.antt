@@ -1,7 +1,7 @@
 use Rattle.std.proofs.Common.{refl, arith, ◌*◌, ◌<◌}
 use Rattle.std.specs.List.{prefix_len}
 use Rattle.std.proofs.lemmas.List.Elements.{All-take, All-drop}
-use Rattle.plan_cert.specs.declared.cert.Note.{Note}
+use Rattle.plan_lines.specs.declared.note.Note.{Note}
 use Rattle.plan_cert.proofs.NoteOrder.{is_of, ascend}
 use Rattle.plan_cert.proofs.RowTexts.{rows_more, rows_done}
 use Rattle.plan_cert.proofs.rows.put_rows.Goals as goal

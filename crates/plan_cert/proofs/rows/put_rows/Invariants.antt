@@ -1,6 +1,6 @@
 use Rattle.std.proofs.Common.{◌≡◌, ◌*◌, ◌<◌, ◌++◌, drop, All}
-use Rattle.plan_cert.specs.declared.cert.Note.{Note}
-use Rattle.plan_cert.specs.Lines.{lines_text}
+use Rattle.plan_lines.specs.declared.note.Note.{Note}
+use Rattle.cert_lines.specs.Lines.{lines_text}
 use Rattle.plan_cert.proofs.NoteOrder.{Ascend}
 use Rattle.plan_cert.proofs.RowTexts.{lines_from}
 use Rattle.plan_cert.proofs.rows.put_rows.Given as goal

@@ -1,6 +1,6 @@
 use Rattle.std.proofs.Common.{◌≡◌, ◌++◌, take}
 use Rattle.std.specs.List.{flat_map}
-use Rattle.plan_cert.specs.Lines.{line_text, step_line}
+use Rattle.cert_lines.specs.Lines.{line_text, step_line}
 use Rattle.plan_cert.proofs.writing.put_steps.Given as goal
 
 abbrev pub invariant-loop-step : goal.invariant-loop-step

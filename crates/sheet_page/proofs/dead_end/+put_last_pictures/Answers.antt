@@ -3,7 +3,7 @@ use Rattle.std.specs.Prelude.{int_lt, ◌&&◌}
 use Rattle.std.proofs.lemmas.Int.{ints}
 use Rattle.algebra.proofs.Widths.{fits_64}
 use Rattle.brake_base.specs.declared.reason.Reason.TheVariants.{Cover}
-use Rattle.plan_cert.specs.declared.cert.Note.{Note}
+use Rattle.plan_lines.specs.declared.note.Note.{Note}
 use Rattle.sheet_page.specs.Pictured.{is_pictured, GoesOn}
 use Rattle.sheet_page.proofs.Pictures.{last_more}
 use Rattle.sheet_page.proofs.dead_end.+put_last_pictures.Goals as goal

@@ -1,6 +1,6 @@
 use Rattle.std.proofs.Common.{◌≡◌, ◌∙◌, ◌+◌, not, get_or, take, ap, sym, arith}
 use Rattle.std.specs.List.{list_any}
-use Rattle.plan_cert.specs.declared.cert.Note.{Note}
+use Rattle.plan_lines.specs.declared.note.Note.{Note}
 use Rattle.sheet_page.specs.Pictured.{is_one_hit}
 use Rattle.sheet_page.specs.Refused.{is_one_row, row_firsts}
 use Rattle.sheet_page.proofs.Firsts.{none_more, found_more, firsts_any_kept}

@@ -1,6 +1,6 @@
 use Rattle.std.proofs.Common.{◌≡◌, false, get_or, take}
 use Rattle.std.specs.List.{list_any}
-use Rattle.plan_cert.specs.declared.cert.Note.{Note}
+use Rattle.plan_lines.specs.declared.note.Note.{Note}
 use Rattle.sheet_page.specs.Pictured.{is_one_hit}
 use Rattle.sheet_page.specs.Refused.{row_firsts}
 use Rattle.sheet_page.proofs.dead_end.is_first_hit.Given as goal

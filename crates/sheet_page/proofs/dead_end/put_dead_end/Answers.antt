@@ -3,7 +3,7 @@ use Rattle.std.proofs.lemmas.Int.{ints}
 use Rattle.algebra.proofs.Widths.{fits_64}
 use Rattle.brake_base.specs.declared.mask.Mask.{Mask}
 use Rattle.job_setup.specs.Setup.{JobData}
-use Rattle.plan_cert.specs.declared.cert.Note.{Note}
+use Rattle.plan_lines.specs.declared.note.Note.{Note}
 use Rattle.svg_text.specs.Forms.{line_of}
 use Rattle.sheet_page.specs.declared.forms.TheConstants.{ROW, SECTION_END}
 use Rattle.sheet_page.specs.NoPlan.{dead_end_text}

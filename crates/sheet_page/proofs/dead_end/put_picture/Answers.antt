@@ -1,6 +1,6 @@
 use Rattle.std.proofs.Common.{◌∙◌, get_or, FitsSigned, to_z-of_z, w64, sym, subst, ap}
 use Rattle.std.specs.Prelude.{IfOk}
-use Rattle.plan_cert.specs.declared.cert.Note.{Note}
+use Rattle.plan_lines.specs.declared.note.Note.{Note}
 use Rattle.sheet_views.specs.Swept.{swept_by}
 use Rattle.sheet_figures.specs.Refusals.{IsRefusal}
 use Rattle.sheet_page.specs.Pictured.{AreOfNote}

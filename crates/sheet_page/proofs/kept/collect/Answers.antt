@@ -2,8 +2,8 @@ use Rattle.std.proofs.Common.{◌≡◌, List, All, sym, subst}
 use Rattle.std.specs.Prelude.{AllPairs}
 use Rattle.handling_cost.proofs.Actions.{few_bends}
 use Rattle.job_setup.specs.Setup.{JobData}
-use Rattle.plan_cert.specs.declared.cert.Note.{Note}
-use Rattle.plan_cert.specs.declared.cert.RowHead.{RowHead}
+use Rattle.plan_lines.specs.declared.note.Note.{Note}
+use Rattle.cert_lines.specs.declared.row_head.RowHead.{RowHead}
 use Rattle.plan_cert.specs.WellFormed.{IsNote, NoteIsBefore}
 use Rattle.sheet_page.specs.Kept.{HaveActions}
 use Rattle.sheet_page.proofs.KeptNotes.{all_numbered}

@@ -1,7 +1,7 @@
 use Rattle.std.proofs.Common.{◌≡◌, ◌∙◌, ◌+◌, ◌-◌, ◌≤◌, ℕ, [], ◌∷◌, ◌++◌, length, take, drop, refl, sym, subst, arith}
 use Rattle.std.proofs.lemmas.List.{length-take, length-drop}
 use Rattle.handling_cost.proofs.Actions.{few_bends}
-use Rattle.plan_cert.specs.declared.cert.RowHead.{RowHead}
+use Rattle.cert_lines.specs.declared.row_head.RowHead.{RowHead}
 use Rattle.sheet_page.specs.declared.kept.Kept.{Kept}
 use Rattle.sheet_page.specs.declared.kept.State.{State}
 use Rattle.sheet_page.specs.Kept.{AreNotesAt, notes_between, state_data, IsStateOf, IsKept, HasFew}

@@ -1,6 +1,6 @@
 use Rattle.std.proofs.Common.{◌≡◌, ℕ, ◌≤◌, ◌<◌, ◌++◌, List, length, get_or, drop}
 use Rattle.std.specs.Prelude.{None}
-use Rattle.plan_cert.specs.declared.cert.Note.{Note}
+use Rattle.plan_lines.specs.declared.note.Note.{Note}
 use Rattle.sheet_page.specs.Kept.{StateData, last_states, IsKept, HasFew}
 use Rattle.sheet_page.proofs.kept.kept_of.Given as goal
 

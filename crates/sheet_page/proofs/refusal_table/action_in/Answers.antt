@@ -1,6 +1,6 @@
 use Rattle.std.proofs.Common.{◌<◌, ◌*◌, ◌∙◌, ℕ, ap, arith}
-use Rattle.plan_cert.specs.Lines.{action_at}
-use Rattle.plan_cert.proofs.Actions.{action_is}
+use Rattle.cert_lines.specs.Lines.{action_at}
+use Rattle.plan_lines.proofs.Actions.{action_is}
 use Rattle.sheet_page.proofs.refusal_table.action_in.Goals as goal
 
 pub returns-clause-value : goal.returns-clause-value

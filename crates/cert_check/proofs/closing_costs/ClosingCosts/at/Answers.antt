@@ -2,7 +2,7 @@ use Rattle.std.proofs.Common.{◌≡◌, ℕ, sym, ap, subst, ◌∙◌, get_or,
 use Rattle.stage_lanes.specs.declared.actions.ActionSet.{ActionSet}
 use Rattle.stage_lanes.specs.declared.costs.StageCosts.{StageCosts}
 use Rattle.cert_check.specs.ClosingCosts.{IsClosing}
-use Rattle.plan_cert.proofs.Kept.{one_kept}
+use Rattle.plan_lines.proofs.Kept.{one_kept}
 use Rattle.cert_check.proofs.closing_costs.ClosingCosts.at.Goals as goal
 
 pub returns-in-Some-clause-closing : goal.returns-in-Some-clause-closing

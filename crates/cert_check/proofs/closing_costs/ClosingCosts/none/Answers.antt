@@ -1,5 +1,5 @@
 use Rattle.cert_check.specs.ClosingCosts.{IsClosing}
-use Rattle.plan_cert.proofs.Kept.{none_kept}
+use Rattle.plan_lines.proofs.Kept.{none_kept}
 use Rattle.cert_check.proofs.closing_costs.ClosingCosts.none.Goals as goal
 
 pub returns-clause-found : goal.returns-clause-found

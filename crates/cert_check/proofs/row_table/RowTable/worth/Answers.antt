@@ -2,7 +2,7 @@ use Rattle.std.proofs.Common.{◌≡◌, ℕ, ◌+◌, ◌-◌, get_or, Some, No
 use Rattle.std.proofs.lemmas.List.{get_or_default}
 use Rattle.brake_base.specs.declared.stroke.Worth.TheVariants.{Blocked}
 use Rattle.handling_cost.specs.StepCost.{IsKeyOf}
-use Rattle.plan_cert.specs.declared.cert.RowHead.{RowHead}
+use Rattle.cert_lines.specs.declared.row_head.RowHead.{RowHead}
 use Rattle.plan_cert.specs.KeyPlaces.{key_place}
 use Rattle.cert_check.specs.RowTable.{RowsOf, IsWorthAt}
 use Rattle.cert_check.proofs.Indexes.{key_within, no_worth, some_worth}

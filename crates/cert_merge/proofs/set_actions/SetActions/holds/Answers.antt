@@ -4,7 +4,7 @@ use Rattle.brake_base.specs.declared.stroke.Action.{Action}
 use Rattle.job_setup.specs.Setup.{stage_count}
 use Rattle.handling_cost.specs.StepCost.{IsActionAt}
 use Rattle.handling_cost.specs.Plan.{IsReasonFor}
-use Rattle.plan_cert.specs.Lines.{action_at}
+use Rattle.cert_lines.specs.Lines.{action_at}
 use Rattle.cert_merge.proofs.SetLemmas.{kept_more}
 use Rattle.cert_merge.proofs.set_actions.SetActions.holds.Goals as goal
 

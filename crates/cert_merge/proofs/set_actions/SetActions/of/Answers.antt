@@ -1,4 +1,4 @@
-use Rattle.plan_cert.proofs.NumberedActions.{held_none}
+use Rattle.plan_lines.proofs.NumberedActions.{held_none}
 use Rattle.cert_merge.proofs.set_actions.SetActions.of.Goals as goal
 
 pub returns-clause-actions : goal.returns-clause-actions

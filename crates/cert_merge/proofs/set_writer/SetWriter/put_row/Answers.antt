@@ -1,8 +1,8 @@
 use Rattle.std.proofs.Common.{sym, subst}
 use Rattle.std.proofs.lemmas.Result.{on_ok_weaker}
 use Rattle.brake_base.specs.declared.mask.Mask.{Mask}
-use Rattle.plan_cert.specs.declared.cert.RowHead.{RowHead}
-use Rattle.plan_cert.specs.WellFormed.{IsWorth}
+use Rattle.cert_lines.specs.declared.row_head.RowHead.{RowHead}
+use Rattle.cert_lines.specs.Lines.{IsWorth}
 use Rattle.cert_merge.specs.SetRows.{IsSetOf, AreNotesOf}
 use Rattle.cert_merge.proofs.SetNotes.{row_is_put}
 use Rattle.cert_merge.proofs.set_writer.SetWriter.put_row.Goals as goal

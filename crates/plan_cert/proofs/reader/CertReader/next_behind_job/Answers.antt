@@ -1,10 +1,10 @@
 use Rattle.std.proofs.Common.{arith, ◌≡◌, ◌<◌, [], length, drop, Some, sym, subst, refl}
 use Rattle.std.specs.Prelude.{slice_get}
-use Rattle.plan_cert.specs.Reading.{Reading}
-use Rattle.plan_cert.specs.PlanItem.{plan_answer}
-use Rattle.plan_cert.specs.Items.{items}
-use Rattle.plan_cert.proofs.ItemCounts.{few_items, some_left}
-use Rattle.plan_cert.proofs.Begun.{leaves_at, answered_on, holds_last}
+use Rattle.plan_lines.specs.Reading.{Reading}
+use Rattle.plan_lines.specs.PlanItem.{plan_answer}
+use Rattle.plan_lines.specs.Items.{items}
+use Rattle.plan_lines.proofs.ItemCounts.{few_items, some_left}
+use Rattle.plan_lines.proofs.Begun.{leaves_at, answered_on, holds_last}
 use Rattle.plan_cert.proofs.reader.CertReader.next_behind_job.Goals as goal
 
 pub overflow_add-self : goal.overflow_add-self

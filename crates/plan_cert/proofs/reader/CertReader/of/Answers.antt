@@ -1,5 +1,5 @@
 use Rattle.std.proofs.Common.{List, ℕ, ap, sym}
-use Rattle.plan_cert.specs.Items.{items}
+use Rattle.plan_lines.specs.Items.{items}
 use Rattle.plan_cert.proofs.reader.CertReader.of.Goals as goal
 
 pub invariant_of-result : goal.invariant_of-result

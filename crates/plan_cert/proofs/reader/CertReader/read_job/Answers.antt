@@ -1,9 +1,9 @@
 use Rattle.std.proofs.Common.{arith, ◌≡◌, [], Some, sym, subst, refl}
 use Rattle.std.specs.Prelude.{slice_get}
-use Rattle.plan_cert.specs.Reading.{Reading}
-use Rattle.plan_cert.specs.PlanItem.{job_answer}
-use Rattle.plan_cert.specs.Items.{items}
-use Rattle.plan_cert.proofs.Begun.{first_answered, holds_last}
+use Rattle.plan_lines.specs.Reading.{Reading}
+use Rattle.plan_lines.specs.PlanItem.{job_answer}
+use Rattle.plan_lines.specs.Items.{items}
+use Rattle.plan_lines.proofs.Begun.{first_answered, holds_last}
 use Rattle.plan_cert.proofs.reader.CertReader.read_job.Goals as goal
 
 pub overflow_add-self : goal.overflow_add-self

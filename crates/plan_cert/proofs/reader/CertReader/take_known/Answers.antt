@@ -1,12 +1,12 @@
 use Rattle.std.proofs.Common.{◌≡◌, ◌+◌, [], ◌++◌, ◌<◌, length, drop, sym, subst, ◌∙◌, arith}
 use Rattle.std.proofs.lemmas.List.{length-map}
 use Rattle.stage_lanes.specs.ActionSets.{places_of}
-use Rattle.plan_cert.specs.Reading.{Reading}
-use Rattle.plan_cert.specs.Items.{items}
-use Rattle.plan_cert.specs.NoteLines.{note_told, notes_told}
-use Rattle.plan_cert.proofs.ItemCounts.{few_items}
-use Rattle.plan_cert.proofs.Begun.{leaves_at}
-use Rattle.plan_cert.proofs.NoteAnswers.{answered_all, told_few}
+use Rattle.plan_lines.specs.Reading.{Reading}
+use Rattle.plan_lines.specs.Items.{items}
+use Rattle.plan_lines.specs.NoteLines.{note_told, notes_told}
+use Rattle.plan_lines.proofs.ItemCounts.{few_items}
+use Rattle.plan_lines.proofs.Begun.{leaves_at}
+use Rattle.plan_lines.proofs.NoteAnswers.{answered_all, told_few}
 use Rattle.plan_cert.proofs.reader.CertReader.take_known.Goals as goal
 
 pub overflow_add-self : goal.overflow_add-self

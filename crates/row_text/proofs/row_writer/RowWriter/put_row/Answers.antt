@@ -2,7 +2,7 @@ use Rattle.std.proofs.Common.{◌≡◌, ℕ, ◌<◌, List, [], ◌∷◌, ◌+
 use Rattle.std.proofs.lemmas.List.{get_or_default}
 use Rattle.std.proofs.lemmas.Result.{on_ok_weaker}
 use Rattle.brake_base.specs.declared.mask.Mask.{Mask}
-use Rattle.plan_cert.specs.Lines.{lines_text, row_line}
+use Rattle.cert_lines.specs.Lines.{lines_text, row_line}
 use Rattle.plan_cert.specs.CertText.{line_of_note}
 use Rattle.row_text.specs.RowWords.{row_start}
 use Rattle.row_text.specs.Notes.{SetNotes, IsAmong, notes_of}

@@ -2,7 +2,7 @@ use Rattle.std.proofs.Common.{◌∙◌, ◌+◌, ℕ, List, sym, ap, subst}
 use Rattle.std.specs.Prelude.{count_by}
 use Rattle.std.proofs.lemmas.Bool.{eq-eqb, ne_eqb}
 use Rattle.std.proofs.lemmas.List.{length_push}
-use Rattle.plan_cert.specs.declared.cert.Note.{Note}
+use Rattle.plan_lines.specs.declared.note.Note.{Note}
 use Rattle.sheet_page.specs.Kept.{StateData, state_data, notes_of, refusal_count, is_of, dead_ends, AreDeadEnds}
 use Rattle.sheet_page.specs.Left.{strokes_left}
 use Rattle.sheet_page.proofs.KeptStates.{count_more, ends_more, ends_kept}

@@ -1,6 +1,6 @@
 use Rattle.std.proofs.Common.{◌≡◌, false, get_or, take}
 use Rattle.std.specs.List.{list_any}
-use Rattle.plan_cert.specs.declared.cert.Note.{Note}
+use Rattle.plan_lines.specs.declared.note.Note.{Note}
 use Rattle.sheet_page.specs.Refused.{is_one_row}
 use Rattle.sheet_page.proofs.refusal_table.Refusals.is_first_of_row.Given as goal
 

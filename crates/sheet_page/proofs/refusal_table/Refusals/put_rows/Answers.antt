@@ -1,6 +1,6 @@
 use Rattle.std.proofs.Common.{sym, append-nil, arith}
 use Rattle.brake_base.specs.declared.reason.Reason.TheVariants.{Cover}
-use Rattle.plan_cert.specs.declared.cert.Note.{Note}
+use Rattle.plan_lines.specs.declared.note.Note.{Note}
 use Rattle.sheet_page.specs.Refused.{is_one_row, refusal_row}
 use Rattle.sheet_page.proofs.Firsts.{texts_more, texts_all}
 use Rattle.sheet_page.proofs.refusal_table.Refusals.put_rows.Goals as goal

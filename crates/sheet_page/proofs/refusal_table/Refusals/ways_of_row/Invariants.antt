@@ -1,6 +1,6 @@
 use Rattle.std.proofs.Common.{◌≡◌, ℕ, get_or, take}
 use Rattle.brake_base.specs.declared.stroke.Back.{Back}
-use Rattle.plan_cert.specs.declared.cert.Note.{Note}
+use Rattle.plan_lines.specs.declared.note.Note.{Note}
 use Rattle.sheet_page.specs.Refused.{is_refused_so}
 use Rattle.sheet_page.specs.Ways.{has_mark}
 use Rattle.sheet_page.proofs.refusal_table.Refusals.ways_of_row.Given as goal

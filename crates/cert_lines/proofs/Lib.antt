@@ -1,0 +1,17 @@
+pub mod JobDecided
+pub mod Texts
+pub mod JobTexts
+pub mod WholeLines
+pub mod Each
+pub mod Readers
+pub mod FormatLines
+pub mod Naturals
+pub mod FoldShown
+pub mod FoldWritten
+pub mod FoldFormats
+pub mod WordsRead
+pub mod TextLines
+pub mod Spelling
+pub mod JobLineRead
+pub mod LinesTaken
+pub mod JobLinesFit

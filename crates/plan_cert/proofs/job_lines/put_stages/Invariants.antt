@@ -1,9 +1,0 @@
-use Rattle.std.proofs.Common.{◌≡◌, ◌++◌, take}
-use Rattle.std.specs.List.{flat_map}
-use Rattle.job_setup.specs.Setup.{stage_data}
-use Rattle.plan_cert.specs.Lines.{lines_text}
-use Rattle.plan_cert.specs.JobText.{stage_lines}
-use Rattle.plan_cert.proofs.job_lines.put_stages.Given as goal
-
-abbrev pub invariant-loop-stage : goal.invariant-loop-stage
-invariant-loop-stage l = l.out.items ≡ l.initial.out.items ++ flat_map (λ stage. lines_text (stage_lines (stage_data stage))) (take l.stage-index l.stages)

@@ -1,6 +1,0 @@
-use Rattle.plan_cert.specs.NoteLines.{AreLeads}
-use Rattle.plan_cert.proofs.set_leads.SetLeads.at.Given as goal
-
--- each bend so far is a lead
-abbrev pub invariant-loop-bend : goal.invariant-loop-bend
-invariant-loop-bend l = AreLeads l.facts (record { folded = l.folded; leads = l.leads })

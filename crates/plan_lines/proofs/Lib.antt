@@ -1,0 +1,17 @@
+pub mod Actions
+pub mod Trailing
+pub mod PlanItems
+pub mod FactsKept
+pub mod JobItems
+pub mod ItemCounts
+pub mod Begun
+pub mod PlanLineRead
+pub mod LeadingRows
+pub mod Kept
+pub mod KnownLines
+pub mod NoteSets
+pub mod NoteRuns
+pub mod NoteAnswers
+pub mod JobSplits
+pub mod ActionNumbers
+pub mod NumberedActions

@@ -1,0 +1,13 @@
+use Rattle.plan_lines.proofs.NoteAnswers.{none_held, none_by}
+use Rattle.plan_lines.proofs.note_lines.NoteLines.forget.Goals as goal
+
+pub invariant_of-self : goal.invariant_of-self
+invariant_of-self c = record {
+  few = c.self.invariant.few;
+  are_held = none_held c.self.inside.facts 144;
+  are_leads = c.self.invariant.are_leads;
+  is_block = c.no_block-self-inside.ensures c.self.inside.facts _;
+}
+
+pub returns-clause-none : goal.returns-clause-none
+returns-clause-none c = λ number. none_by 144 number

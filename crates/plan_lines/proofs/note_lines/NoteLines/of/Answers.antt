@@ -1,0 +1,13 @@
+use Rattle.plan_lines.proofs.NoteAnswers.{none_held, none_by}
+use Rattle.plan_lines.proofs.note_lines.NoteLines.of.Goals as goal
+
+pub invariant_of-result : goal.invariant_of-result
+invariant_of-result c = record {
+  few = c.requires;
+  are_held = none_held c.args.facts 144;
+  are_leads = c.none.ensures c.args.facts;
+  is_block = c.no_block.ensures c.args.facts _;
+}
+
+pub returns-clause-none : goal.returns-clause-none
+returns-clause-none c = λ number. none_by 144 number

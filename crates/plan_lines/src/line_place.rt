@@ -1,0 +1,36 @@
+//! Where a reader stands in a text behind the job.
+ghost use Rattle.std.specs.Prelude.{◌≡◌};
+ghost use Rattle.plan_lines.specs.Facts.{HasFew};
+ghost use Rattle.plan_lines.specs.Items.{next_number};
+
+use crate::job_facts::JobFacts;
+use crate::section::Section;
+
+/// Where a reader stands in a text behind the job: the number of its next line, where that line
+/// stands, and what is kept of the job.
+#[derive(Clone, Copy)]
+pub struct LinePlace {
+    pub number: u32,
+    pub section: Section,
+    pub facts: JobFacts,
+}
+
+impl LinePlace {
+    /// A place before a job is known.
+    pub fn none() -> LinePlace
+        ensures { HasFew result.facts }
+    {
+        LinePlace {
+            number: 1,
+            section: Section::Over,
+            facts: JobFacts::none(),
+        }
+    }
+}
+
+/// The number of the line behind a line, which stands still at the greatest number.
+pub fn next_number(number: u32) -> u32
+    ensures { result ≡ next_number number }
+{
+    number.saturating_add(1)
+}

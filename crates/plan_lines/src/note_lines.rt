@@ -1,0 +1,352 @@
+//! The lines of notes that are known by their actions, and those of the last row as one text. Rows of
+//! a set have mostly the same notes, and notes that are known needn't be read one by one.
+ghost use Rattle.std.specs.Prelude.{◌≡◌, ℕ, ◌+◌, ◌≤◌, ◌<◌, ◌++◌, List, length, Option, Result, Ok, None, true, IsTrue, IfSome};
+ghost use Rattle.brake_base.specs.declared.mask.Mask.{Mask};
+ghost use Rattle.job_setup.specs.Setup.{JobData};
+ghost use Rattle.plan_lines.specs.declared.item.Item.{Item};
+ghost use Rattle.plan_lines.specs.declared.item.CertFault.{CertFault};
+ghost use Rattle.plan_lines.specs.declared.job_facts.JobFacts.{JobFacts};
+ghost use Rattle.plan_lines.specs.declared.known_note.KnownNote.{KnownNote};
+ghost use Rattle.brake_base.specs.Actions.{IsActionAmong};
+ghost use Rattle.stage_lanes.specs.ActionSets.{place_of, places_of};
+ghost use Rattle.plan_lines.specs.Facts.{HasFew, KeepsFacts};
+ghost use Rattle.plan_lines.specs.PlanItem.{item_of, plan_answer};
+ghost use Rattle.plan_lines.specs.Reading.{LeavesAt};
+ghost use Rattle.cert_lines.specs.LineReading.{IsBehind};
+ghost use Rattle.plan_lines.specs.NoteLines.{note_by};
+ghost use Rattle.plan_lines.specs.NoteLines.{KnownReasons, reason_by, or_cover, KnowsNoMore, KnowsAtMost, LearnsFrom, IsHeld, IsRun, IsBlock, IsTaken, notes_told, AreKnownAll, GivesAll, numbers_on};
+
+use crate::item::{CertFault, PlanItem};
+use crate::job_facts::JobFacts;
+use crate::known_note::{KnownNote, is_of, note_of};
+use crate::note::Note;
+use crate::note_run::{NoteBlock, NoteRun, take_lines};
+use crate::plan_reader::PlanReader;
+use crate::section::Section;
+use crate::set_leads::SetLeads;
+use brake_base::{Action, Mask, Reason, action_number};
+use cert_lines::{Format, whole_line};
+use stage_lanes::ActionSet;
+use std::marker::Model;
+
+/// Notes of which the lines are known, one for each action at most, from the texts of one kind of
+/// job. They are seen as the number of stages and the reasons by the numbers of the actions.
+#[derive(Drop)]
+pub struct NoteLines<'a> {
+    facts: JobFacts,
+    notes: [Option<KnownNote<'a>>; 144],
+    leads: SetLeads,
+    block: NoteBlock<'a>,
+}
+
+impl<'a> Model for NoteLines<'a> {
+    ghost use Rattle.plan_lines.specs.NoteLines.{KnownReasons, known_reasons, AreNoteLines};
+
+    ghost Value = { KnownReasons };
+
+    ghost view = { λ t. known_reasons t.facts.stages t.notes };
+
+    ghost invariant = { λ t. AreNoteLines t.facts t.notes t.leads t.block };
+}
+
+/// Whether the masks are the same.
+fn are_equal(masks: &[Mask; 12], others: &[Mask; 12]) -> bool
+    ensures { IsTrue result → masks.now ≡ others.now }
+{
+    masks == others
+}
+
+/// Whether the facts agree but for the format.
+fn are_same(facts: &JobFacts, other: &JobFacts) -> bool
+    ensures { IsTrue result → (job : JobData) → KeepsFacts facts.now job
+        → KeepsFacts other.now job }
+{
+    if !is_of(facts.bends, facts.stages, other) {
+        return false;
+    }
+    are_equal(&facts.earlier, &other.earlier)
+}
+
+/// The first note of the text, where it is held at this number and says this.
+fn told_note<'a>(
+    text: &'a [u8],
+    facts: &JobFacts,
+    number: u8,
+    reason: Reason,
+) -> Option<KnownNote<'a>>
+    requires { HasFew facts.now }
+    ensures held { IfSome result (IsHeld facts.now number) }
+    ensures reason { IfSome result (λ note. note.reason ≡ reason) }
+    ensures number { IfSome result (λ note. number < 144) }
+{
+    let (line, _) = whole_line(text)?;
+    let note = note_of(line, facts.bends, facts.stages)?;
+    if action_number(note.action, facts.stages) == number && note.reason == reason {
+        Some(note)
+    } else {
+        None
+    }
+}
+
+/// The block of no note.
+fn no_block<'a>() -> NoteBlock<'a>
+    ensures { (facts : JobFacts) (held : List (Option KnownNote)) → IsBlock facts held result }
+{
+    NoteBlock {
+        leads: Mask::empty(),
+        notes: ActionSet::empty(),
+        count: 0,
+        least: 0,
+        text: b"",
+    }
+}
+
+/// The run of no note.
+fn no_run<'a>(least: u8, text: &'a [u8]) -> NoteRun<'a>
+    ensures count { result.count ≤ result.least }
+    ensures run { (facts : JobFacts) (held : List (Option KnownNote)) (leads : Mask)
+        → IsRun facts held leads least text.now result }
+    ensures taken { (facts : JobFacts) (known : KnownReasons) (folded : Mask)
+        → IsTaken facts known folded least text.now result }
+{
+    NoteRun {
+        notes: ActionSet::empty(),
+        count: 0,
+        least,
+        rest: text,
+    }
+}
+
+/// The notes of the block, where the text behind a row goes on with them, or else none.
+fn first_run<'a>(block: &NoteBlock, leads: Mask, least: u8, text: &'a [u8]) -> NoteRun<'a>
+    ensures run { (facts : JobFacts) (held : List (Option KnownNote)) → IsBlock facts held block.now
+        → (result.count ≤ result.least) × IsRun facts held leads least text.now result }
+{
+    if least != 0 || leads != block.leads {
+        return no_run(least, text);
+    }
+    match text.strip_prefix(block.text) {
+        Some(rest) => NoteRun {
+            notes: block.notes,
+            count: block.count,
+            least: block.least,
+            rest,
+        },
+        None => no_run(least, text),
+    }
+}
+
+/// The block of the notes that were taken behind a row.
+fn block_of<'a>(leads: Mask, text: &'a [u8], run: &NoteRun) -> NoteBlock<'a>
+    requires count { run.now.count ≤ run.now.least }
+    requires rest { length run.now.rest.now ≤ length text.now }
+    ensures { (facts : JobFacts) (held : List (Option KnownNote))
+        → IsRun facts held leads 0 text.now run.now → IsBlock facts held result }
+{
+    NoteBlock {
+        leads,
+        notes: run.notes,
+        count: run.count,
+        least: run.least,
+        text: &text[..text.len() - run.rest.len()],
+    }
+}
+
+impl<'a> NoteLines<'a> {
+    /// No note is known, on a machine of so many stages.
+    pub fn new(stages: u8) -> NoteLines<'a>
+        requires { stages ≤ 6 }
+        ensures stages { result.stages ≡ stages }
+        ensures none { (number : ℕ) → reason_by result number ≡ None }
+    {
+        NoteLines::of(JobFacts {
+            format: Format::Version2,
+            bends: 0,
+            stages,
+            earlier: [Mask::empty(); 12],
+        })
+    }
+
+    /// No note is known, of a job of which this is kept.
+    fn of(facts: JobFacts) -> NoteLines<'a>
+        requires { HasFew facts }
+        ensures stages { result.stages ≡ facts.stages }
+        ensures none { (number : ℕ) → reason_by result number ≡ None }
+    {
+        NoteLines {
+            facts,
+            notes: [None; 144],
+            leads: SetLeads::none(),
+            block: no_block(),
+        }
+    }
+
+    /// No note is known from now on.
+    pub fn forget(&mut self)
+        ensures stages { self.new.stages ≡ self.old.stages }
+        ensures none { (number : ℕ) → reason_by self.new number ≡ None }
+    {
+        self.notes = [None; 144];
+        self.block = no_block();
+    }
+
+    /// Turns to texts of a job of which this is kept, and forgets all notes where the job is another.
+    fn turn_to(&mut self, facts: &JobFacts)
+        requires few { HasFew facts.now }
+        requires stages { facts.now.stages ≡ self.old.stages }
+        ensures { KnowsNoMore self.old self.new }
+    {
+        if !are_same(facts, &self.facts) {
+            *self = NoteLines::of(*facts);
+        }
+    }
+
+    /// The number of stages.
+    fn stages(&self) -> u8
+        ensures value { result ≡ self.now.stages }
+        ensures few { result ≤ 6 }
+    {
+        self.facts.stages
+    }
+
+    /// The reason that is known against the action of a number, or Cover where none is.
+    fn reason(&self, number: u8) -> Reason
+        ensures { result ≡ or_cover (reason_by self.now number) }
+    {
+        match self.notes.get(usize::from(number)) {
+            Some(Some(note)) => note.reason,
+            _ => Reason::Cover,
+        }
+    }
+
+    /// The note of an action at a row, with the reason that is known against it.
+    pub fn note(&self, row: u32, action: Action) -> Note
+        requires { IsActionAmong 12 self.now.stages action }
+        ensures { result ≡ note_by row self.now (place_of action) }
+    {
+        let number = action_number(action, self.stages());
+        Note {
+            row,
+            action: number,
+            reason: self.reason(number),
+        }
+    }
+
+    /// Keeps the first note of the text, where it is of this number and says this.
+    fn keep_told(&mut self, text: &'a [u8], number: u8, reason: Reason)
+        ensures { KnowsAtMost self.old number reason self.new }
+    {
+        if let Some(note) = told_note(text, &self.facts, number, reason) {
+            self.notes[usize::from(number)] = Some(note);
+            self.block = no_block();
+        }
+    }
+
+    /// Whether no note is known at a number. A second reason of an action isn't worth a reading.
+    fn is_free(&self, number: u8) -> bool {
+        matches!(self.notes.get(usize::from(number)), Some(None))
+    }
+
+    /// The same where none is known at the number.
+    fn keep_first(&mut self, text: &'a [u8], number: u8, reason: Reason)
+        ensures { KnowsAtMost self.old number reason self.new }
+    {
+        if self.is_free(number) {
+            self.keep_told(text, number, reason);
+        }
+    }
+
+    /// Keeps the first note of a job's text, where it is of this number and says this.
+    pub fn keep(&mut self, facts: &JobFacts, text: &'a [u8], number: u8, reason: Reason)
+        requires { HasFew facts.now }
+        ensures { KnowsAtMost self.old number reason self.new }
+    {
+        if facts.stages == self.facts.stages {
+            self.turn_to(facts);
+            self.keep_first(text, number, reason);
+        }
+    }
+
+    /// Keeps the first note of a job's text, where this was the answer to it.
+    pub fn learn(&mut self, facts: &JobFacts, text: &'a [u8], answer: &Result<PlanItem, CertFault>)
+        requires { HasFew facts.now }
+        ensures { LearnsFrom self.old (plan_answer answer.now) self.new }
+    {
+        match answer {
+            Ok(item) => self.learn_item(facts, text, item),
+            Err(_) => {}
+        }
+    }
+
+    /// Keeps the first note of a job's text, where this item is it.
+    fn learn_item(&mut self, facts: &JobFacts, text: &'a [u8], item: &PlanItem)
+        requires { HasFew facts.now }
+        ensures { LearnsFrom self.old (Ok (item_of item.now)) self.new }
+    {
+        if let PlanItem::Note { action, reason } = item {
+            self.keep(facts, text, *action, *reason);
+        }
+    }
+
+    /// Takes the known notes with whose lines the text goes on, where these bends are folded and a
+    /// note's action has at least this number.
+    pub fn take(&mut self, facts: &JobFacts, folded: Mask, least: u8, text: &'a [u8]) -> NoteRun<'a>
+        requires { HasFew facts.now }
+        ensures same { self.new ≡ self.old }
+        ensures taken { IsTaken facts.now self.old folded least text.now result }
+    {
+        if !are_same(facts, &self.facts) {
+            return no_run(least, text);
+        }
+        let own = self.facts;
+        let turned = self.leads.turned_to(&own, folded);
+        let leads = turned.leads;
+        let block = self.block;
+        let mut run = first_run(&block, leads, least, text);
+        take_lines(&self.notes, &own, leads, &mut run);
+        self.leads = turned;
+        if least == 0 {
+            self.block = block_of(leads, text, &run);
+        }
+        run
+    }
+}
+
+/// The number of the line behind so many lines.
+fn number_behind(number: u32, count: u8) -> u32
+    ensures { result ≡ numbers_on count number }
+{
+    number.saturating_add(u32::from(count))
+}
+
+/// Whether the text begins as the line of a note does.
+fn begins_with_note(text: &[u8]) -> bool {
+    matches!(text, [b'x', ..])
+}
+
+/// Takes the known notes that come next behind a row. It tells their actions and how many they are.
+pub fn take_notes<'a>(reader: &mut PlanReader<'a>, known: &mut NoteLines<'a>) -> (ActionSet, u8)
+    requires few { HasFew reader.old.place.facts }
+    ensures given { (behind : List ℕ) (answers : List (Result Item CertFault))
+        → LeavesAt reader.old.place (reader.old.rest.now ++ behind) answers
+        → GivesAll answers (notes_told known.old result.0) reader.new.place
+        (reader.new.rest.now ++ behind) }
+    ensures few { HasFew reader.new.place.facts }
+    ensures rest { IsBehind reader.old.rest.now reader.new.rest.now }
+    ensures shorter { length (places_of result.0) + length reader.new.rest.now
+        ≤ length reader.old.rest.now }
+    ensures count { length (places_of result.0) ≡ result.1 }
+    ensures known { AreKnownAll known.old result.0 }
+    ensures same { known.new ≡ known.old }
+{
+    match reader.place.section {
+        Section::Notes(key, least) if begins_with_note(reader.rest) => {
+            let run = known.take(&reader.place.facts, key.mask, least, reader.rest);
+            reader.rest = run.rest;
+            reader.place.number = number_behind(reader.place.number, run.count);
+            reader.place.section = Section::Notes(key, run.least);
+            (run.notes, run.count)
+        }
+        _ => (ActionSet::empty(), 0),
+    }
+}
