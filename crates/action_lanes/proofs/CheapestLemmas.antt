@@ -1,6 +1,6 @@
 -- The least cost of a set's actions, side by side, and the first action with it.
 use Rattle.std.proofs.Common.{◌≡◌, ℕ, ◌+◌, ◌*◌, ◌/◌, ◌%◌, ◌<◌, ◌≤◌, true, false, Bool, ◌&&◌, ◌==◌, nat_le, min, refl, if◌then◌else◌, IsTrue, Option, Some, None, IfNone, List, slice_index, ap, sym, ◌∙◌, arith, inl, inr, true≢false}
-use Rattle.std.proofs.lemmas.Bool.{cases_lt, cases_eq, cases_Bool, eqb-true, eq-eqb, le-leb}
+use Rattle.std.proofs.lemmas.Bool.{cases_lt, cases_eq, cases_Bool, eqb-true}
 use Rattle.brake_base.specs.declared.mask.Mask.{Mask}
 use Rattle.brake_base.specs.Masks
 use Rattle.brake_base.specs.declared.stroke.Back.{Back}
@@ -12,7 +12,7 @@ use Rattle.stage_lanes.specs.declared.stages.StageSet.{StageSet}
 use Rattle.stage_lanes.specs.Stages
 use Rattle.stage_lanes.specs.Stages.{AreStages}
 use Rattle.stage_lanes.specs.Lanes.{AreLanes, IsLeastLane}
-use Rattle.stage_lanes.specs.ActionSets.{has_place, place_of, ArePlaces, IsNone, IsFirst}
+use Rattle.stage_lanes.specs.ActionSets.{has_place, place_of, ArePlaces, IsFirst}
 use Rattle.action_lanes.specs.declared.costs.ActionCosts.{ActionCosts}
 use Rattle.action_lanes.specs.Costs.{cost_at, is_of, IsCheapest}
 use Rattle.action_lanes.specs.Cheapest.{IsLeastIn, AreCheapest}
@@ -104,29 +104,6 @@ module _ (costs : ActionCosts) (set same both : ActionSet) (bends : Mask) (least
       let tests = both_true (is_of bends place) (cost_at costs place == least) (has_place set place) (ap (λ b. b && has_place set place) (sym (equal place h)) ∙ sym (common place h) ∙ t) in
       (eqb-true (cost_at costs place) least tests.0, tests.1)
 
-  to_both : (place : ℕ) → place < 192 → IsTrue (has_place set place) → cost_at costs place ≡ least → has_place both place ≡ true
-  to_both place h t e =
-      let folds : is_of bends place ≡ true = full (place / 16 + 1) ∙ (λ i. le-leb 1 (place / 16 + 1) (omega arith) i && le-leb (place / 16 + 1) 12 (omega (arith, h)) i) in
-      common place h ∙ (λ i. (equal place h ∙ (λ j. folds j && eq-eqb (cost_at costs place) least e j)) i && t i)
-
-  -- they cost the least
-  pub are_cheapest : AreCheapest costs set both
-  are_cheapest = record {
-    among = λ place h t. (of_both place h t).1;
-    least = λ place other h o t u.
-        let own = (of_both place h t).0 in
-        let low = its.least other o u in
-        elim (cases_eq (cost_at costs other) least) [
-          | inl same ↦ inr (own ∙ sym same, to_both other o u same)
-          | inr apart ↦ inl (omega (arith, own, low, apart))
-        ];
-  }
-
-  pub none_cheapest : IsNone both → IsNone set
-  none_cheapest none place h =
-      let found = its.attained in
-      absurd (true≢false (sym (to_both found.0 found.1 found.2 found.3) ∙ none found.0 found.1))
-
 -- the first of those that cost the least comes before all others by its cost
 pub first_cheapest : (costs : ActionCosts) (set part : ActionSet) → AreCheapest costs set part → (action : Action) → IsFirst part action → IsCheapest costs set action
 first_cheapest costs set part are action first =
@@ -145,13 +122,6 @@ first_cheapest costs set part are action first =
         ]
       ];
     }
-
--- all of a set that has none
-pub none_are_cheapest : (costs : ActionCosts) (set : ActionSet) → IsNone set → AreCheapest costs set set
-none_are_cheapest costs set none = record {
-  among = λ place h t. t;
-  least = λ place other h o t u. absurd (true≢false (sym t ∙ none place h));
-}
 
 pub none_then : (action : Option Action) {P Q : Type 0} → (P → Q) → IfNone action P → IfNone action Q
 none_then None p h = p h

@@ -7,10 +7,10 @@ use Rattle.brake_base.specs.declared.stroke.Action.{Action}
 use Rattle.brake_base.specs.Masks.{has}
 use Rattle.brake_base.specs.Actions.{number_of_action}
 use Rattle.stage_lanes.specs.declared.costs.StageCosts.{StageCosts}
-use Rattle.stage_lanes.specs.Lanes.{AreLanes, IsLeastLane}
+use Rattle.stage_lanes.specs.Lanes.{AreLanes}
 use Rattle.stage_lanes.specs.ActionSets.{place_of, side_of}
 use Rattle.action_lanes.specs.declared.costs.ActionCosts.{ActionCosts}
-use Rattle.action_lanes.specs.Costs.{lanes_at, cost_at, AreCosts, is_of, IsLeastCost}
+use Rattle.action_lanes.specs.Costs.{lanes_at, cost_at, AreCosts, is_of}
 
 pub test_same : (m : ℕ) → (m == m) ≡ true
 test_same m = grind arith
@@ -104,55 +104,9 @@ none_summed bends one two sums all = record {
 bend_of : (bends : Mask) (side place : ℕ) (t : Bool) → place / 8 ≡ side → has bends (side / 2 + 1) ≡ t → is_of bends place ≡ t
 bend_of bends side place t e its = let f : place / 16 + 1 ≡ side / 2 + 1 = omega (arith, e) in ap (has bends) f ∙ its
 
-pub side_summed : (bends : Mask) (one two sums next : ActionCosts) (side : ℕ) (lanes first second : List ℕ)
-    → has bends (side / 2 + 1) ≡ true
-    → AreLanes first (λ stage. cost_at one (8 * side + stage)) → AreLanes second (λ stage. cost_at two (8 * side + stage))
-    → AreLanes lanes (λ stage. slice_index first stage + slice_index second stage)
-    → AreCosts next (λ place. if place / 8 == side then slice_index lanes (place % 8) else cost_at sums place)
-    → AreSummed bends one two side sums → AreSummed bends one two (side + 1) next
-side_summed bends one two sums next side lanes first second its p q both set before = record {
-  done = λ place h low. set place h ∙ elim (cases_eq (place / 8) side) [
-    | inl same ↦
-        let at : 8 * side + place % 8 ≡ place = omega (arith, same) in
-        when_same (place / 8) side (slice_index lanes (place % 8)) (cost_at sums place) same
-        ∙ both (place % 8) (omega arith)
-        ∙ (λ i. (p (place % 8) (omega arith) ∙ ap (cost_at one) at) i + (q (place % 8) (omega arith) ∙ ap (cost_at two) at) i)
-        ∙ sym (ap (λ t. if t then cost_at one place + cost_at two place else 536870912) (bend_of bends side place true same its))
-    | inr apart ↦
-        when_apart (place / 8) side (slice_index lanes (place % 8)) (cost_at sums place) apart
-        ∙ before.done place h (omega (arith, low, apart))
-  ];
-  blank = λ place h past. set place h
-      ∙ when_apart (place / 8) side (slice_index lanes (place % 8)) (cost_at sums place) (λ e. omega (arith, e, past))
-      ∙ before.blank place h (omega (arith, past));
-}
-
-pub side_left : (bends : Mask) (one two sums : ActionCosts) (side : ℕ) → has bends (side / 2 + 1) ≡ false
-    → AreSummed bends one two side sums → AreSummed bends one two (side + 1) sums
-side_left bends one two sums side its before = record {
-  done = λ place h low. elim (cases_eq (place / 8) side) [
-    | inl same ↦
-        before.blank place h (omega (arith, same))
-        ∙ sym (ap (λ t. if t then cost_at one place + cost_at two place else 536870912) (bend_of bends side place false same its))
-    | inr apart ↦ before.done place h (omega (arith, low, apart))
-  ];
-  blank = λ place h past. before.blank place h (omega (arith, past));
-}
-
 pub all_summed : (bends : Mask) (one two : ActionCosts) (sides : ℕ) (sums : ActionCosts) → 24 ≤ sides → AreSummed bends one two sides sums
     → AreCosts sums (λ place. if is_of bends place then cost_at one place + cost_at two place else 536870912)
 all_summed bends one two sides sums past all place h = all.done place h (omega (arith, h, past))
-
--- there is room for the sums at a side
-pub side_room : (bends : Mask) (one two : ActionCosts) (side : ℕ) (first second : List ℕ) → side < 24 → has bends (side / 2 + 1) ≡ true
-    → ((place : ℕ) → place < 192 → IsTrue (is_of bends place) → cost_at one place + cost_at two place < 2 ^ 32)
-    → AreLanes first (λ stage. cost_at one (8 * side + stage)) → AreLanes second (λ stage. cost_at two (8 * side + stage))
-    → (stage : ℕ) → stage < 8 → slice_index first stage + slice_index second stage < 2 ^ 32
-side_room bends one two side first second h its room p q stage low =
-    let e = p stage low in
-    let f = q stage low in
-    let sum = room (8 * side + stage) (omega (arith, h, low)) (bend_of bends side (8 * side + stage) true (omega (arith, low)) its) in
-    omega (arith, e, f, sum)
 
 -- ---- the least
 -- each lane is the least of its stage, at the sides before a side
@@ -161,13 +115,6 @@ pub record AreLow (bends : Mask) (costs : ActionCosts) (sides : ℕ) (low : List
   pub least : (place : ℕ) → place < 192 → place / 8 < sides → IsTrue (is_of bends place) → slice_index low (place % 8) ≤ cost_at costs place
   pub attained : (stage : ℕ) → stage < 8 → (slice_index low stage ≡ 536870912)
       ⊎ ((place : ℕ) × (place < 192) × IsTrue (is_of bends place) × (cost_at costs place ≡ slice_index low stage))
-
-pub none_low : (bends : Mask) (costs : ActionCosts) (low : List ℕ) → AreLanes low (λ stage. 536870912) → AreLow bends costs 0 low
-none_low bends costs low all = record {
-  capped = λ stage h. let e = all stage h in omega (arith, e);
-  least = λ place h past. absurd (omega (arith, past));
-  attained = λ stage h. inl (all stage h);
-}
 
 pub side_taken : (bends : Mask) (costs : ActionCosts) (side : ℕ) (low next lanes : List ℕ) → side < 24 → has bends (side / 2 + 1) ≡ true
     → AreLanes lanes (λ stage. cost_at costs (8 * side + stage))
@@ -203,14 +150,4 @@ side_skipped bends costs side low its before = record {
     | inr apart ↦ before.least place l (omega (arith, past, apart)) of
   ];
   attained = before.attained;
-}
-
-pub least_found : (bends : Mask) (costs : ActionCosts) (sides : ℕ) (low : List ℕ) (value : ℕ) → 24 ≤ sides → AreLow bends costs sides low → IsLeastLane low value → IsLeastCost costs bends value
-least_found bends costs sides low value past all least = record {
-  capped = let c = all.capped least.lane.0 least.lane.1 in let e = least.lane.2 in omega (arith, c, e);
-  least = λ place h of. let l = least.least (place % 8) (omega arith) in let c = all.least place h (omega (arith, h, past)) of in omega (arith, l, c);
-  attained = elim (all.attained least.lane.0 least.lane.1) [
-    | inl top ↦ inl (sym least.lane.2 ∙ top)
-    | inr found ↦ inr (found.0, found.1, found.2, found.3 ∙ least.lane.2)
-  ];
 }

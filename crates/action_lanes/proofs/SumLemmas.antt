@@ -1,8 +1,7 @@
 -- The sum of two costs of each action, by place.
-use Rattle.std.proofs.Common.{◌≡◌, ℕ, ◌+◌, ◌*◌, ◌/◌, ◌%◌, ◌^◌, ◌<◌, ◌≤◌, true, IsTrue, List, [], slice_index, ap, sym, ◌∙◌, arith}
+use Rattle.std.proofs.Common.{◌≡◌, ℕ, ◌+◌, ◌*◌, ◌/◌, ◌%◌, ◌^◌, ◌<◌, ◌≤◌, IsTrue, List, [], slice_index, ap, sym, ◌∙◌, arith}
 use Rattle.std.proofs.lemmas.List.FromFn.{get_or-map-range_with_len}
 use Rattle.brake_base.specs.declared.mask.Mask.{Mask}
-use Rattle.brake_base.specs.Masks.{has}
 use Rattle.stage_lanes.specs.Lanes.{AreLanes}
 use Rattle.action_lanes.specs.declared.costs.ActionCosts.{ActionCosts}
 use Rattle.action_lanes.specs.Costs.{lanes_at, cost_at, side_sums, sum_costs, is_of}
@@ -38,14 +37,6 @@ lanes_summed one two side first second lanes h p q both stage low =
     let g = both stage low in
     let s = sum_lane one two side stage h low in
     omega (arith, e, f, g, s)
-
--- there is room for the sums at a side of these bends
-pub room_at : (bends : Mask) (one two : ActionCosts) (side : ℕ) → side < 24 → has bends (side / 2 + 1) ≡ true
-    → ((place : ℕ) → place < 192 → IsTrue (is_of bends place) → cost_at one place + cost_at two place < 2 ^ 32)
-    → (stage : ℕ) → stage < 8 → cost_at one (8 * side + stage) + cost_at two (8 * side + stage) < 2 ^ 32
-room_at bends one two side h its room stage low =
-    let bend : (8 * side + stage) / 16 + 1 ≡ side / 2 + 1 = omega (arith, low) in
-    room (8 * side + stage) (omega (arith, h, low)) (ap (has bends) bend ∙ its)
 
 -- no sum is below the first of its costs
 pub above_first : (leads : Mask) (one two : ActionCosts) → (place : ℕ) → place < 192 → IsTrue (is_of leads place)

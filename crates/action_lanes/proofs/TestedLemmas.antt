@@ -1,7 +1,7 @@
 -- Which actions are tested: those with a sum below the worth, and of those at the worth the ones up to
 -- the first that gives it.
 use Rattle.std.proofs.Common.{◌≡◌, ℕ, ◌<◌, ◌≤◌, ◌⊎◌, ◌↔◌, Bool, true, false, ◌&&◌, ◌||◌, nat_lt, ◌==◌, IsTrue, refl, ap, sym, ◌∙◌, arith, inl, inr, true≢false}
-use Rattle.std.proofs.lemmas.Bool.{cases_lt, cases_eq, and_parts, and_from, or_parts, or_left, or_right, false_from_ne_true}
+use Rattle.std.proofs.lemmas.Bool.{cases_lt, cases_eq, and_parts, and_from, or_parts, or_left, or_right}
 use Rattle.brake_base.specs.declared.mask.Mask.{Mask}
 use Rattle.brake_base.specs.declared.stroke.Back.{Back}
 use Rattle.brake_base.specs.declared.stroke.Back.TheVariants.{Parent, Child}
@@ -63,17 +63,6 @@ module _ (leads : Mask) (sums known : ActionCosts) (best : ℕ)
     dearer = λ other h its earlier. let l = least.least other h its in omega (arith, l, low);
   }
 
-  -- the set of those with a lesser sum, where no other is tested
-  pub only_below : ((place : ℕ) → place < 192 → IsTested leads sums known place → cost_at sums place < best) → AreTested leads sums known best below
-  only_below all = record {
-    tested = λ place h. ((λ t. let p = in_below place h t in below_tested place p.0 p.1), λ t. to_below place h t.bend (all place h t));
-    rest = not_below;
-    most = λ place h t. let p = in_below place h t in let low = p.1 in omega (arith, low);
-  }
-
-  pub where_none_leads_on : 536870912 ≤ best → AreTested leads sums known best below
-  where_none_leads_on top = only_below (λ place h t. let w = t.way in omega (arith, top, w))
-
   module _ (giving : ActionSet) (equal : ArePlaces giving (λ place. is_of leads place && (cost_at known place == best)))
       (both : ActionSet) (shared : ArePlaces both (λ place. has_place giving place && has_place below place)) where
     in_giving : (place : ℕ) → place < 192 → IsTrue (has_place giving place) → IsTrue (is_of leads place) × (cost_at known place ≡ best)
@@ -83,26 +72,6 @@ module _ (leads : Mask) (sums known : ActionCosts) (best : ℕ)
 
     to_giving : (place : ℕ) → place < 192 → IsTrue (is_of leads place) → cost_at known place ≡ best → IsTrue (has_place giving place)
     to_giving place h of e = equal place h ∙ and_from (is_of leads place) (cost_at known place == best) of (ap (λ n. n == best) e ∙ test_same best)
-
-    -- one with a lesser sum gives the worth
-    pub where_one_below_gives : (IsNone both → ⊥) → AreTested leads sums known best below
-    where_one_below_gives some = only_below (λ place h t. elim (cases_lt (cost_at sums place) best) [
-      | inl low ↦ low
-      | inr high ↦ absurd (some (λ other l. false_from_ne_true (has_place both other) (λ e.
-          let parts = and_parts (has_place giving other) (has_place below other) (sym (shared other l) ∙ e) in
-          let gives = in_giving other l parts.0 in
-          let lower = in_below other l parts.1 in
-          let its = gives.1 in
-          let low = lower.1 in
-          let dearer = t.dearer other l gives.0 (inl (omega (arith, low, high))) in
-          omega (arith, dearer, its, high))))
-    ])
-
-    pub where_none_gives : best < 536870912 → IsNone giving → AreTested leads sums known best below
-    where_none_gives way none = elim least.attained [
-      | inl top ↦ absurd (omega (arith, way, top))
-      | inr found ↦ absurd (true≢false (sym (to_giving found.0 found.1 found.2 found.3) ∙ none found.0 found.1))
-    ]
 
     module _ (way : best < 536870912) (apart : IsNone both) (first : Action) (is_first : IsFirst giving first)
         (at_best : ActionSet) (ties : ArePlaces at_best (λ place. is_of leads place && (cost_at sums place == best)))

@@ -81,21 +81,6 @@ impl ActionCosts {
         sums
     }
 
-    /// The least sum of both costs at the actions of these bends, [`BLOCKED`] where none is below that.
-    pub fn least_sum(&self, other: &ActionCosts, bends: Mask) -> u32
-        requires room { (place : ℕ) → place < 192 → IsTrue (is_of bends place)
-            → cost_at self.now place + cost_at other.now place < 2 ^ 32 }
-        ensures least { IsLeastCost (sum_costs self.now other.now) bends result }
-    {
-        let mut low = StageCosts::all(BLOCKED);
-        for side in 0..24u8 {
-            if bends.contains(side / 2 + 1) {
-                low = low.lesser(self.sums(other, side));
-            }
-        }
-        low.least()
-    }
-
     /// The actions of these bends at which the sum of both costs is this one.
     pub fn equal_sum(&self, other: &ActionCosts, bends: Mask, cost: u32) -> ActionSet
         requires room { (place : ℕ) → place < 192 → IsTrue (is_of bends place)

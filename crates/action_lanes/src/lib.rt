@@ -6,4 +6,4 @@ mod costs;
 mod tested;
 
 pub use costs::ActionCosts;
-pub use tested::{tested_actions, tested_by};
+pub use tested::tested_by;

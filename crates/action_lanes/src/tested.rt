@@ -11,27 +11,9 @@ use stage_lanes::{ActionSet, BLOCKED};
 
 /// The actions that have to be tested at a key where the best worth is this one, of those of the
 /// bends that are leads there: they are tested by their sums, ties by number, until one leads to
-/// plans that cost no more than the next one's sum. The costs are the actions' sums, and what a plan
-/// by each of them costs, [`BLOCKED`] where that isn't known.
+/// plans that cost no more than the next one's sum. A plan by an action costs its sum and its slack.
 ///
 /// No other action can give less than the worth, and none that is tested has a greater sum.
-pub fn tested_actions(sums: &ActionCosts, known: &ActionCosts, leads: Mask, best: u32) -> ActionSet
-    requires bound { (place : ℕ) → place < 192 → IsTrue (is_of leads place)
-        → cost_at sums.now place ≤ cost_at known.now place }
-    requires best { IsLeastCost known.now leads best }
-    ensures tested { (place : ℕ) → place < 192
-        → IsTrue (has_place result place) ↔ IsTested leads sums.now known.now place }
-    ensures rest { (place : ℕ) → place < 192 → IsTrue (is_of leads place)
-        → has_place result place ≡ false → best ≤ cost_at sums.now place }
-    ensures most { (place : ℕ) → place < 192 → IsTrue (has_place result place)
-        → cost_at sums.now place ≤ best }
-{
-    let giving = known.equal(leads, best);
-    tested_until(sums, leads, best, giving)
-}
-
-/// The actions that have to be tested at a key, where a plan by each action costs its sum and its
-/// slack.
 pub fn tested_by(sums: &ActionCosts, slack: &ActionCosts, leads: Mask, best: u32) -> ActionSet
     requires room { (place : ℕ) → place < 192 → IsTrue (is_of leads place)
         → cost_at sums.now place + cost_at slack.now place < 2 ^ 32 }

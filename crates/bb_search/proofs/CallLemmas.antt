@@ -1,6 +1,6 @@
 -- What the calls of the search owe and give, in terms of its state.
-use Rattle.std.proofs.Common.{◌≡◌, ◌⊎◌, inl, inr, ℕ, ◌≤◌, List, ◌∷◌, length, Some, None, arith, refl, sym, ◌∙◌, ap}
-use Rattle.std.specs.Prelude.{slice_get, option_and_then, option_map, Contains}
+use Rattle.std.proofs.Common.{◌≡◌, ◌⊎◌, inl, inr, ℕ, ◌≤◌, List, ◌∷◌, length, Some, arith, refl, sym, ◌∙◌, ap}
+use Rattle.std.specs.Prelude.{slice_get, option_map, Contains}
 use Rattle.std.proofs.lemmas.Option.{slice_get_within, slice_get-map, slice_get_cases, same_Some, none-some}
 use Rattle.brake_base.specs.declared.mask.Mask.{Mask}
 use Rattle.brake_base.specs.declared.stroke.Key.{Key}
@@ -12,16 +12,15 @@ use Rattle.brake_base.specs.Masks.{union}
 use Rattle.job_setup.specs.StrokeGroup.{group_of}
 use Rattle.job_setup.specs.Setup.{JobData}
 use Rattle.job_setup.specs.ValidJob.{IsJob}
-use Rattle.handling_cost.specs.StepCost.{IsKeyOf, IsFull, left, attitude_at, key_after}
+use Rattle.handling_cost.specs.StepCost.{IsKeyOf, IsFull, attitude_at, key_after}
 use Rattle.handling_cost.specs.Plan.{IsLegal}
 use Rattle.brake_base.specs.Worths.{IsAtMost}
 use Rattle.handling_cost.specs.Reach.{IsNode}
 use Rattle.handling_cost.proofs.Actions.{few_left}
 use Rattle.handling_cost.proofs.Small.{total_small}
-use Rattle.row_pool.specs.Rows.{Pool, PoolRow, keys, worth_at}
+use Rattle.row_pool.specs.Rows.{Pool, PoolRow, keys}
 use Rattle.bb_search.specs.Table.{Grows}
-use Rattle.bb_search.specs.Settling.{IsAttained, IsKnown, IsSound, OpenAbove, IsKnownAfter, IsSpent}
-use Rattle.bb_search.proofs.TableLemmas.{known_attained}
+use Rattle.bb_search.specs.Settling.{IsAttained, IsKnown, IsSound, IsKnownAfter, IsSpent}
 
 -- the list stays as it is
 same_grows : (rows : List PoolRow) → Grows rows rows
@@ -49,20 +48,6 @@ module _ (job : JobData) (pool : Pool) (sound : IsSound job pool.rows) (key : Ke
     | inl here ↦ (here.0, here.2, same_Some here.0.key key (sym (slice_get-map (λ (row : PoolRow). row.key) pool.rows i ∙ ap (option_map (λ (row : PoolRow). row.key)) here.2) ∙ at))
     | inr past ↦ absurd (none-some key (sym (slice_get-map (λ (row : PoolRow). row.key) pool.rows i ∙ ap (option_map (λ (row : PoolRow). row.key)) past.1) ∙ at))
   ]
-
-  -- its row has a worth
-  pub known_found : (i : ℕ) (worth : Worth) → slice_get (keys pool) i ≡ Some key → worth_at pool i ≡ Some worth → IsKnownAfter job pool pool key worth
-  known_found i worth at is =
-      let row = row_at i at in
-      known_same worth (inr (i, row.0, row.1, row.2, sym (ap (option_and_then (λ (r : PoolRow). r.worth)) row.1) ∙ is))
-
-  -- its row isn't open
-  pub not_open : OpenAbove job pool.rows (left job key) → (i : ℕ) → slice_get (keys pool) i ≡ Some key → worth_at pool i ≡ None → ⊥
-  not_open open_above i at is =
-      let row = row_at i at in
-      let more = open_above i row.0 row.1 (sym (ap (option_and_then (λ (r : PoolRow). r.worth)) row.1) ∙ is) in
-      let same : left job row.0.key ≡ left job key = ap (left job) row.2 in
-      omega arith
 
   pub spent_here : IsNode job key → (Contains (keys pool) key → ⊥) → length pool.rows ≡ pool.limit → IsSpent job pool pool
   spent_here node absent full = record { full = full; nodes = sound.nodes; more = (key, node, absent); limit = refl; actions = refl }
@@ -99,6 +84,3 @@ small_worth job is_job key is_key Blocked attained = inr refl
 pub cost_most : (cost : ℕ) → IsAtMost (Cost cost) (Cost 1000000000) ⊎ (Cost cost ≡ Blocked) → cost ≤ 1000000000
 cost_most cost (inl small) = small
 cost_most cost (inr blocked) = absurd cc
-
-pub found_small : (job : JobData) → IsJob job → (before after : Pool) (key : Key) (worth : Worth) → IsKeyOf job key → IsKnownAfter job before after key worth → IsAtMost worth (Cost 1000000000) ⊎ (worth ≡ Blocked)
-found_small job is_job before after key worth is_key found = small_worth job is_job key is_key worth (known_attained job after.rows key worth found.sound found.known)

@@ -12,7 +12,7 @@ use Rattle.brake_base.specs.declared.stroke.Action.{Action}
 use Rattle.brake_base.specs.Actions.{IsActionAmong}
 use Rattle.brake_base.proofs.Actions.{same_number}
 use Rattle.stage_lanes.specs.declared.actions.ActionSet.{ActionSet}
-use Rattle.stage_lanes.specs.ActionSets.{place_of, has, has_place, ArePlaces, IsNone}
+use Rattle.stage_lanes.specs.ActionSets.{place_of, has, has_place, ArePlaces}
 use Rattle.action_lanes.specs.declared.costs.ActionCosts.{ActionCosts}
 use Rattle.action_lanes.specs.Costs.{cost_at, IsCheapest}
 use Rattle.action_lanes.specs.Cheapest.{AreCheapest}
@@ -24,7 +24,7 @@ use Rattle.row_pool.specs.Rows.{Pool}
 use Rattle.bb_search.specs.declared.known.KnownActions.{KnownActions}
 use Rattle.bb_search.specs.LaneSums.{AreSums}
 use Rattle.bb_search.specs.Settling.{IsSpent}
-use Rattle.bb_search.specs.KnownActions.{TableData, slack_of, AreKnown, AreOpen, IsFloor, IsToldOf, HasNoneBelow}
+use Rattle.bb_search.specs.KnownActions.{TableData, slack_of, AreKnown, AreOpen, IsFloor, IsToldOf}
 use Rattle.bb_search.specs.OpenRows.{IsSettlingBy, IsKnownSo, HasChanged, unknown_count}
 use Rattle.bb_search.proofs.KnownLemmas.{place_small, among_lanes, place_in, same_place}
 use Rattle.bb_search.proofs.KnownCalls.{known_here}
@@ -77,19 +77,6 @@ module _ (job : JobData) (is_job : IsJob job) (key : Key) (best : ℕ) (at : Kno
       found.1
 
   module _ (leads : Mask) (sums : ActionCosts) (sums_are : AreSums job key leads sums) where
-    -- where none is below what is known, there is none
-    pub none_open :
-        (limit : ℕ) → limit ≡ best + 1 → HasNoneBelow sums untested limit → IsNone untested
-    none_open limit is none place within = by_false (has_place untested place) (λ member.
-        let found = open_are.only place within member in
-        let is_open : has untested found.0 ≡ true =
-        ap (λ (p : ℕ). has_place untested p) found.2 ∙ member in
-        let most = open_are.most found.0 found.1 is_open in
-        let sum = sums_are.each found.0 found.1 in
-        let least : limit ≤ cost_at sums place = none place within member in
-        let cost = ap (λ (p : ℕ). cost_at sums p) found.2 in
-        omega (arith, most, sum, least, cost, is))
-
     module _ (action : Action) (cheapest : IsCheapest sums untested action) where
       pub cheapest_at : IsActionAt job key action
       cheapest_at = open_at action cheapest.among cheapest.member

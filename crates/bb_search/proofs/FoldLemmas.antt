@@ -1,6 +1,5 @@
 -- A group that is folded and then undone: the part and the trail are as before.
-use Rattle.std.proofs.Common.{◌≡◌, ◌≢◌, ℕ, zero, suc, ◌+◌, ◌-◌, ◌*◌, ◌≤◌, List, [], ◌∷◌, ◌++◌, length, take, get_or, arith, refl, sym, ◌∙◌, ap, subst, length-append}
-use Rattle.std.proofs.lemmas.List.{append_cancel_right}
+use Rattle.std.proofs.Common.{◌≡◌, ◌≢◌, ℕ, zero, suc, ◌+◌, ◌-◌, ◌*◌, ◌≤◌, List, [], ◌∷◌, ◌++◌, length, get_or, arith, refl, sym, ◌∙◌, ap, subst, length-append}
 use Rattle.brake_base.specs.declared.space.Place.{Place}
 use Rattle.brake_base.specs.declared.mask.Mask.{Mask}
 use Rattle.undo_region.specs.Room.{ListWithRoom}
@@ -32,29 +31,10 @@ module _ (old folded : StateData) (group : Mask) (mark : ℕ) (same_shape : fold
   pub last_is : last_fold folded.folds ≡ the_fold
   last_is = ap last_fold one_more ∙ last_pushed old.folds the_fold
 
-  pub some_fold : folded.folds ≢ []
-  some_fold = not_empty old.folds folded.folds the_fold one_more
-
   pub is_kept : (records : List Place) → AreKept old.shape old.mask group mark records → IsKept folded.shape (last_fold folded.folds) records
   is_kept records kept =
       subst (λ (s : ShapeData). IsKept s (last_fold folded.folds) records) (sym same_shape)
       (subst (λ (f : Fold). IsKept old.shape f records) (sym last_is) kept)
-
-  pub state_back : (new : StateData) → new.shape ≡ folded.shape → new.mask ≡ (last_fold folded.folds).before → folded.folds ≡ new.folds ++ last_fold folded.folds ∷ [] → new ≡ old
-  state_back new shape mask less =
-      let shapes : new.shape ≡ old.shape = shape ∙ same_shape in
-      let masks : new.mask ≡ old.mask = mask ∙ ap (λ (f : Fold). f.before) last_is in
-      let folds : new.folds ≡ old.folds =
-      append_cancel_right new.folds old.folds (the_fold ∷ []) (ap (λ (f : Fold). new.folds ++ f ∷ []) (sym last_is) ∙ (sym less ∙ one_more)) in
-      λ i. record { shape = shapes i; mask = masks i; folds = folds i }
-
-  pub trail_back : (start wound new : ListWithRoom Place) → mark ≡ length start.items → take (length start.items) wound.items ≡ start.items → wound.room + length wound.items ≡ start.room + length start.items →
-      new.items ≡ take (last_fold folded.folds).mark wound.items → new.room + length new.items ≡ wound.room + length wound.items → new ≡ start
-  trail_back start wound new at first all cut kept =
-      let items : new.items ≡ start.items = cut ∙ (ap (λ (f : Fold). take f.mark wound.items) last_is ∙ (ap (λ (n : ℕ). take n wound.items) at ∙ first)) in
-      let count = ap length items in
-      let room : new.room ≡ start.room = omega (arith, count, all, kept) in
-      λ i. record { items = items i; room = room i }
 
 few_moved : (shape : ShapeData) (group : Mask) (faces : ℕ) → faces ≤ 13 → moved_before shape group faces ≤ 12
 unfolding moved_before

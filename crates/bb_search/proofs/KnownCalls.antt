@@ -21,7 +21,7 @@ use Rattle.handling_cost.specs.Bound.{sum_of}
 use Rattle.handling_cost.proofs.Actions.{few_bends, fewer_left}
 use Rattle.row_pool.specs.Rows.{Pool, PoolRow, with_common}
 use Rattle.bb_search.specs.declared.known.KnownActions.{KnownActions}
-use Rattle.bb_search.specs.Settling.{IsSound, OpenAbove, IsKnownAfter, IsSpent}
+use Rattle.bb_search.specs.Settling.{IsSound, OpenAbove, IsKnownAfter}
 use Rattle.bb_search.specs.KnownActions.{TableData, IsFreeWith, AreKnown, IsFloor, IsToldOf, IsRefusal, IsLearnt, IsChangedAt}
 use Rattle.bb_search.specs.OpenRows.{IsSettlingBy, IsSameAbove}
 use Rattle.row_pool.proofs.PoolLemmas.{slice_get-set_same, slice_get-set_other}
@@ -222,12 +222,3 @@ module _ (job : JobData) (before now : Pool) (key : Key) (table : TableData)
             omega (arith, its, less)
         | inr (inr further) ↦ absurd (let some = rw none at further.1.0 in cc)
       ]
-
-  pub settling_spent : (after : Pool) → IsSpent job now after → IsSpent job before after
-  settling_spent after spent = record {
-    full = spent.full;
-    nodes = spent.nodes;
-    more = spent.more;
-    limit = spent.limit ∙ by.2.1.limit;
-    actions = spent.actions ∙ by.2.1.actions;
-  }

@@ -4,7 +4,6 @@ use Rattle.std.proofs.Common.{cond, ◌==◌, List, arith, refl, ◌∙◌, ap}
 use Rattle.std.specs.Prelude.{slice_index, nat_lt}
 use Rattle.std.proofs.lemmas.Bool.{lt-ltb}
 use Rattle.std.proofs.lemmas.Bool.Decides.{eqb_tells}
-use Rattle.brake_base.specs.declared.mask.Mask.{Mask}
 use Rattle.brake_base.specs.declared.stroke.Key.{Key}
 use Rattle.brake_base.specs.declared.stroke.Action.{Action}
 use Rattle.brake_base.specs.declared.stroke.Back.{Back}
@@ -63,14 +62,6 @@ pub sum_parts :
     + change_cost job.setup.cost (change key.attitude (attitude_at job key.mask action))
 unfolding cost_to
 sum_parts job key action = let after = bound_after job key action in omega (arith, after)
-
--- the attitude of an action doesn't depend on its stage
-pub same_attitude :
-    (job : JobData) (mask : Mask) (bend : ℕ) (back : Back) (stage other : ℕ)
-    → attitude_at job mask (record { bend = bend; back = back; stage = stage })
-    ≡ attitude_at job mask (record { bend = bend; back = back; stage = other })
-unfolding attitude_at
-same_attitude job mask bend back stage other = refl
 
 -- bounds, ways and the price of a stroke make the sums but for the change of attitude
 pub still_sums :

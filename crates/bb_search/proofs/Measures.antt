@@ -25,9 +25,6 @@ count_of (Some at) = unknown_count at
 abbrev pub unknown_in : TableData → Mask → ℕ
 unknown_in table mask = count_of (slice_get table.known mask.0)
 
-pub unknown_at : (table : TableData) (mask : Mask) (at : KnownActions) → slice_get table.known mask.0 ≡ Some at → unknown_in table mask ≡ unknown_count at
-unknown_at table mask at here = rw here refl
-
 no_fewer : (p q : ℕ → Bool) (a n : ℕ) → ((k : ℕ) → a ≤ k → k < a + n → p k ≡ true → q k ≡ true) → length (filter p (range_with_len a n)) ≤ length (filter q (range_with_len a n))
 no_fewer p q a zero within = omega arith
 no_fewer p q a (suc n) within = by_tests (p a) (q a) (within a (omega arith) (omega arith)) (no_fewer p q (a + 1) n (λ k low high. within k (omega (arith, low)) (omega (arith, high))))

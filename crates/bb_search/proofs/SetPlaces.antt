@@ -61,9 +61,6 @@ module _ (places : List (Option ℕ)) (met : List KnownActions) (limit : ℕ) (h
       let memory = have.memory in
       omega (arith, one, all, same, filled, memory)
 
-  pub few_met : length met ≤ 4096
-  few_met = let all = met_all places in let filled = have.filled in let few = have.few in omega (arith, all, filled, few)
-
   module _ (nothing : KnownActions) (k : ℕ) (inside : k < length places) (none : get_or places k None ≡ None) where
     abbrev places_new : List (Option ℕ)
     places_new = set places k (Some (length met))
@@ -76,9 +73,6 @@ module _ (places : List (Option ℕ)) (met : List KnownActions) (limit : ℕ) (h
 
     at_old : (other : ℕ) → other ≢ k → get_or places_new other None ≡ get_or places other None
     at_old other differ = get_or-set_other places k other (Some (length met)) None differ
-
-    pub place_met : get_or places_new k None ≡ Some (length met)
-    place_met = at_new
 
     within : (other place : ℕ) → get_or places_new other None ≡ Some place → place < length met_new
     within other place at =
@@ -180,15 +174,6 @@ module _ (places : List (Option ℕ)) (met : List KnownActions) (limit : ℕ) (h
 
   pub place_in_met : place < length met
   place_in_met = have.within k place at
-
-  pub places_stay : HavePlaces places met_set limit
-  places_stay = record {
-    few = have.few;
-    filled = length-set met place new ∙ have.filled;
-    memory = have.memory;
-    within = λ other there at_other. let same = length-set met place new in let old = have.within other there at_other in omega (arith, same, old);
-    apart = have.apart;
-  }
 
   -- what is known at another set stays
   stays : (other : ℕ) (found : Option ℕ) → other ≢ k → get_or places other None ≡ found → known_at nothing met_set found ≡ known_at nothing met found

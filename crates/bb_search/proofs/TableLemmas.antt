@@ -4,11 +4,10 @@ use Rattle.brake_base.specs.declared.stroke.Key.{Key}
 use Rattle.brake_base.specs.declared.stroke.Action.{Action}
 use Rattle.brake_base.specs.declared.stroke.Worth.{Worth}
 use Rattle.brake_base.specs.declared.stroke.Worth.TheVariants.{Cost, Blocked}
-use Rattle.brake_base.specs.Worths.{IsAtMost, plus}
-use Rattle.brake_base.proofs.Worths.{at_most_through}
+use Rattle.brake_base.specs.Worths.{IsAtMost}
 use Rattle.job_setup.specs.Setup.{JobData}
 use Rattle.job_setup.specs.ValidJob.{IsJob}
-use Rattle.handling_cost.specs.StepCost.{key_after, cost_of}
+use Rattle.handling_cost.specs.StepCost.{key_after}
 use Rattle.handling_cost.specs.Bound.{bound_of}
 use Rattle.handling_cost.specs.Good.{Proves, IsClosed}
 use Rattle.handling_cost.proofs.Admissible.{bound_is_admissible, full_has_no_bound}
@@ -49,10 +48,6 @@ pub grown_extends : (before after : List PoolRow) → Grows before after → Ext
 grown_extends before after grows i row worth at is = grows.keeps i row at
 
 module _ (job : JobData) where
-  pub closed_lower : (rows : List PoolRow) (key : Key) (action : Action) (low high : Worth) → IsAtMost low high → IsClosed job (HasRow rows) key action high → IsClosed job (HasRow rows) key action low
-  closed_lower rows key action low high less closed =
-      (closed.0, closed.1, at_most_through low high (plus (cost_of job key action) closed.0) less closed.2)
-
   pub known_attained : (rows : List PoolRow) (key : Key) (worth : Worth) → IsSound job rows → IsKnown job rows key worth → IsAttained job key worth
   known_attained rows key worth sound (inl full) = rw full.1 ([], full.0, refl)
   known_attained rows key worth sound (inr row) = rw (← row.3) (sound.settled row.0 row.1 worth row.2 row.4).attained

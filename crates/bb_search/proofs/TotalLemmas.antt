@@ -1,24 +1,22 @@
 -- The totals of a key's actions, by place and by side.
 use Rattle.std.proofs.Common.{◌≡◌, ℕ, ◌+◌, ◌-◌, ◌*◌, ◌/◌, ◌%◌, ◌<◌, ◌≤◌, ◌==◌, ◌&&◌, Bool, true, false, nat_lt, min, IsTrue, List}
-use Rattle.std.proofs.Common.{slice_index, true≢false, arith, inl, inr, ap, sym, subst, ◌∙◌}
+use Rattle.std.proofs.Common.{slice_index, true≢false, arith, ap, sym, subst, ◌∙◌}
 use Rattle.std.specs.Prelude.{not}
-use Rattle.std.proofs.lemmas.Bool.{cases_lt, and_parts, false_from_ne_true}
+use Rattle.std.proofs.lemmas.Bool.{and_parts, false_from_ne_true}
 use Rattle.brake_base.specs.declared.mask.Mask.{Mask}
 use Rattle.brake_base.specs.declared.stroke.Back.{Back}
 use Rattle.brake_base.specs.declared.stroke.Back.TheVariants.{Parent, Child}
 use Rattle.brake_base.specs.Masks.{has}
 use Rattle.brake_base.specs.Actions.{back_number}
-use Rattle.stage_lanes.specs.declared.actions.ActionSet.{ActionSet}
 use Rattle.stage_lanes.specs.declared.stages.StageSet.{StageSet}
 use Rattle.stage_lanes.specs.Lanes.{AreLanes}
 use Rattle.stage_lanes.specs.Stages.{has as has_stage, AreStages}
-use Rattle.stage_lanes.specs.ActionSets.{side_of, has_place, ArePlaces}
+use Rattle.stage_lanes.specs.ActionSets.{side_of, has_place}
 use Rattle.action_lanes.specs.declared.costs.ActionCosts.{ActionCosts}
-use Rattle.action_lanes.specs.Costs.{cost_at, sum_costs, is_of, IsLeastCost}
-use Rattle.action_lanes.specs.Tested.{IsTested, AreTested}
+use Rattle.action_lanes.specs.Costs.{cost_at, sum_costs}
+use Rattle.action_lanes.specs.Tested.{IsTested}
 use Rattle.action_lanes.proofs.CostLemmas.{AreLow, side_taken, side_skipped}
-use Rattle.action_lanes.proofs.SumLemmas.{above_first}
-use Rattle.action_lanes.proofs.TestedLemmas.{less, equal_is, only_below}
+use Rattle.action_lanes.proofs.TestedLemmas.{less, equal_is}
 use Rattle.bb_search.specs.Totals.{HaveRoom, NoneGivesBelow}
 
 back_low : (back : Back) → back_number back < 2
@@ -84,20 +82,3 @@ none_at_side sums slack best side totals own giving below both low totals_are ow
     let own_is = own_are stage wide in
     let most = none (8 * side + stage) (omega (arith, low, wide)) (omega (arith, wide)) (sym (totals_are stage wide) ∙ total) in
     omega (arith, sum, own_is, most))
-
--- where one with a lesser sum gives the worth, the tested ones are those with a lesser sum
-pub tested_below :
-    (bends : Mask) (sums slack : ActionCosts) (best : ℕ) (below : ActionSet)
-    → IsLeastCost (sum_costs sums slack) bends best
-    → ArePlaces below (λ place. is_of bends place && nat_lt (cost_at sums place) best)
-    → (NoneGivesBelow sums slack best (λ place. IsTrue (is_of bends place)) → ⊥)
-    → AreTested bends sums (sum_costs sums slack) best below
-tested_below bends sums slack best below least lesser given =
-    only_below bends sums (sum_costs sums slack) best (above_first bends sums slack) least below lesser
-    (λ place h tested. elim (cases_lt (cost_at sums place) best) [
-      | inl low ↦ low
-      | inr high ↦ absurd (given (λ other within of gives. elim (cases_lt (cost_at sums other) best) [
-        | inl low ↦ absurd (let dearer = tested.dearer other within of (inl (omega (arith, low, high))) in omega (arith, dearer, gives, high))
-        | inr most ↦ most
-      ]))
-    ])

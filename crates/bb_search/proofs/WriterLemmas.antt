@@ -100,9 +100,6 @@ all_known notes unknown known more left news olds place within is = elim (cases 
     cases true = inl refl
     cases false = inr refl
 
-pub unknown_noted : (notes unknown known : ActionSet) → ArePlaces unknown (λ place. has_place notes place && not (has_place known place)) → IsAmong unknown notes
-unknown_noted notes unknown known left place within is = (and_parts (has_place notes place) (not (has_place known place)) (sym (left place within) ∙ is)).0
-
 -- ---- the reasons of a row
 -- the reasons of a row are the common ones
 pub commons : (pool : Pool) (row : ℕ) (head : RowHead) (mask : Mask) → IsHeadOf pool.rows row head → mask ≡ head.key.mask

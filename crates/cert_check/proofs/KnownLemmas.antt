@@ -302,13 +302,6 @@ learned_note job old new known action reason knows mask holds = record {
       ]);
 }
 
--- behind a row of the same set, or where nothing is known
-pub knows_on : (job : JobData) (old new : RowNotes) (known : KnownReasons) → KnowsSound job old known → new.folded.mask ≡ old.folded.mask → new.unsound ≡ old.unsound → KnowsSound job new known
-knows_on job old new known knows mask unsound = record {
-  stages = knows.stages;
-  sound = λ none number reason is. subst (λ (m : Mask). IsReasonFor job m (action_at (stage_count job) number) reason) (sym mask) (knows.sound (sym unsound ∙ none) number reason is);
-}
-
 pub knows_none : (job : JobData) (notes : RowNotes) (known : KnownReasons) → known.stages ≡ stage_count job → ((number : ℕ) → reason_by known number ≡ None) → KnowsSound job notes known
 knows_none job notes known stages none = record {
   stages = stages;

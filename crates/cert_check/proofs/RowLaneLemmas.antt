@@ -4,7 +4,6 @@ use Rattle.std.specs.Prelude.{nat_lt, ◌⊎◌}
 use Rattle.std.proofs.lemmas.Bool.Decides.{eqb_tells}
 use Rattle.brake_base.specs.declared.stroke.Key.{Key}
 use Rattle.brake_base.specs.declared.stroke.Back.{Back}
-use Rattle.brake_base.specs.declared.stroke.Back.TheVariants.{Parent, Child}
 use Rattle.brake_base.specs.declared.stroke.Action.{Action}
 use Rattle.brake_base.specs.declared.stroke.Worth.{Worth}
 use Rattle.brake_base.specs.declared.stroke.Worth.TheVariants.{Cost, Blocked}
@@ -117,8 +116,3 @@ each_on P n below here m less = elim (eqb_tells m n) [
   | inl same ↦ subst P (sym same.1) here
   | inr other ↦ below m (let no = other.1 in omega (arith, less, no))
 ]
-
--- the places of a bend's actions are among the 192
-pub side_within : (bend stage : ℕ) (back : Back) → 1 ≤ bend → bend ≤ 12 → stage < 8 → 8 * side_of bend back + stage < 192
-side_within bend stage Parent first last wide = omega (arith, first, last, wide)
-side_within bend stage Child first last wide = omega (arith, first, last, wide)

@@ -12,11 +12,6 @@ use Rattle.cert_check.specs.declared.read_cert.ReadCert.{ReadCert}
 use Rattle.cert_check.specs.ReadCert.{IsReadBefore, PieceAnswer}
 
 -- ---- what is left of a piece
-pub rest_within : (piece rest : List ℕ) → IsBehind piece rest → length rest ≤ length piece
-rest_within piece rest is =
-    let long = ap (λ (t : List ℕ). length t) is.1 ∙ length-append is.0 rest in
-    omega (arith, long)
-
 pub rest_left : (piece rest : List ℕ) → IsBehind piece rest → drop (length piece - length rest) piece ≡ rest
 rest_left piece rest is =
     let front = is.0 in

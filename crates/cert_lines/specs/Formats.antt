@@ -1,5 +1,5 @@
 -- The formats that are read, and the first line, which names one.
-use Rattle.std.specs.Prelude.{ℕ, Bool, true, false, List, bytes_eq, codes, Option, Some, None}
+use Rattle.std.specs.Prelude.{ℕ, List, bytes_eq, codes, Option, Some, None}
 use Rattle.std.specs.Prelude.{if◌then◌else◌}
 use Rattle.cert_lines.specs.declared.format.TextKind.{TextKind}
 use Rattle.cert_lines.specs.declared.format.TextKind.TheVariants.{Certificate, Table as TableKind}
@@ -20,8 +20,3 @@ table_of line = if bytes_eq line (codes "brake-table 1") then Some Table else No
 abbrev pub format_of : TextKind → List ℕ → Option Format
 format_of Certificate line = version_of line
 format_of TableKind line = table_of line
-
--- version 1 has neither gangs nor forces nor depths nor loads
-abbrev pub has_loads : Format → Bool
-has_loads Version1 = false
-has_loads _ = true

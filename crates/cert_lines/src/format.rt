@@ -1,6 +1,6 @@
 //! The formats that are read.
 ghost use Rattle.std.specs.Prelude.{◌≡◌};
-ghost use Rattle.cert_lines.specs.Formats.{version_of, table_of, format_of, has_loads};
+ghost use Rattle.cert_lines.specs.Formats.{version_of, table_of, format_of};
 
 /// What is read: a certificate, in either version, or a table file.
 #[derive(Clone, Copy, Debug, PartialEq, Eq)]
@@ -15,15 +15,6 @@ pub enum Format {
     Version1,
     Version2,
     Table,
-}
-
-impl Format {
-    /// Whether the format has gangs, a force, a depth and loads.
-    pub fn has_loads(self) -> bool
-        ensures { result ≡ has_loads self }
-    {
-        !matches!(self, Format::Version1)
-    }
 }
 
 /// The format that the first line of a text of this kind names.

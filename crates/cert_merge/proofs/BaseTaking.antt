@@ -9,7 +9,6 @@ use Rattle.job_setup.specs.ValidJob.{IsJob}
 use Rattle.handling_cost.proofs.Actions.{few_bends}
 use Rattle.cert_lines.specs.declared.row_head.RowHead.{RowHead}
 use Rattle.cert_merge.specs.declared.base_rows.BaseRows.{BaseRows}
-use Rattle.cert_merge.specs.declared.row_texts.RowText.{RowText}
 use Rattle.cert_merge.specs.declared.row_texts.RowTexts.{RowTexts}
 use Rattle.cert_merge.specs.BaseRows.{AreCut, AreTaken, AreTakenSo, HaveMasks, IsFirstFrom, TakesBelow}
 use Rattle.cert_merge.specs.MergeSteps.{Rows, head_of, heads, table_said}
@@ -25,15 +24,6 @@ use Rattle.cert_merge.proofs.TableChecking.{row_key}
 pub none_first : (job : JobData) (end : ℕ) (rows : Rows) (texts : RowTexts) → TakesRow job rows None texts → IsFirstFrom end rows
 none_first job end [] texts takes = tt
 none_first job end (said ∷ rows) texts takes = absurd takes
-
-pub row_below : (job : JobData) (end : ℕ) (rows : Rows) (row : RowText) (texts : RowTexts) → TakesRow job rows (Some row) texts → row.head.key.mask.0 < end → TakesBelow job end rows (Some (row.head, texts))
-row_below job end [] row texts takes less = absurd takes
-row_below job end (said ∷ rows) row texts takes less =
-    (said, rows, refl, subst (λ (head : RowHead). head.key.mask.0 < end) takes.0.head less, takes.0.head, takes.1)
-
-pub row_past : (job : JobData) (end : ℕ) (rows : Rows) (row : RowText) (texts : RowTexts) → TakesRow job rows (Some row) texts → end ≤ row.head.key.mask.0 → IsFirstFrom end rows
-row_past job end [] row texts takes past = absurd takes
-row_past job end (said ∷ rows) row texts takes past = subst (λ (head : RowHead). end ≤ head.key.mask.0) takes.0.head past
 
 -- ---- rows up to a mask
 pub none_taken : (job : JobData) (rows : Rows) (end : ℕ) (old : List RowHead) (texts : RowTexts) → AreLeft job rows texts → AreTakenSo job rows end old old texts

@@ -1,25 +1,18 @@
 -- The text of parts, made in pieces.
-use Rattle.std.proofs.Common.{◌≡◌, ℕ, suc, ◌+◌, ◌<◌, ◌≤◌, false, List, [], ◌∷◌, ◌++◌, codes, length, drop, refl, sym, ap, ◌∙◌, arith, drop-cons, get_or}
+use Rattle.std.proofs.Common.{◌≡◌, ℕ, ◌+◌, ◌<◌, ◌≤◌, false, List, [], ◌∷◌, ◌++◌, codes, length, drop, refl, ap, ◌∙◌}
 use Rattle.std.proofs.lemmas.List.{drop_all}
 use Rattle.job_setup.specs.Setup.{JobData, stage_count}
 use Rattle.plan_cert.specs.CertText.{table_text}
 use Rattle.cert_merge.specs.declared.merged_rows.MergedRows.{MergedRows}
 use Rattle.cert_merge.specs.declared.merged_rows.Part.{Part}
 use Rattle.cert_merge.specs.MergeSteps.{Rows, flat, heads}
-use Rattle.cert_merge.specs.MergedRows.{HoldsRows, PartsGoOn, part_text, parts_text}
+use Rattle.cert_merge.specs.MergedRows.{HoldsRows, PartsGoOn, parts_text}
 use Rattle.cert_merge.specs.TextLeft.{end_text, text_left}
 use Rattle.cert_merge.proofs.SaidTexts.{beginning_of, rows_written}
-use Rattle.cert_merge.proofs.TextEnds.{gone_further, not_begun}
+use Rattle.cert_merge.proofs.TextEnds.{not_begun}
 
 pub none_put : (joined : List ℕ) (all : List Part) (from : ℕ) (text : List ℕ) → PartsGoOn joined all from from text text
 none_put joined all from text = not_begun text (parts_text joined (drop from all))
-
--- one part more
-pub one_put : (joined : List ℕ) (all : List Part) (from next : ℕ) (part : Part) (old middle new : List ℕ) → next < length all → part ≡ get_or all next part → PartsGoOn joined all from next old middle → new ≡ middle ++ part_text joined part → PartsGoOn joined all from (next + 1) old new
-one_put joined all from next part old middle new less is before told =
-    let later : suc next ≡ next + 1 = omega arith in
-    let here : drop next all ≡ part ∷ drop (next + 1) all = drop-cons all next part less ∙ (λ i. sym is i ∷ drop (later i) all) in
-    gone_further old middle new (parts_text joined (drop from all)) (parts_text joined (drop next all)) (parts_text joined (drop (next + 1) all)) (part_text joined part) before told (ap (parts_text joined) here)
 
 pub none_left : (joined : List ℕ) (all : List Part) (next : ℕ) → length all ≤ next → parts_text joined (drop next all) ≡ []
 none_left joined all next past = ap (parts_text joined) (drop_all next all past)

@@ -1,6 +1,6 @@
 -- The rows of two texts, taken in the order of their keys.
-use Rattle.std.proofs.Common.{◌≡◌, ℕ, ◌≤◌, [], ◌∷◌, ◌++◌, Option, Some, None, refl, sym, ap, subst, ◌∙◌, append_assoc, append-nil, inl, inr}
-use Rattle.std.specs.Prelude.{◌⊎◌, IsSome, option_map}
+use Rattle.std.proofs.Common.{◌≡◌, ℕ, ◌≤◌, [], ◌∷◌, ◌++◌, Option, Some, None, refl, sym, ap, subst, ◌∙◌, append_assoc, append-nil}
+use Rattle.std.specs.Prelude.{◌⊎◌, option_map}
 use Rattle.brake_base.specs.declared.stroke.Key.{Key}
 use Rattle.job_setup.specs.Setup.{JobData, stage_count}
 use Rattle.cert_lines.specs.declared.row_head.RowHead.{RowHead}
@@ -68,15 +68,6 @@ module _ (job : JobData) (xs ys : Rows) (first second : Side) (sides : AreSides 
       not_second : (k : Option Key) → next_of None k ≡ First → ⊥
       not_second None e = absurd (cc)
       not_second (Some k) e = absurd (cc)
-
-  pub second_some : IsSome first.next ⊎ IsSome second.next → next_of (next_key first) (next_key second) ≡ Second → second.next ≡ None → ⊥
-  second_some some is none = by_next first.next second.next some is none
-    where
-      by_next : (f s : Option RowText) → IsSome f ⊎ IsSome s → next_of (option_map (λ (row : RowText). row.head.key) f) (option_map (λ (row : RowText). row.head.key) s) ≡ Second → s ≡ None → ⊥
-      by_next (Some f) None some is none = absurd (cc)
-      by_next None None (inl some) is none = absurd (cc)
-      by_next None None (inr some) is none = absurd (cc)
-      by_next f (Some s) some is none = absurd (cc)
 
   module _ (done : Rows) (merged after : MergedRows) (holds : HoldsRows (stage_count job) done merged) where
     -- that of the first

@@ -2,7 +2,7 @@
 use Rattle.std.proofs.Common.{◌≡◌, ℕ, suc, ◌+◌, ◌<◌, ◌≤◌, ◌==◌, Bool, true, false, List, [], ◌∷◌, ◌++◌, length, take, drop, get_or, refl, sym, ap, ◌∙◌, arith, append_assoc, eq-eqb, drop-cons}
 use Rattle.std.proofs.Math.Seq.{take-append_seam}
 use Rattle.std.specs.Prelude.{if◌then◌else◌}
-use Rattle.std.proofs.lemmas.List.{append-nil, take_all, drop_all, take_more}
+use Rattle.std.proofs.lemmas.List.{append-nil, take_more}
 use Rattle.cert_merge.specs.RowTexts.{AreNoteLines, begins_with_note, note_bytes}
 
 -- a line's bytes behind its first one
@@ -45,20 +45,6 @@ module _ (text : List ℕ) where
   pub found_more : (i : ℕ) (at_start : Bool) (byte : ℕ) → i < length text → byte ≡ get_or text i 0 → (at_start ≡ true → byte ≡ 120) → FoundTo i at_start → FoundTo (i + 1) (byte == 10)
   found_more i true byte within is note found = one_more i true byte within is (ap (note_bytes true) (from_here i byte within is) ∙ on byte (drop (i + 1) text) (note refl)) found
   found_more i false byte within is note found = one_more i false byte within is (ap (note_bytes false) (from_here i byte within is)) found
-
-  -- they end here
-  pub found_end : (i : ℕ) (byte : ℕ) → i < length text → byte ≡ get_or text i 0 → (byte == 120) ≡ false → FoundTo i true → take i text ≡ note_bytes true text
-  found_end i byte within is other found =
-      sym (found ∙ ap (λ (t : List ℕ). take i text ++ t) (ap (note_bytes true) (from_here i byte within is) ∙ none_front (byte ∷ drop (i + 1) text) other) ∙ append-nil (take i text))
-
-  -- the text ends with them
-  pub found_all : (i : ℕ) (at_start : Bool) → length text ≤ i → FoundTo i at_start → take (length text) text ≡ note_bytes true text
-  found_all i at_start past found =
-      take_all (length text) text (omega arith) ∙ sym (found ∙ (λ k. take_all i text past k ++ note_bytes at_start (drop_all i text past k)) ∙ ap (λ (t : List ℕ). text ++ t) (nothing at_start) ∙ append-nil text)
-    where
-      nothing : (at_start : Bool) → note_bytes at_start [] ≡ []
-      nothing true = refl
-      nothing false = refl
 
 -- lines of notes, behind which another line stands
 pub lines_before : (text lines rest : List ℕ) → text ≡ lines ++ rest → AreNoteLines true lines → begins_with_note rest ≡ false → (lines ≡ note_bytes true text) × (take (length lines) text ≡ lines)

@@ -76,9 +76,6 @@ pub noted_is : (notes : List Note) (row action : ℕ) (reason : Reason) → reas
 noted_is [] row action reason e = absurd (cc)
 noted_is (note ∷ notes) row action reason e = by_rest (reason_noted notes row action) refl e (noted_is notes row action reason)
   where
-    not_there : None ≡ Some reason → ⊥
-    not_there e = absurd (cc)
-
     by_rest : (rest : Option Reason) → reason_noted notes row action ≡ rest → later_of (noted_by note row action) rest ≡ Some reason
         → (reason_noted notes row action ≡ Some reason → Contains notes (record { row = row; action = action; reason = reason })) → Contains (note ∷ notes) (record { row = row; action = action; reason = reason })
     by_rest (Some other) is e more = let at = more (is ∙ e) in (suc at.0, (let within = at.1 in omega (arith, within)), at.2)

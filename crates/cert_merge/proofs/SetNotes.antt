@@ -328,10 +328,3 @@ writer_begun settled mask own stages w in_stages at is_own are = record {
   its_notes = λ set is.
       subst (λ (s : SettledSet). AreNotesOf s.reasons w.writer w.notes) (same_Some own set (sym is_own ∙ subst (λ (m : Mask). IsSetOf settled m set) at is)) are;
 }
-
-pub writer_kept : (settled : SettledSets) (stages : ℕ) (before after : SetWriter) → after.writer ≡ before.writer → after.notes ≡ before.notes → IsWriterOf stages settled before → IsWriterOf stages settled after
-writer_kept settled stages before after same too is = record {
-  its_stages = ap (λ (w : SetNotes). w.stages) same ∙ is.its_stages;
-  its_notes = λ set here.
-      subst (AreNotesOf set.reasons after.writer) (sym too) (subst (λ (w : SetNotes). AreNotesOf set.reasons w before.notes) (sym same) (is.its_notes set (subst (λ (w : SetNotes). IsSetOf settled w.mask set) same here)));
-}

@@ -12,8 +12,7 @@ use Rattle.brake_base.specs.declared.stroke.Key.{Key}
 use Rattle.brake_base.specs.declared.stroke.Worth.{Worth}
 use Rattle.brake_base.specs.declared.stroke.Worth.TheVariants.{Cost, Blocked}
 use Rattle.brake_base.specs.declared.reason.Reason.{Reason}
-use Rattle.brake_base.specs.Worths.{IsAtMost, plus, greater}
-use Rattle.brake_base.proofs.Worths.{at_most_through}
+use Rattle.brake_base.specs.Worths.{plus, greater}
 use Rattle.job_setup.specs.Setup.{JobData, bend_count, stage_count}
 use Rattle.job_setup.specs.StrokeGroup.{is_lead}
 use Rattle.job_setup.specs.ValidJob.{IsJob}
@@ -169,31 +168,8 @@ module _ (job : JobData) (key : Key) (nexts : List (Option NextKey)) where
     pub at : get_or nexts number None ≡ Some next
     pub is : worth ≡ worth_after job key next
 
-  pub least_none : IsLeastWorth (IsAfterBelow 0) Blocked
-  least_none = record { one = inl refl; least = λ other among. let less = among.less in absurd (omega (arith, less)) }
-
   wider : (count : ℕ) (worth : Worth) → IsAfterBelow count worth → IsAfterBelow (count + 1) worth
   wider count worth among = let less = among.less in record { number = among.number; less = omega (arith, less); next = among.next; at = among.at; is = among.is }
-
-  -- another next key
-  pub least_on : (count : ℕ) (least worth result : Worth) (next : NextKey) → get_or nexts count None ≡ Some next → worth ≡ worth_after job key next → (result ≡ least) ⊎ (result ≡ worth) → IsAtMost result least → IsAtMost result worth
-      → IsLeastWorth (IsAfterBelow count) least → IsLeastWorth (IsAfterBelow (count + 1)) result
-  least_on count least worth result next at is either low low_too so_far = record {
-    one = elim either [
-      | inl same ↦ elim so_far.one [ inl blocked ↦ inl (same ∙ blocked) | inr among ↦ inr (subst (IsAfterBelow (count + 1)) (sym same) (wider count least among)) ]
-      | inr same ↦ inr (record { number = count; less = omega arith; next = next; at = at; is = same ∙ is })
-    ];
-    least = λ other among. elim (eqb_tells among.number count) [
-      | inl here ↦
-          let found : Some next ≡ Some among.next = sym at ∙ (ap (λ (n : ℕ). get_or nexts n None) (sym here.1) ∙ among.at) in
-          let same : worth ≡ other = is ∙ (ap (λ (n : NextKey). worth_after job key n) (same_Some next among.next found) ∙ sym among.is) in
-          subst (IsAtMost result) same low_too
-      | inr there ↦
-          let less = among.less in
-          let no = there.1 in
-          at_most_through result least other low (so_far.least other (record { number = among.number; less = omega (arith, less, no); next = among.next; at = among.at; is = among.is }))
-    ];
-  }
 
   -- or none at this number
   pub least_same : (count : ℕ) (least : Worth) → get_or nexts count None ≡ None → IsLeastWorth (IsAfterBelow count) least → IsLeastWorth (IsAfterBelow (count + 1)) least
@@ -206,14 +182,6 @@ module _ (job : JobData) (key : Key) (nexts : List (Option NextKey)) where
           let no = there.1 in
           so_far.least other (record { number = among.number; less = omega (arith, less, no); next = among.next; at = among.at; is = among.is })
     ];
-  }
-
-  pub least_all : (count : ℕ) (least : Worth) → AreReady job nexts → 2 * bend_count job * stage_count job ≤ count → IsLeastWorth (IsAfterBelow count) least → IsLeastWorth (IsAfterOne job key nexts) least
-  least_all count least ready all so_far = record {
-    one = elim so_far.one [ inl blocked ↦ inl blocked | inr among ↦ inr (among.number, among.next, among.at, among.is) ];
-    least = λ other among.
-        let below = (ready among.0 among.1 among.2).0 in
-        so_far.least other (record { number = among.0; less = omega (arith, below, all); next = among.1; at = among.2; is = among.3 });
   }
 
 -- ---- the keys of a set

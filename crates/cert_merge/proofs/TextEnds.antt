@@ -49,17 +49,6 @@ end_given from next is_ended beginning text out new ended none gone past opens s
           ∙ sym (append-nil (gone.piece ++ line)) ∙ ap (λ (t : List ℕ). (gone.piece ++ line) ++ t) (sym (nothing_left beginning next true none past refl)),
     )
 
--- rows are given, and more are left
-pub rows_given : (from next : List ℕ) (is_ended : Bool) (beginning text out new : List ℕ) → beginning ≡ [] → GoesOn out new from next → text_left beginning from is_ended ≡ text
-    → (piece : List ℕ) × (new ≡ out ++ piece) × (text ≡ piece ++ text_left beginning next is_ended)
-rows_given from next is_ended beginning text out new none gone seen = (
-  gone.piece,
-  gone.text,
-  sym seen ∙ (λ i. (none i ++ gone.rest i) ++ end_text is_ended)
-      ∙ append_assoc gone.piece next (end_text is_ended)
-      ∙ ap (λ (b : List ℕ). gone.piece ++ ((b ++ next) ++ end_text is_ended)) (sym none),
-)
-
 -- a part behind the rows is given, of which none are left
 pub behind_given : (beginning before from next behind later text out middle new : List ℕ) (is_ended : Bool) → beginning ≡ [] → before ≡ [] → from ≡ [] → next ≡ [] → middle ≡ out
     → (given : (piece : List ℕ) × (new ≡ middle ++ piece) × (behind ≡ piece ++ later)) → text_left beginning (before ++ (from ++ behind)) is_ended ≡ text

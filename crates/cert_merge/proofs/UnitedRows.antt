@@ -12,12 +12,10 @@ use Rattle.job_setup.specs.Setup.{JobData, bend_count, stage_count}
 use Rattle.cert_words.specs.LineWords.{word_length}
 use Rattle.cert_words.specs.PlanWords.{note_in}
 use Rattle.plan_lines.specs.declared.note.Note.{Note}
-use Rattle.cert_lines.specs.declared.row_head.RowHead.{RowHead}
 use Rattle.cert_lines.specs.LineReading.{lines_in}
 use Rattle.cert_lines.specs.Lines.{line_text, lines_text, row_line, words_of, action_at}
 use Rattle.plan_cert.specs.CertText.{line_of_note, rows_lines}
 use Rattle.cert_lines.specs.LineReading.{IsCut}
-use Rattle.cert_lines.specs.Lines.{IsWorth}
 use Rattle.plan_cert.specs.WellFormed.{NoteIsBefore}
 use Rattle.plan_lines.proofs.ActionNumbers.{number_is, bend_of_number}
 use Rattle.plan_lines.proofs.Actions.{few_actions}
@@ -208,9 +206,6 @@ module _ (job : JobData) (bends stages : ℕ) (x y : Key × Settled) (first seco
 
   abbrev both_notes : List Note
   both_notes = notes_upto 0 both.reasons most_actions
-
-  pub worth_there : IsWorth first.head.worth
-  worth_there = subst (λ (h : RowHead). IsWorth h.worth) (sym are.first_is.head) are.first_is.of_job.row.worth
 
   module _ (few_bends : bends ≤ 12) (own other reasons : List (Option Reason)) (own_is : AreReasonsOf bends stages first.notes.now own) (other_is : AreReasonsOf bends stages second.notes.now other)
       (are_united : (action : ℕ) → slice_index_or reasons action None ≡ first_reason (slice_index_or own action None) (slice_index_or other action None)) where

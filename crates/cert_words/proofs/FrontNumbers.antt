@@ -43,9 +43,6 @@ small text i all few =
 
 -- one digit more
 module _ (text : List ℕ) (i : ℕ) (within : i < length text) (is : is_ascii_digit (get_or text i 0) ≡ true) where
-  pub digit_low : 48 ≤ get_or text i 0
-  digit_low = (digit_range (get_or text i 0) is).0
-
   pub digit_high : get_or text i 0 ≤ 57
   digit_high = (digit_range (get_or text i 0) is).1
 

@@ -60,10 +60,6 @@ unfolding support_of
 has_support job few b reason bend =
     has_few (λ c. is_bend job c && is_in_support job b reason c) bend (no_bend_0 job (is_in_support job b reason 0)) (λ c past. no_bend_past job c (is_in_support job b reason c) (omega (arith, few, past)))
 
-pub support_fits : (job : JobData) (b : ℕ) (reason : Reason) → (support_of job b reason).0 < 2 ^ 16
-unfolding support_of
-support_fits job b reason = mask_of_fits (λ bend. is_bend job bend && is_in_support job b reason bend)
-
 -- the bends of the support that pass a test
 abbrev pub part_of : JobData → ℕ → Reason → (ℕ → Bool) → Mask
 part_of job b reason p = mask_of (λ bend. has (support_of job b reason) bend && p bend)

@@ -81,12 +81,6 @@ either : (s t : Bool) → (s || t) ≡ true → t ≡ false → s ≡ true
 either true t e f = refl
 either false t e f = absurd cc
 
-apart_is : (m n : ℕ) → n < m → (m == n) ≡ false
-apart_is m n lt = grind (arith, lt)
-
-apart_too : (m n : ℕ) → m < n → (m == n) ≡ false
-apart_too m n lt = grind (arith, lt)
-
 are_more : (facts : JobFacts) (old new : ActionSet) (count next : ℕ) (notes : List KnownNote) (note : KnownNote) → facts.stages ≤ 6 → IsActionAmong 12 facts.stages note.action
     → ArePlaces new (λ place. has_place old place || place == place_of note.action) → next ≤ number_of_action facts.stages note.action → AreOf facts old count next notes
     → AreOf facts new (count + 1) (number_of_action facts.stages note.action + 1) (notes ++ note ∷ [])
@@ -293,18 +287,6 @@ block_run facts held block leads text run same cut notes count least is = record
 front_is : (front rest : List ℕ) → take (length (front ++ rest) - length rest) (front ++ rest) ≡ front
 front_is front rest = let count : length (front ++ rest) - length rest ≡ length front = omega (arith, length-append front rest) in
     ap (λ (n : ℕ). take n (front ++ rest)) count ∙ take-append_seam front rest
-
--- the text before what is left is that of the notes
-pub run_block : (facts : JobFacts) (held : List (Option KnownNote)) (leads : Mask) (text : List ℕ) (run : NoteRun) (block : NoteBlock) → block.leads ≡ leads → block.text.now ≡ take (length text - length run.rest.now) text
-    → block.notes ≡ run.notes → block.count ≡ run.count → block.least ≡ run.least → run.count ≤ run.least → IsRun facts held leads 0 text run → IsBlock facts held block
-run_block facts held leads text run block same cut notes count least few is = record {
-  taken = is.taken;
-  follow = subst (λ (m : Mask). MayFollow facts held m 0 is.taken block.least) (sym same) (subst (λ (n : ℕ). MayFollow facts held leads 0 is.taken n) (sym least) is.follow);
-  is_text = cut ∙ ap (λ (t : List ℕ). take (length t - length run.rest.now) t) is.is_text ∙ front_is (flat_map line_of is.taken) run.rest.now;
-  are = subst (λ (s : ActionSet). AreOf facts s block.count block.least is.taken) (sym notes)
-      (subst (λ (n : ℕ). AreOf facts run.notes n block.least is.taken) (sym count) (subst (λ (n : ℕ). AreOf facts run.notes run.count n is.taken) (sym least) is.are));
-  few = omega (arith, count, least, few);
-}
 
 -- the line number counts on
 pub numbers_are : (count n : ℕ) → n ≤ 2 ^ 32 - 1 → min (n + count) (2 ^ 32 - 1) ≡ numbers_on count n

@@ -131,14 +131,6 @@ pub block_done : (stages : ℕ) (lines : List (List ℕ)) (set : ActionSet) → 
 block_done stages lines set none = ap (λ (ps : List ℕ). flat_map (λ place. get_or lines (number_at stages place) []) ps) (no_places set none)
 
 -- ---- whether all have a reason
-pub known_all : (notes known left : ActionSet) → ArePlaces left (λ place. has_place notes place && not (has_place known place)) → IsNone left → IsAmong notes known
-known_all notes known left are none place within is = in_both (has_place notes place) (has_place known place) is (sym (are place within) ∙ none place within)
-  where
-    in_both : (s t : Bool) → s ≡ true → (s && not t) ≡ false → t ≡ true
-    in_both s true p q = refl
-    in_both true false p q = absurd cc
-    in_both false false p q = absurd cc
-
 pub all_known : (notes known left : ActionSet) → ArePlaces left (λ place. has_place notes place && not (has_place known place)) → IsAmong notes known → IsNone left
 all_known notes known left are among place within = are place within ∙ nothing (has_place notes place) (has_place known place) (among place within)
   where

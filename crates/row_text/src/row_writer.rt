@@ -1,5 +1,5 @@
 //! The writer of rows.
-ghost use Rattle.std.specs.Prelude.{◌≡◌, ◌↔◌, ◌≤◌, ◌<◌, ◌+◌, ◌*◌, ◌++◌, ◌∷◌, ◌&&◌, ◌||◌, ◌==◌, not, IsTrue, length, map, if◌then◌else◌, ℕ, OnOk, OnErr, IfOk};
+ghost use Rattle.std.specs.Prelude.{◌≡◌, ◌≤◌, ◌<◌, ◌+◌, ◌*◌, ◌++◌, ◌∷◌, ◌&&◌, ◌||◌, ◌==◌, not, length, map, if◌then◌else◌, ℕ, OnOk, OnErr, IfOk};
 ghost use Rattle.brake_base.specs.Actions.{IsActionAmong, number_of_action};
 ghost use Rattle.cert_lines.specs.Lines.{line_text, lines_text, row_line};
 ghost use Rattle.plan_cert.specs.CertText.{line_of_note};
@@ -161,13 +161,6 @@ impl RowWriter {
             (λ place. has_place notes place && not (has_place self.now.known place)) }
     {
         notes.without(self.known)
-    }
-
-    /// Whether each of these actions has a reason.
-    pub fn knows(&self, notes: ActionSet) -> bool
-        ensures { IsTrue result ↔ IsAmong notes self.now.known }
-    {
-        self.unknown(notes).is_empty()
     }
 
     /// From now on this is the reason against the action where the set's bends are folded. After a

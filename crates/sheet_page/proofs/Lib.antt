@@ -9,7 +9,6 @@ mod Tried
 mod Costs
 mod Firsts
 mod Numbered
-mod Marked
 mod Furthest
 mod RowStates
 mod Pictures

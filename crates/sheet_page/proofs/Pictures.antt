@@ -1,7 +1,7 @@
 -- The pictures of the refused strokes, note by note.
-use Rattle.std.proofs.Common.{◌≡◌, ℕ, ◌+◌, ◌<◌, ◌≤◌, ℤ, pos, ◌+ℤ◌, Bool, true, false, List, length, get_or, take, drop, refl, sym, subst}
+use Rattle.std.proofs.Common.{◌≡◌, ℕ, ◌+◌, ◌<◌, ◌≤◌, ℤ, pos, ◌+ℤ◌, Bool, true, List, length, get_or, take, drop, sym, subst}
 use Rattle.std.specs.Prelude.{Result, Ok, Err, IfOk, int_lt, ◌&&◌}
-use Rattle.std.proofs.lemmas.List.{take_more, drop_more, drop_all}
+use Rattle.std.proofs.lemmas.List.{take_more, drop_more}
 use Rattle.brake_base.specs.declared.mask.Mask.{Mask}
 use Rattle.job_setup.specs.Setup.{JobData}
 use Rattle.plan_lines.specs.declared.note.Note.{Note}
@@ -14,9 +14,6 @@ use Rattle.sheet_page.specs.Left.{action_of_note}
 use Rattle.sheet_page.specs.Pictured.{is_pictured, AreOfNote, GoesOn, AreLast}
 
 module _ (job : JobData) (mask : Mask) (notes : List Note) (figure : ℤ) where
-  pub last_none : (at : ℕ) (put : ℤ) (text : List ℕ) → length notes ≤ at → AreLast job mask (take at notes) (drop at notes) figure put put text text
-  last_none at put text past = subst (λ (t : List Note). AreLast job mask (take at notes) t figure put put text text) (sym (drop_all at notes past)) (refl, refl)
-
   last_one : (at : ℕ) (d : Note) (put next count : ℤ) (before mid after : List ℕ) → at < length notes
       → GoesOn (int_lt put (pos 2) && is_pictured job mask (take at notes) (get_or notes at d)) job mask (get_or notes at d) figure put next before mid
       → AreLast job mask (take (at + 1) notes) (drop (at + 1) notes) figure next count mid after → AreLast job mask (take at notes) (drop at notes) figure put count before after
@@ -32,9 +29,6 @@ module _ (job : JobData) (mask : Mask) (notes : List Note) (figure : ℤ) where
 
 -- what goes on, where nothing is shown, and where the pictures of a note are
 module _ (job : JobData) (mask : Mask) (note : Note) (figure put : ℤ) where
-  pub goes_none : (shows : Bool) (text : List ℕ) → shows ≡ false → GoesOn shows job mask note figure put put text text
-  goes_none shows text is = subst (λ (b : Bool). GoesOn b job mask note figure put put text text) (sym is) (refl, refl)
-
   pub goes_more : (shows : Bool) (more count : ℤ) (before after : List ℕ) → shows ≡ true → AreOfNote job mask note (figure +ℤ put) more before after → count ≡ put +ℤ more → GoesOn shows job mask note figure put count before after
   goes_more shows more count before after is pictures further = subst (λ (b : Bool). GoesOn b job mask note figure put count before after) (sym is) (more, pictures, further)
 

@@ -1,30 +1,14 @@
 -- The refusals of a page, part by part.
-use Rattle.std.proofs.Common.{◌≡◌, ◌∙◌, ℕ, ◌-◌, ◌≤◌, ℤ, ◌+ℤ◌, List, [], ◌∷◌, ◌++◌, length, map, take, drop, get_or, ap, sym, subst, arith}
+use Rattle.std.proofs.Common.{◌≡◌, ◌∙◌, ℕ, ◌-◌, ◌≤◌, ℤ, ◌+ℤ◌, List, ◌∷◌, ◌++◌, length, map, take, ap, sym, subst}
 use Rattle.std.specs.Prelude.{Result, Ok, Err, OnOk, option_map}
 use Rattle.std.proofs.lemmas.List.{length-map}
 use Rattle.job_setup.specs.Setup.{JobData}
 use Rattle.plan_lines.specs.declared.note.Note.{Note}
-use Rattle.sheet_page.specs.declared.kept.State.{State}
 use Rattle.sheet_page.specs.declared.kept.Kept.{Kept}
 use Rattle.sheet_page.specs.Counts.{counts_text}
-use Rattle.sheet_page.specs.Kept.{StateData, state_data, notes_of, notes_if_any, flat_notes, dead_ends, furthest, most_folded, refusal_count, count_in, IsKept}
-use Rattle.sheet_page.specs.NoPlan.{first_text, far_text, refusals_begin, IsDeadEnd, AreDeadEnds, HasRefusals}
-use Rattle.sheet_page.proofs.Blocks.{tail_is}
+use Rattle.sheet_page.specs.Kept.{StateData, state_data, notes_if_any, flat_notes, dead_ends, furthest, most_folded, refusal_count, count_in, IsKept}
+use Rattle.sheet_page.specs.NoPlan.{first_text, far_text, refusals_begin, AreDeadEnds, HasRefusals}
 use Rattle.sheet_page.proofs.Joined.{two_put}
-
--- a state that is shown, and those behind it
-module _ (job : JobData) (notes : List Note) (d : State) where
-  pub ends_put : (figure count next : ℤ) (all : List State) (before mid now : List ℕ) {T E : Type 0} (r : Result T E) → 1 ≤ length all → next ≡ figure +ℤ count → IsDeadEnd job (get_or all 0 d).mask (notes_of notes (get_or all 0 d)) figure count before mid
-      → OnOk r (AreDeadEnds job (map (state_data notes) (take (length all - 1) (drop 1 all))) next mid now) → OnOk r (AreDeadEnds job (map (state_data notes) all) figure before now)
-  ends_put figure count next [] before mid now r some further one rest = absurd (omega (arith, some))
-  ends_put figure count next (state ∷ states) before mid now (Ok _) some further one rest = (
-    count,
-    mid,
-    one,
-    subst (λ (f : ℤ). AreDeadEnds job (map (state_data notes) states) f mid now) further
-        (subst (λ (s : List State). AreDeadEnds job (map (state_data notes) s) next mid now) (tail_is (state ∷ states)) rest),
-  )
-  ends_put figure count next (state ∷ states) before mid now (Err _) some further one rest = tt
 
 -- all of them
 module _ (job : JobData) (notes : List Note) (states : List StateData) (kept : Kept) (are : IsKept job notes states kept) where

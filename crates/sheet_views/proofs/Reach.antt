@@ -1,5 +1,5 @@
 -- How fingers reach into boxes, and the warnings that are put one by one.
-use Rattle.std.proofs.Common.{◌≡◌, ℕ, ◌+◌, ◌<◌, ℤ, Bool, true, false, ◌↔◌, IsTrue, List, [], ◌∷◌, ◌++◌, map, take, length, append_assoc, refl, sym, ap, ◌∙◌, arith}
+use Rattle.std.proofs.Common.{◌≡◌, ℕ, ◌+◌, ◌<◌, ℤ, Bool, true, false, ◌↔◌, IsTrue, List, [], ◌∷◌, ◌++◌, map, take, length, refl, sym, ap, ◌∙◌, arith}
 use Rattle.std.specs.Prelude.{All, flat_map}
 use Rattle.std.specs.List.{range_with_len}
 use Rattle.std.proofs.lemmas.Int.{ints}
@@ -49,9 +49,3 @@ range_more i = sym (map_id (range_with_len 0 (i + 1))) ∙ map-range_with_len_mo
 pub station_more : {X : Type 0} (f : ℕ → List X) (old before after : List X) (i : ℕ) → before ≡ old ++ flat_map f (range_with_len 0 i) → after ≡ before ++ f i → after ≡ old ++ flat_map f (range_with_len 0 (i + 1))
 station_more {X = X} f old before after i so_far put =
     put ∙ ap (λ (xs : List X). xs ++ f i) so_far ∙ flat_map_more f old (range_with_len 0 i) i ∙ ap (λ (ks : List ℕ). old ++ flat_map f ks) (sym (range_more i))
-
--- six lists put one after the other
-pub put_six : {X : Type 0} (a b c d e f none one two three four five six : List X) → none ≡ [] → one ≡ none ++ a → two ≡ one ++ b → three ≡ two ++ c → four ≡ three ++ d → five ≡ four ++ e → six ≡ five ++ f → six ≡ a ++ (b ++ (c ++ (d ++ (e ++ f))))
-put_six {X = X} a b c d e f none one two three four five six h0 h1 h2 h3 h4 h5 h6 =
-    h6 ∙ ap (λ (xs : List X). xs ++ f) (h5 ∙ ap (λ (xs : List X). xs ++ e) (h4 ∙ ap (λ (xs : List X). xs ++ d) (h3 ∙ ap (λ (xs : List X). xs ++ c) (h2 ∙ ap (λ (xs : List X). xs ++ b) (h1 ∙ ap (λ (xs : List X). xs ++ a) h0)))))
-    ∙ append_assoc ((((a ++ b) ++ c) ++ d)) e f ∙ append_assoc ((a ++ b) ++ c) d (e ++ f) ∙ append_assoc (a ++ b) c (d ++ (e ++ f)) ∙ append_assoc a b (c ++ (d ++ (e ++ f)))

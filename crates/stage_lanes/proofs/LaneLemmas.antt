@@ -78,18 +78,6 @@ least_lane xs fours pairs p q =
     rw (first, second) (record { lane = stands_min xs _ _ (stands_four xs 0 (omega arith)) (stands_four xs 1 (omega arith)); least = below_all xs })
 
 -- ---- eight lanes as a list
-pub eight_lanes : (P : List ℕ → Type 0) → ((a b c d e f g h : ℕ) → P (a ∷ b ∷ c ∷ d ∷ e ∷ f ∷ g ∷ h ∷ [])) → (xs : List ℕ) → length xs ≡ 8 → P xs
-eight_lanes P p (a ∷ b ∷ c ∷ d ∷ e ∷ f ∷ g ∷ h ∷ []) long = p a b c d e f g h
-eight_lanes P p [] long = absurd (omega arith)
-eight_lanes P p (a ∷ []) long = absurd (omega arith)
-eight_lanes P p (a ∷ b ∷ []) long = absurd (omega arith)
-eight_lanes P p (a ∷ b ∷ c ∷ []) long = absurd (omega arith)
-eight_lanes P p (a ∷ b ∷ c ∷ d ∷ []) long = absurd (omega arith)
-eight_lanes P p (a ∷ b ∷ c ∷ d ∷ e ∷ []) long = absurd (omega arith)
-eight_lanes P p (a ∷ b ∷ c ∷ d ∷ e ∷ f ∷ []) long = absurd (omega arith)
-eight_lanes P p (a ∷ b ∷ c ∷ d ∷ e ∷ f ∷ g ∷ []) long = absurd (omega arith)
-eight_lanes P p (a ∷ b ∷ c ∷ d ∷ e ∷ f ∷ g ∷ h ∷ i ∷ xs) long = absurd (omega arith)
-
 -- a fact of the stages 0 to 7
 pub each_stage : (P : ℕ → Type 0) → P 0 → P 1 → P 2 → P 3 → P 4 → P 5 → P 6 → P 7 → (stage : ℕ) → stage < 8 → P stage
 each_stage P a b c d e f g h zero l = a

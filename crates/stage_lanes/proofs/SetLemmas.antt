@@ -230,9 +230,6 @@ some_ones start end bit near order =
       | inr above ↦ ap (λ b. b == 1) (bit_at_ones_above (end - start) bit above) ∙ no (start + bit) end (omega (arith, above, order))
     ])
 
-pub no_ones : (start end bit : ℕ) → end ≤ start → (bit_at 0 bit == 1) ≡ nat_lt (start + bit) end
-no_ones start end bit past = ap (λ b. b == 1) (bit_at-zero bit) ∙ no (start + bit) end (omega (arith, past))
-
 -- ---- the words below the second and the third
 pub each_below_one : (set : ActionSet) → slice_index set.words 0 ≡ 0 → (word : ℕ) → word < 1 → slice_index set.words word ≡ 0
 each_below_one set e zero h = e

@@ -38,12 +38,6 @@ pub record IsStrokeOf (job : JobData) (mask : Mask) (lead : ℕ) (back : Back) (
       (stage : ℕ) → stage < length job.setup.stages
       → IsFirstAt job mask (group_of job mask lead) back stage (reason_at stroke.reasons stage)
 
--- what a stroke has at a stage
-pub record IsOfStage (stroke : Stroke) (stage : ℕ) (found : StageStroke) : Type 0 where
-  pub attitude : found.attitude ≡ stroke.attitude
-  pub gauge : found.gauge ≡ stroke.gauge
-  pub reason : found.reason ≡ reason_at stroke.reasons stage
-
 -- The attitude of the part in the stroke of an action, and the first legal pair and the first
 -- reason at its stage.
 pub record IsStrokeAt (job : JobData) (mask : Mask) (action : Action) (found : StageStroke)

@@ -1,6 +1,6 @@
 //! What is found out about a stroke.
 ghost use Rattle.std.specs.Prelude.{◌≡◌, ◌<◌};
-ghost use Rattle.stroke_table.specs.Strokes.{reason_at, IsOfStage};
+ghost use Rattle.stroke_table.specs.Strokes.{reason_at};
 
 use brake_base::{Gauge, Reason, Turn};
 
@@ -24,18 +24,6 @@ pub struct StageStroke {
 }
 
 impl Stroke {
-    /// What is found out about the stroke at a stage.
-    pub fn at_stage(&self, stage: u8) -> StageStroke
-        requires { stage < 6 }
-        ensures { IsOfStage self.now stage result }
-    {
-        StageStroke {
-            attitude: self.attitude,
-            gauge: self.gauge,
-            reason: self.reason(stage),
-        }
-    }
-
     /// The first reason against the stroke at a stage. None exactly where the stroke is legal there.
     pub fn reason(&self, stage: u8) -> Option<Reason>
         requires { stage < 6 }

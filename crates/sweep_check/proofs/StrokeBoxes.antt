@@ -131,7 +131,3 @@ seen_near Front r near = record { y0 = omega (arith, ints, near.y1); y1 = omega 
 -- what a box sweeps with
 pub moving_tested : (job : JobData) → IsJob job → (box : PoseBox) → IsNearPoseBox box → IsSolidPoseBox box → IsTested (moving_rect job box)
 moving_tested job fit box near solid = widened_tested (widening job) (seen_from box.half (across box.body)) (small_widening job fit) (seen_near box.half (across box.body) (across_near box near solid))
-
--- a box of the front half against which the back half is tested
-pub widened_box_tested : (job : JobData) → IsJob job → (box : PoseBox) → IsNearPoseBox box → IsSolidPoseBox box → IsTested (widened_by (widening job) (across box.body))
-widened_box_tested job fit box near solid = widened_tested (widening job) (across box.body) (small_widening job fit) (across_near box near solid)
