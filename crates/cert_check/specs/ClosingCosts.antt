@@ -1,10 +1,9 @@
 -- What closes the actions of rows that are held alike and have the same notes, a lane for each
 -- stage. Costs are in tenths of a second.
-use Rattle.std.specs.Prelude.{◌≡◌, ◌⊎◌, ℕ, ◌+◌, ◌*◌, ◌^◌, ◌<◌, ◌≤◌, IsTrue, List, Some, None}
-use Rattle.std.specs.Prelude.{slice_index, slice_index_or}
+use Rattle.std.specs.Prelude.{◌≡◌, ◌⊎◌, ℕ, ◌+◌, ◌*◌, ◌^◌, ◌<◌, ◌≤◌, IsTrue, IfSome, List}
+use Rattle.std.specs.Prelude.{slice_index}
 use Rattle.brake_base.specs.declared.stroke.Back.{Back}
 use Rattle.stage_lanes.specs.declared.actions.ActionSet.{ActionSet}
-use Rattle.stage_lanes.specs.declared.costs.StageCosts.{StageCosts}
 use Rattle.stage_lanes.specs.ActionSets.{side_of, has_place}
 use Rattle.action_lanes.specs.Costs.{cost_at}
 use Rattle.job_setup.specs.Setup.{JobData, bend_count, stage_count}
@@ -59,9 +58,7 @@ pub record IsClosing (job : JobData) (proved : ProvedCosts) (noted : ActionSet) 
   pub each : ClosesBelow job proved noted attitude (bend_count job + 1) lanes
   pub small : IsSmall lanes
 
--- what is found for an attitude closes the actions of rows that are held so
+-- what was found last closes the actions of its rows
 abbrev pub AreFound : JobData → ProvedCosts → ClosingCosts → Type 0
-AreFound job proved closing =
-    (attitude : ℕ) (costs : StageCosts)
-    → slice_index_or closing.found attitude None ≡ Some costs
-    → IsClosing job proved closing.noted attitude costs.0
+AreFound job proved closing = IfSome closing.found (λ found.
+    IsClosing job proved found.rows.noted found.rows.attitude found.costs.0)

@@ -1,5 +1,5 @@
-//! What closes the actions of rows that are held alike and have the same notes, found once for all
-//! these rows, a lane for each stage.
+//! What closes the actions of rows that are held alike and have the same notes, found once for such
+//! rows that stand together, a lane for each stage.
 ghost use Rattle.std.specs.Prelude.{◌≡◌, ◌≤◌};
 ghost use Rattle.job_setup.specs.Setup.{JobData, bend_count};
 ghost use Rattle.cert_check.specs.declared.proved_costs.ProvedCosts.{ProvedCosts};
@@ -12,42 +12,33 @@ use set_facts::LaneFacts;
 use stage_lanes::{ActionSet, StageCosts};
 
 /// How rows of a set of folded bends are held, and the actions that are noted at each of them.
-#[derive(Clone, Copy)]
+#[derive(Clone, Copy, PartialEq, Eq)]
 pub(crate) struct AlikeRows {
     pub attitude: Turn,
     pub noted: ActionSet,
 }
 
-/// For rows of a set with the same notes, by the number of the attitude: the least of what each
-/// action without a note costs by the change of attitude and by what is proved behind it. `None`
-/// where that wasn't found yet.
+/// What closes the actions of such rows, by stage.
+#[derive(Clone, Copy)]
+struct FoundCosts {
+    rows: AlikeRows,
+    costs: StageCosts,
+}
+
+/// What closes the actions of the rows of a set that were looked at last: the least of what each
+/// action without a note costs by the change of attitude and by what is proved behind it. Rows stand
+/// in the order of their keys, so those that are held alike stand together.
 #[derive(Clone, Copy)]
 pub(crate) struct ClosingCosts {
-    noted: ActionSet,
-    found: [Option<StageCosts>; 24],
+    found: Option<FoundCosts>,
 }
 
 impl ClosingCosts {
-    /// Nothing is found for rows with these notes.
-    pub fn none(noted: ActionSet) -> ClosingCosts
-        ensures noted { result.noted ≡ noted }
-        ensures found { (job : JobData) (proved : ProvedCosts) → AreFound job proved result }
+    /// Nothing is found yet.
+    pub fn none() -> ClosingCosts
+        ensures { (job : JobData) (proved : ProvedCosts) → AreFound job proved result }
     {
-        ClosingCosts {
-            noted,
-            found: [None; 24],
-        }
-    }
-
-    /// Makes them those of rows with these notes.
-    fn turn_to(&mut self, noted: ActionSet)
-        ensures noted { self.new.noted ≡ noted }
-        ensures found { (job : JobData) (proved : ProvedCosts)
-            → AreFound job proved self.old → AreFound job proved self.new }
-    {
-        if self.noted != noted {
-            *self = ClosingCosts::none(noted);
-        }
+        ClosingCosts { found: None }
     }
 
     /// What closes the actions of these rows: at no stage more than an action without a note costs by
@@ -65,13 +56,12 @@ impl ClosingCosts {
         ensures closing { IsClosing job.now proved.now rows.noted rows.attitude result.0 }
         ensures found { AreFound job.now proved.now self.new }
     {
-        self.turn_to(rows.noted);
-        let place = usize::from(rows.attitude.number());
-        match self.found[place] {
-            Some(costs) => costs,
-            None => {
+        let last = self.found;
+        match last {
+            Some(found) if found.rows == rows => found.costs,
+            _ => {
                 let costs = closing_costs(job, facts, proved, &rows);
-                self.found[place] = Some(costs);
+                self.found = Some(FoundCosts { rows, costs });
                 costs
             }
         }

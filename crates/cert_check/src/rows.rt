@@ -53,7 +53,7 @@ impl CheckedSet {
         job.recall_valid();
         let actions = SetActions::of(job, facts, Mask::empty());
         let proved = ProvedCosts::of(job, rows, facts, Mask::empty());
-        let closing = ClosingCosts::none(ActionSet::empty());
+        let closing = ClosingCosts::none();
         CheckedSet {
             actions,
             proved,
@@ -72,7 +72,7 @@ impl CheckedSet {
     {
         if self.proved.mask != mask {
             self.proved = ProvedCosts::of(job, rows, facts, mask);
-            self.closing = ClosingCosts::none(ActionSet::empty());
+            self.closing = ClosingCosts::none();
         }
     }
 }

@@ -12,6 +12,6 @@ returns c = record {
   set = record {
     actions = c.of-actions.ensures.actions;
     proved = c.of-proved.ensures.costs;
-    closing = c.none-closing.ensures.found c.args.job.now c.of-proved.result;
+    closing = c.none-closing.ensures c.args.job.now c.of-proved.result;
   };
 }

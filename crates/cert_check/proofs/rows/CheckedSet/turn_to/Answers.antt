@@ -4,5 +4,5 @@ pub returns-then-ne-clause-set : goal.returns-then-ne-clause-set
 returns-then-ne-clause-set c = record {
   actions = c.requires.set.actions;
   proved = c.of-self.ensures.costs;
-  closing = c.none-self.ensures.found c.args.job.now c.of-self.result;
+  closing = c.none-self.ensures c.args.job.now c.of-self.result;
 }
