@@ -29,7 +29,7 @@ use Rattle.brake_commands.specs.declared.table_check.CheckedText.{CheckedText}
 use Rattle.brake_commands.specs.declared.table_check.TableStop.{TableStop}
 use Rattle.brake_commands.specs.declared.table_check.TableStop.TheVariants as stop
 use Rattle.brake_commands.specs.TableCheck.{TableChecksTo, table_refused_line, AnswersTable}
-use Rattle.brake_commands.specs.TableStops.{of_cert_fault, of_table_fault, of_prove_fault, checked_file, ChecksTable, IsCheckedText, IsTableRefusalAnd}
+use Rattle.brake_commands.specs.TableStops.{of_cert_fault, of_table_fault, of_prove_fault, checked_file, StopsAt, IsCheckedText, IsTableRefusalAnd}
 use Rattle.brake_commands.specs.TableAnswer.{IsTrueTable, told_answer, stored_table_answer, AnswersOneJob}
 use Rattle.brake_commands.specs.ProveAnswer.{IsProved}
 use Rattle.brake_commands.specs.MergeAnswer.{IsMergedAnswer}
@@ -48,7 +48,7 @@ other_than : {A B : Type 0} → (A → ⊥) → A ⊎ B → B
 other_than never (inl a) = absurd (never a)
 other_than never (inr b) = b
 
-pub text_stopped : (text : List ℕ) (fault : CertFault) → (fault ≡ cert.NoMemory) ⊎ NoTable text fault → (fault ≡ cert.NoMemory) ⊎ (table_file_of text ≡ Err fault) → ChecksTable text (Err (of_cert_fault fault))
+pub text_stopped : (text : List ℕ) (fault : CertFault) → (fault ≡ cert.NoMemory) ⊎ NoTable text fault → (fault ≡ cert.NoMemory) ⊎ (table_file_of text ≡ Err fault) → StopsAt text (of_cert_fault fault)
 text_stopped text (cert.BadLine line) none first = record { none = other_than (λ e. cc) none; first = other_than (λ e. cc) first }
 text_stopped text cert.Unended none first = record { none = other_than (λ e. cc) none; first = other_than (λ e. cc) first }
 text_stopped text cert.Trailing none first = record { none = other_than (λ e. cc) none; first = other_than (λ e. cc) first }
@@ -56,11 +56,11 @@ text_stopped text cert.BadJob none first = record { none = other_than (λ e. cc)
 text_stopped text cert.NoMemory none first = tt
 
 -- the stop at a table that isn't closed
-pub rows_stopped : (file : TableFileData) (text : List ℕ) (fault : TableFault) → IsTextOfTable file text → IsTableFault file.job file.table fault → (IsClosedTable file.job file.table → ⊥) → ChecksTable text (Err (of_table_fault fault))
+pub rows_stopped : (file : TableFileData) (text : List ℕ) (fault : TableFault) → IsTextOfTable file text → IsTableFault file.job file.table fault → (IsClosedTable file.job file.table → ⊥) → StopsAt text (of_table_fault fault)
 rows_stopped file text fault written first not_closed = record { file = file; written = written; not_closed = not_closed; first = first }
 
 -- the stop at a text of which nothing is proved
-pub prove_stopped : (text : List ℕ) (fault : ProveFault) → ProvesText text (Err fault) → ChecksTable text (Err (of_prove_fault fault))
+pub prove_stopped : (text : List ℕ) (fault : ProveFault) → ProvesText text (Err fault) → StopsAt text (of_prove_fault fault)
 prove_stopped text (prove.Text fault) (inl memory) = text_stopped text fault (inl memory) (inl memory)
 prove_stopped text (prove.Text fault) (inr refused) = text_stopped text fault (inr refused.none) (inr refused.first)
 prove_stopped text (prove.Rows fault) is = is
@@ -83,7 +83,7 @@ text_accepted place P text checked table answer same checks is =
     table_accepted place P text (checked_file checked table) answer (subst (λ (t : List ℕ). IsCheckedTable t (checked_file checked table)) same checks) is
 
 -- and to one that is refused
-pub table_refused : (place : ℕ) (P : TableFileData → AnswerData → Type 0) (text : List ℕ) (why : TableStop) (answer : AnswerData) → ChecksTable text (Err why)
+pub table_refused : (place : ℕ) (P : TableFileData → AnswerData → Type 0) (text : List ℕ) (why : TableStop) (answer : AnswerData) → StopsAt text why
     → IsTableRefusalAnd why (λ refusal. answer ≡ one_text status.CertRefused (table_refused_line place refusal)) → AnswersTable place P text answer
 table_refused place P text (stop.Refused refusal) answer checks told = (Err refusal, checks, told)
 table_refused place P text stop.NoMemory answer checks told = absurd told

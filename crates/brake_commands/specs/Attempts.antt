@@ -1,7 +1,6 @@
 -- What trying the setups of a list comes to.
 use Rattle.std.specs.Prelude.{◌≡◌, ℕ, List, [], map, Option, Some, None, IfSome, option_map}
 use Rattle.std.specs.List.{slice_get}
-use Rattle.brake_base.specs.declared.stroke.Worth.TheVariants.{Cost}
 use Rattle.job_setup.specs.Setup.{JobData}
 use Rattle.job_setup.specs.ValidJob.{IsJob}
 use Rattle.plan_cert.specs.Cert.{CertData}
@@ -93,7 +92,3 @@ abbrev pub IsPlannedAt : List AttemptData → ℕ → PlannedData → Type 0
 IsPlannedAt attempts place planned =
     (attempt : AttemptData) × (slice_get attempts place ≡ Some attempt)
     × (attempt.planned ≡ Some planned)
-
--- its certificate claims a cost
-abbrev pub HasPlan : PlannedData → Type 0
-HasPlan planned = (cost : ℕ) × (planned.cert.claim ≡ Cost cost)

@@ -5,9 +5,8 @@ use Rattle.plan_lines.specs.declared.item.CertFault.TheVariants as cert
 use Rattle.cert_merge.specs.declared.checked.TableFault.{TableFault}
 use Rattle.cert_merge.specs.declared.proved.ProveFault.{ProveFault}
 use Rattle.cert_merge.specs.declared.proved.ProveFault.TheVariants as prove
-use Rattle.cert_merge.specs.declared.table.TableFile.{TableFile}
 use Rattle.cert_merge.specs.ProvedTable.{IsCheckedTable}
-use Rattle.cert_merge.specs.Table.{TableData, TableFileData, table_file_data}
+use Rattle.cert_merge.specs.Table.{TableData, TableFileData}
 use Rattle.brake_commands.specs.declared.table_check.CheckedText.{CheckedText}
 use Rattle.brake_commands.specs.declared.table_check.TableRefusal.{TableRefusal}
 use Rattle.brake_commands.specs.declared.table_check.TableRefusal.TheVariants.{Text, Rows}
@@ -27,11 +26,10 @@ abbrev pub of_prove_fault : ProveFault → TableStop
 of_prove_fault (prove.Text fault) = of_cert_fault fault
 of_prove_fault (prove.Rows fault) = of_table_fault fault
 
--- a job and its table, or a refusal, is what the check of the text comes to, unless memory ran out
-abbrev pub ChecksTable : List ℕ → Result TableFile TableStop → Type 0
-ChecksTable text (Ok file) = TableChecksTo text (Ok (table_file_data file))
-ChecksTable text (Err (Refused refusal)) = TableChecksTo text (Err refusal)
-ChecksTable text (Err NoMemory) = Unit {0}
+-- the check of the text comes to this refusal, unless memory ran out
+abbrev pub StopsAt : List ℕ → TableStop → Type 0
+StopsAt text (Refused refusal) = TableChecksTo text (Err refusal)
+StopsAt text NoMemory = Unit {0}
 
 -- the file of a table with this text's job
 abbrev pub checked_file : CheckedText → TableData → TableFileData
@@ -41,11 +39,11 @@ checked_file checked table = record { job = checked.job; table = table }
 abbrev pub IsCheckedText : TableData → CheckedText → Type 0
 IsCheckedText table checked = IsCheckedTable checked.text.now (checked_file checked table)
 
--- a text with its job, or a refusal, is what the check of the text comes to, unless memory ran out
+-- the text of a closed table with its job, or why its check stops
 abbrev pub ChecksText : List ℕ → Result CheckedText TableStop → Type 0
 ChecksText text (Ok checked) =
     (checked.text.now ≡ text) × ((table : TableData) × IsCheckedText table checked)
-ChecksText text (Err stop) = ChecksTable text (Err stop)
+ChecksText text (Err stop) = StopsAt text stop
 
 -- it is a refusal, and this holds of it
 abbrev pub IsTableRefusalAnd : TableStop → (TableRefusal → Type 0) → Type 0

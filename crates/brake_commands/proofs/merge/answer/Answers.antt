@@ -1,4 +1,4 @@
-use Rattle.std.proofs.Common.{◌∙◌, List, ℕ, Err, map, subst}
+use Rattle.std.proofs.Common.{◌∙◌, List, ℕ, map, subst}
 use Rattle.std.specs.Vec.{vec_items}
 use Rattle.std.proofs.lemmas.Result.{IfOk-weaker}
 use Rattle.cert_merge.specs.Table.{TableFileData}
@@ -7,7 +7,7 @@ use Rattle.command_runner.specs.Fetching.{word_at}
 use Rattle.command_runner.specs.Ends.{StoresFirst}
 use Rattle.command_runner.proofs.Rests.{nothing_first}
 use Rattle.brake_commands.specs.TableCheck.{AnswersTable}
-use Rattle.brake_commands.specs.TableStops.{checked_file, ChecksTable}
+use Rattle.brake_commands.specs.TableStops.{checked_file, StopsAt}
 use Rattle.brake_commands.specs.MergeAnswer.{AnswersBoth, IsMergeAnswer}
 use Rattle.brake_commands.proofs.PlanAnswers.{begun_weaker}
 use Rattle.brake_commands.proofs.Begun.{first_weaker}
@@ -55,5 +55,5 @@ returns-in_ok-table_stopped-in-Err-clause-answer g c =
     let name = c.args.name.now in
     let P = Second name (word_at contents 1) in
     let answer = answer_data c.in_ok-table_stopped-in-Err.field-0 in
-    let checks = subst (λ (text : List ℕ). ChecksTable text (Err c.in-Err.stop)) c.content_at.ensures c.in-Err.ensures.value in
+    let checks = subst (λ (text : List ℕ). StopsAt text c.in-Err.stop) c.content_at.ensures c.in-Err.ensures.value in
     nothing_first (IsMergeAnswer name contents) answer (g.H.Shelf.state c.args.shelf.now) (table_refused 1 P (word_at contents 0) c.in-Err.stop answer checks c.in_ok-table_stopped-in-Err.ensures.answer)

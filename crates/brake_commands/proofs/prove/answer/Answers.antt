@@ -1,11 +1,11 @@
-use Rattle.std.proofs.Common.{◌≡◌, List, [], ◌++◌, ℕ, Err, sym, subst}
+use Rattle.std.proofs.Common.{◌≡◌, List, [], ◌++◌, ℕ, sym, subst}
 use Rattle.std.proofs.lemmas.Result.{IfOk-weaker}
 use Rattle.command_runner.specs.declared.status.Status.TheVariants as status
 use Rattle.command_runner.specs.Answers.{answer_data, one_text}
 use Rattle.command_runner.specs.Reading.{AnswersText}
 use Rattle.brake_commands.specs.declared.table_check.TableStop.{TableStop}
 use Rattle.brake_commands.specs.TableCheck.{table_refused_line}
-use Rattle.brake_commands.specs.TableStops.{ChecksTable, IsTableRefusalAnd}
+use Rattle.brake_commands.specs.TableStops.{StopsAt, IsTableRefusalAnd}
 use Rattle.brake_commands.specs.TableAnswer.{told_answer}
 use Rattle.brake_commands.specs.ProveAnswer.{IsProved, IsProveAnswer}
 use Rattle.brake_commands.proofs.TableAnswers.{table_refused, prove_stopped, proved_answers}
@@ -34,6 +34,6 @@ returns-in-Err-clause-answer g c =
       passed = told.0;
       has_passed = told.1;
       is_one = λ last may. table_refused 1 IsProved ((told.0 ++ now.unread) ++ last) c.from.result (answer_data answer)
-          (subst (λ (why : TableStop). ChecksTable ((told.0 ++ now.unread) ++ last) (Err why)) (sym c.from.ensures)
+          (subst (λ (why : TableStop). StopsAt ((told.0 ++ now.unread) ++ last) why) (sym c.from.ensures)
           (prove_stopped ((told.0 ++ now.unread) ++ last) c.in-Err.fault (told.2 last may))) is;
     }) c.table_stopped.ensures.answer
