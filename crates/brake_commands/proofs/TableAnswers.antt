@@ -4,18 +4,15 @@ use Rattle.std.specs.Prelude.{codes, IfOk, OnOk, OnErr}
 use Rattle.job_setup.specs.Setup.{JobData}
 use Rattle.plan_lines.specs.declared.item.CertFault.{CertFault}
 use Rattle.plan_lines.specs.declared.item.CertFault.TheVariants as cert
-use Rattle.cert_merge.specs.declared.checked.TableFault.{TableFault}
 use Rattle.cert_merge.specs.Table.{TableData, TableFileData, IsTable, IsClosedTable}
 use Rattle.cert_merge.specs.declared.proved.ProveFault.{ProveFault}
 use Rattle.cert_merge.specs.declared.proved.ProveFault.TheVariants as prove
 use Rattle.cert_merge.specs.declared.proved.ProvedTable.{ProvedTable}
 use Rattle.cert_merge.specs.ProvedTable.{IsCheckedTable, IsProvedText, ProvesText}
 use Rattle.cert_merge.specs.TableTexts.{table_file_of, IsTextOfTable}
-use Rattle.cert_merge.specs.TableChecks.{IsTableFault}
 use Rattle.cert_merge.specs.Merged.{IsMerged, KeepsForm, KeepsClosed}
 use Rattle.cert_merge.specs.declared.settled_text.SettledText.{SettledText}
 use Rattle.cert_merge.specs.SettledText.{IsSettledText}
-use Rattle.cert_merge.proofs.TableExact.{one_table}
 use Rattle.cert_merge.proofs.TableChecking.{closed_is_true}
 use Rattle.command_runner.specs.declared.status.Status.TheVariants as status
 use Rattle.brake_io.specs.declared.shelf.StoreFault.{StoreFault}
@@ -29,11 +26,11 @@ use Rattle.brake_commands.specs.declared.table_check.CheckedText.{CheckedText}
 use Rattle.brake_commands.specs.declared.table_check.TableStop.{TableStop}
 use Rattle.brake_commands.specs.declared.table_check.TableStop.TheVariants as stop
 use Rattle.brake_commands.specs.TableCheck.{TableChecksTo, table_refused_line, AnswersTable}
-use Rattle.brake_commands.specs.TableStops.{of_cert_fault, of_table_fault, of_prove_fault, checked_file, StopsAt, IsCheckedText, IsTableRefusalAnd}
+use Rattle.brake_commands.specs.TableStops.{of_cert_fault, of_prove_fault, checked_file, StopsAt, IsCheckedText, IsTableRefusalAnd}
 use Rattle.brake_commands.specs.TableAnswer.{IsTrueTable, told_answer, stored_table_answer, AnswersOneJob}
 use Rattle.brake_commands.specs.ProveAnswer.{IsProved}
 use Rattle.brake_commands.specs.MergeAnswer.{IsMergedAnswer}
-use Rattle.brake_commands.specs.SettleAnswer.{IsRange, AnswersRange, IsSettledAnswer}
+use Rattle.brake_commands.specs.SettleAnswer.{IsSettledAnswer}
 
 -- a table's text is that of a table of its job
 pub table_of_text : (file : TableFileData) (text : List ℕ) → IsTextOfTable file text → IsTable file.job file.table
@@ -55,22 +52,11 @@ text_stopped text cert.Trailing none first = record { none = other_than (λ e. c
 text_stopped text cert.BadJob none first = record { none = other_than (λ e. cc) none; first = other_than (λ e. cc) first }
 text_stopped text cert.NoMemory none first = tt
 
--- the stop at a table that isn't closed
-pub rows_stopped : (file : TableFileData) (text : List ℕ) (fault : TableFault) → IsTextOfTable file text → IsTableFault file.job file.table fault → (IsClosedTable file.job file.table → ⊥) → StopsAt text (of_table_fault fault)
-rows_stopped file text fault written first not_closed = record { file = file; written = written; not_closed = not_closed; first = first }
-
 -- the stop at a text of which nothing is proved
 pub prove_stopped : (text : List ℕ) (fault : ProveFault) → ProvesText text (Err fault) → StopsAt text (of_prove_fault fault)
 prove_stopped text (prove.Text fault) (inl memory) = text_stopped text fault (inl memory) (inl memory)
 prove_stopped text (prove.Text fault) (inr refused) = text_stopped text fault (inr refused.none) (inr refused.first)
 prove_stopped text (prove.Rows fault) is = is
-
--- a text of which something is proved is that of a closed table
-pub proved_checked : (text : List ℕ) (proved : ProvedTable) (file : TableFileData) → IsProvedText text proved → IsTextOfTable file text → IsCheckedTable text file
-proved_checked text proved file of written = record {
-  written = written;
-  closed = subst (λ (f : TableFileData). IsClosedTable f.job f.table) (one_table text of.file file of.checked.written written) of.checked.closed;
-}
 
 -- the answer to a table that is accepted
 pub table_accepted : (place : ℕ) (P : TableFileData → AnswerData → Type 0) (text : List ℕ) (file : TableFileData) (answer : AnswerData) → TableChecksTo text (Ok file) → P file answer → AnswersTable place P text answer
@@ -152,11 +138,3 @@ module _ (IsIt : AnswerData → Type 0) (stored : List StoredData) (rest : Answe
   pub stored_begun : (r : Result Answer StoreFault) (a b : ShelfState) → OnErr r ((b ≡ a) ⊎ AreStoredUpTo stored a b) → OnErr r ((b ≡ a) ⊎ StoresBeginning (IsStoredOf IsIt) a b)
   stored_begun (Ok answer) a b on = tt
   stored_begun (Err fault) a b on = begun_in_part a b on
-
--- the answer to a range of the job's sets
-pub range_answers : (low high : ℕ) (P : JobData → AnswerData → Type 0) (job : JobData) (answer : AnswerData) → IsRange low high job → P job answer → AnswersRange low high P job answer
-range_answers low high P job answer range is = inl (range, is)
-
--- and to one that isn't
-pub no_range_answers : (low high : ℕ) (P : JobData → AnswerData → Type 0) (job : JobData) (answer : AnswerData) → (IsRange low high job → ⊥) → answer ≡ refusal status.Refused (codes "refused range") [] → AnswersRange low high P job answer
-no_range_answers low high P job answer none is = inr (none, is)

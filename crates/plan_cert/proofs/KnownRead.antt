@@ -1,5 +1,5 @@
 -- Known notes that are taken at once: what is made of their answers, and that others stand behind them.
-use Rattle.std.proofs.Common.{◌≡◌, ℕ, ◌+◌, ◌-◌, ◌<◌, ◌==◌, Bool, false, List, [], ◌∷◌, ◌++◌, length, drop, map, get_or, Some, Result, Ok, refl, sym, ap, subst, ◌∙◌, arith}
+use Rattle.std.proofs.Common.{◌≡◌, ℕ, ◌+◌, ◌-◌, ◌<◌, ◌==◌, Bool, List, [], ◌∷◌, ◌++◌, length, drop, map, get_or, Some, Result, refl, sym, ap, ◌∙◌, arith}
 use Rattle.std.specs.Prelude.{if◌then◌else◌, slice_get}
 use Rattle.std.specs.List.{list_any}
 use Rattle.std.proofs.lemmas.List.{append_assoc, append-nil, length-append, length-drop, length-map, get_or-drop, get_or-map, get_or_append_left}
@@ -13,11 +13,11 @@ use Rattle.plan_lines.specs.declared.item.CertFault.{CertFault}
 use Rattle.plan_lines.specs.Reading.{Reading}
 use Rattle.plan_cert.specs.Cert.{CertData}
 use Rattle.plan_lines.specs.Items.{items}
-use Rattle.plan_cert.specs.CertReading.{cert_of, with_item, with_known, last_row, answers_left, AnswersLeft, Collects, IsFurther}
+use Rattle.plan_cert.specs.CertReading.{cert_of, with_item, with_known, last_row, answers_left, AnswersLeft}
 use Rattle.plan_lines.specs.NoteLines.{note_by}
 use Rattle.plan_lines.specs.NoteLines.{KnownReasons, number_at, reason_at, or_cover, note_told}
 use Rattle.plan_cert.proofs.Collecting.{goes_on}
-use Rattle.plan_lines.proofs.NoteSets.{any_place, no_places}
+use Rattle.plan_lines.proofs.NoteSets.{any_place}
 
 -- what is made of the answers of known notes
 pub known_read : (known : KnownReasons) (places : List ℕ) (before : CertData) (left : List (Result Item CertFault)) → cert_of before (map (note_told known) places ++ left) ≡ cert_of (with_known before known places) left
@@ -56,26 +56,3 @@ some_or_none (place ∷ places) some = omega arith
 pub some_places : (set : ActionSet) → (IsNone set → ⊥) → 0 < length (places_of set)
 some_places set some =
     some_or_none (places_of set) (λ none. some (λ place within. sym (any_place (λ k. k == place) set place within (λ k low is. refl)) ∙ ap (list_any (λ k. k == place)) none))
-
--- the known notes of a set are read
-module _ (r behind : Reading) (known : KnownReasons) (set : ActionSet) (isnt : IsNone set → ⊥) (after : behind ≡ record r { answered = r.answered + length (places_of set) }) where
-  pub known_further : IsFurther r behind
-  known_further = subst (IsFurther r) (sym after) (record { kind = refl; text = refl; further = let some = some_places set isnt in omega (arith, some) })
-
-  pub known_collects : (cert more : CertData) → drop r.answered (items r.kind r.text) ≡ map (note_told known) (places_of set) ++ drop behind.answered (items r.kind r.text) → more ≡ with_known cert known (places_of set)
-      → Collects (Ok false) cert r more behind
-  known_collects cert more told adds =
-      let places = places_of set in
-      let left = drop (r.answered + length places) (items r.kind r.text) in
-      let here : drop r.answered (items r.kind r.text) ≡ map (note_told known) places ++ left =
-      told ∙ ap (λ (b : Reading). map (note_told known) places ++ drop b.answered (items r.kind r.text)) after in
-      subst (λ (b : Reading). Collects (Ok false) cert r more b) (sym after) (
-        ap (cert_of cert) here ∙ known_read known places cert left ∙ ap (λ (c : CertData). cert_of c left) (sym adds),
-        known_behind r known places (some_places set isnt) here,
-      )
-
--- no known note is read
-pub none_read : (r behind : Reading) (set : ActionSet) → IsNone set → behind ≡ record r { answered = r.answered + length (places_of set) } → behind ≡ r
-none_read r behind set none after =
-    let count : r.answered + length (places_of set) ≡ r.answered = let empty = ap (λ (places : List ℕ). length places) (no_places set none) in omega (arith, empty) in
-    after ∙ ap (λ (n : ℕ). record r { answered = n }) count

@@ -107,12 +107,6 @@ answers_left r = drop r.answered (items r.kind r.text)
 abbrev pub AnswersLeft : Reading → Type 0
 AnswersLeft r = r.answered < length (items r.kind r.text)
 
--- the reader gave more answers
-pub record IsFurther (reader behind : Reading) : Type 0 where
-  pub kind : behind.kind ≡ reader.kind
-  pub text : behind.text ≡ reader.text
-  pub further : reader.answered < behind.answered
-
 -- an item was added: the last one, or one behind which the others are still to be added; or the
 -- certificate is refused
 abbrev pub Collects : Result Bool CertFault → CertData → Reading → CertData → Reading → Type 0

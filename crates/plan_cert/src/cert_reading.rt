@@ -1,14 +1,11 @@
 //! A whole certificate from its text.
-ghost use Rattle.std.specs.Prelude.{◌≡◌, ◌+◌, ◌-◌, ◌^◌, min, ◌<◌, ◌≤◌, [], ◌∷◌, ◌++◌, length, map, OnOk, IfOk};
-ghost use Rattle.stage_lanes.specs.ActionSets.{places_of};
+ghost use Rattle.std.specs.Prelude.{◌≡◌, ◌+◌, ◌-◌, ◌^◌, min, ◌<◌, ◌≤◌, [], ◌∷◌, ◌++◌, length, OnOk, IfOk};
 ghost use Rattle.toml_fields.specs.Results.{GivesOr};
 ghost use Rattle.plan_lines.specs.declared.item.CertFault.TheVariants.{NoMemory};
 ghost use Rattle.plan_cert.specs.Cert.{cert_data};
 ghost use Rattle.plan_lines.specs.Items.{items};
 ghost use Rattle.plan_lines.specs.PlanItem.{item_of};
-ghost use Rattle.plan_cert.specs.CertReading.{cert_file_data, cert_file_of, file_of, cert_of, with_item, with_step, with_note, with_known, is_last, no_cert, version_in, answers_left, Collects, AnswersLeft, IsFurther, BeginsWith};
-ghost use Rattle.plan_lines.specs.NoteLines.{note_by};
-ghost use Rattle.plan_lines.specs.NoteLines.{AreKnownAll};
+ghost use Rattle.plan_cert.specs.CertReading.{cert_file_data, cert_file_of, file_of, cert_of, with_item, with_step, with_note, is_last, no_cert, version_in, answers_left, Collects, AnswersLeft, BeginsWith};
 ghost use Rattle.plan_cert.specs.CertItems.{IsReadFrom};
 ghost use Rattle.plan_cert.specs.ExactTexts.{IsExact, GivesBack};
 
@@ -18,8 +15,7 @@ use arrayvec::ArrayVec;
 use brake_base::{Reason, Step, Worth};
 use cert_lines::{RowHead, TextKind};
 use job_setup::Job;
-use plan_lines::{CertFault, Note, NoteLines, PlanItem};
-use stage_lanes::ActionSet;
+use plan_lines::{CertFault, Note, PlanItem};
 use std::alloc::{AllocError, Global};
 
 /// A certificate with its job and the version of its text.
@@ -82,35 +78,6 @@ fn add_note(cert: &mut Cert, action: u8, reason: Reason) -> Result<(), AllocErro
     Ok(())
 }
 
-/// Appends a note of the row for each action of a set, with the reason that is known against it.
-fn push_known(
-    notes: &mut Vec<Note>,
-    row: u32,
-    lines: &NoteLines,
-    known: ActionSet,
-) -> Result<(), AllocError>
-    requires { AreKnownAll lines.now known }
-    ensures { OnOk result (notes.new.items
-        ≡ notes.old.items ++ map (note_by row lines.now) (places_of known)) }
-{
-    let mut rest = known;
-    while let Some(action) = rest.first() {
-        notes.push(lines.note(row, action))?;
-        rest = rest.except(action);
-    }
-    Ok(())
-}
-
-/// Adds known reasons against the actions of a set at the last row.
-fn add_known(cert: &mut Cert, lines: &NoteLines, known: ActionSet) -> Result<(), AllocError>
-    requires { AreKnownAll lines.now known }
-    ensures { OnOk result (cert_data cert.new
-        ≡ with_known (cert_data cert.old) lines.now (places_of known)) }
-{
-    let row = last_row(cert);
-    push_known(&mut cert.notes, row, lines, known)
-}
-
 /// Adds a row.
 fn add_row(cert: &mut Cert, row: RowHead) -> Result<(), AllocError>
     ensures { OnOk result (cert_data cert.new
@@ -147,55 +114,28 @@ fn is_last(item: &PlanItem) -> bool
 }
 
 /// Reads an item and adds what it says. Whether it was the last.
-fn take_item<'a>(
-    cert: &mut Cert,
-    reader: &mut CertReader<'a>,
-    lines: &mut NoteLines<'a>,
-) -> Result<bool, CertFault>
+fn take_item(cert: &mut Cert, reader: &mut CertReader) -> Result<bool, CertFault>
     requires job { 0 < reader.old.answered }
     requires left { AnswersLeft reader.old }
     ensures value { Collects result (cert_data cert.old) reader.old (cert_data cert.new) reader.new }
     ensures after { reader.new ≡ record reader.old { answered = reader.old.answered + 1 } }
 {
-    let item = reader.next_kept(lines)?;
+    let item = reader.next_behind_job()?;
     let is_last = is_last(&item);
     add_item(cert, item)?;
     Ok(is_last)
 }
 
-/// Reads known notes, as many as come, or else one item, and adds what they say. Whether the last
-/// item was read.
-fn take_items<'a>(
-    cert: &mut Cert,
-    reader: &mut CertReader<'a>,
-    lines: &mut NoteLines<'a>,
-) -> Result<bool, CertFault>
-    requires job { 0 < reader.old.answered }
-    requires left { AnswersLeft reader.old }
-    ensures value { Collects result (cert_data cert.old) reader.old (cert_data cert.new) reader.new }
-    ensures after { IsFurther reader.old reader.new }
-{
-    let known = reader.take_known(lines);
-    if known.is_empty() {
-        take_item(cert, reader, lines)
-    } else {
-        add_known(cert, lines, known)?;
-        Ok(false)
-    }
-}
-
 /// Reads the items up to the end.
-fn collect(cert: &mut Cert, reader: &mut CertReader, stages: u8) -> Result<(), CertFault>
-    requires stages { stages ≤ 6 }
+fn collect(cert: &mut Cert, reader: &mut CertReader) -> Result<(), CertFault>
     requires job { 0 < reader.old.answered }
     requires left { AnswersLeft reader.old }
     ensures { GivesOr NoMemory (λ _. cert_data cert.new) result
         (cert_of (cert_data cert.old) (answers_left reader.old)) }
 {
-    let mut lines = NoteLines::new(stages);
     let mut is_open = true;
     while is_open {
-        is_open = !take_items(cert, reader, &mut lines)?;
+        is_open = !take_item(cert, reader)?;
     }
     Ok(())
 }
@@ -216,7 +156,7 @@ pub fn read_file(alloc: Global, text: &[u8], kind: TextKind) -> Result<CertFile,
     let mut reader = CertReader::of(kind, text);
     let job = first_job(&mut reader)?;
     let mut cert = no_cert(alloc);
-    collect(&mut cert, &mut reader, job.stages())?;
+    collect(&mut cert, &mut reader)?;
     Ok(CertFile {
         job,
         cert,

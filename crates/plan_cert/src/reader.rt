@@ -1,17 +1,12 @@
 //! The line reader.
-ghost use Rattle.std.specs.Prelude.{◌≡◌, ◌+◌, ◌<◌, ◌++◌, length, drop, slice_get, Some};
-ghost use Rattle.stage_lanes.specs.ActionSets.{places_of};
+ghost use Rattle.std.specs.Prelude.{◌≡◌, ◌+◌, ◌<◌, length, slice_get, Some};
 ghost use Rattle.plan_lines.specs.Items.{items};
 ghost use Rattle.plan_lines.specs.PlanItem.{plan_answer, job_answer};
 ghost use Rattle.plan_cert.specs.ExactItems.{ReadsCertTexts, ReadsTableTexts};
-ghost use Rattle.plan_lines.specs.NoteLines.{notes_told, AreKnownAll, LearnsFrom};
 
 use cert_lines::TextKind;
 use job_setup::Job;
-use plan_lines::{
-    CertFault, Item, NoteLines, PlanItem, PlanReader, answer_behind_job, first_answer, take_notes,
-};
-use stage_lanes::ActionSet;
+use plan_lines::{CertFault, Item, PlanItem, PlanReader, answer_behind_job, first_answer};
 use std::marker::Model;
 
 /// A reader of a certificate or a table file, line by line. It is seen as what it reads, the text,
@@ -127,41 +122,5 @@ impl<'a> CertReader<'a> {
     {
         self.answered += 1;
         answer_behind_job(&mut self.plan)
-    }
-
-    /// The next answer behind the job, as `next_behind_job` gives it. Of a note the line may be kept,
-    /// so that it is known from now on; other notes may be forgotten. It takes no memory.
-    pub fn next_kept(&mut self, known: &mut NoteLines<'a>) -> Result<PlanItem, CertFault>
-        requires job { 0 < self.old.answered }
-        requires left { self.old.answered < length (items self.old.kind self.old.text) }
-        ensures given { slice_get (items self.old.kind self.old.text) self.old.answered
-            ≡ Some (plan_answer result) }
-        ensures after { self.new ≡ record self.old { answered = self.old.answered + 1 } }
-        ensures known { LearnsFrom known.old (plan_answer result) known.new }
-    {
-        let text = self.plan.rest;
-        let answer = self.next_behind_job();
-        known.learn(&self.plan.place.facts, text, &answer);
-        answer
-    }
-
-    /// Takes known notes that are the next answers behind the job, as many at once as the text goes
-    /// on with in the order of their actions; none where it goes on with anything else. It tells
-    /// their actions: the next answers are the notes of these, in the order of their numbers. It
-    /// takes no memory.
-    pub fn take_known(&mut self, known: &mut NoteLines<'a>) -> ActionSet
-        requires job { 0 < self.old.answered }
-        ensures told { drop self.old.answered (items self.old.kind self.old.text)
-            ≡ notes_told known.old result
-            ++ drop self.new.answered (items self.old.kind self.old.text) }
-        ensures after { self.new ≡ record self.old {
-          answered = self.old.answered + length (places_of result);
-        } }
-        ensures reasons { AreKnownAll known.old result }
-        ensures known { known.new ≡ known.old }
-    {
-        let (notes, count) = take_notes(&mut self.plan, known);
-        self.answered += u64::from(count);
-        notes
     }
 }

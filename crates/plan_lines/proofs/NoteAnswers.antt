@@ -1,9 +1,8 @@
 -- Notes that are held and forgotten, and many answers of a reader at once.
-use Rattle.std.proofs.Common.{◌≡◌, ℕ, zero, suc, ◌+◌, ◌-◌, ◌<◌, ◌≤◌, Bool, true, false, ◌&&◌, ◌==◌, eqb-true, List, [], ◌∷◌, ◌++◌, length, drop, map, replicate, set, get_or, Option, Some, None, Result, Ok, refl, ap, sym, subst, ◌∙◌, arith, inl, inr, All}
+use Rattle.std.proofs.Common.{◌≡◌, ℕ, zero, suc, ◌+◌, ◌-◌, ◌<◌, ◌≤◌, Bool, true, false, ◌&&◌, ◌==◌, eqb-true, List, [], ◌∷◌, ◌++◌, length, map, replicate, set, get_or, Option, Some, None, Result, Ok, refl, ap, sym, subst, ◌∙◌, arith, inl, inr, All}
 use lib.Pointwise.{pointwise}
-use Rattle.std.proofs.Math.Seq.{drop-append_seam}
 use Rattle.std.proofs.lemmas.Bool.Decides.{eqb_tells}
-use Rattle.std.proofs.lemmas.List.{get_or-set_other, drop-drop, length-append, length-drop}
+use Rattle.std.proofs.lemmas.List.{get_or-set_other}
 use Rattle.std.proofs.lemmas.List.Elements.{All-nil}
 use Rattle.std.proofs.lemmas.Option.{same_Some, none-some}
 use Rattle.brake_base.specs.declared.mask.Mask.{Mask}
@@ -11,7 +10,6 @@ use Rattle.brake_base.specs.declared.stroke.Key.{Key}
 use Rattle.brake_base.specs.declared.reason.Reason.{Reason}
 use Rattle.stage_lanes.specs.declared.actions.ActionSet.{ActionSet}
 use Rattle.stage_lanes.specs.ActionSets.{IsNone, places_of}
-use Rattle.cert_lines.specs.declared.format.TextKind.{TextKind}
 use Rattle.plan_lines.specs.declared.item.Item.{Item}
 use Rattle.plan_lines.specs.declared.item.Item.TheVariants as given
 use Rattle.plan_lines.specs.declared.item.CertFault.{CertFault}
@@ -23,13 +21,12 @@ use Rattle.plan_lines.specs.declared.known_note.KnownNote.{KnownNote}
 use Rattle.plan_lines.specs.declared.note_run.NoteRun.{NoteRun}
 use Rattle.cert_lines.specs.LineReading.{lines_in}
 use Rattle.plan_lines.specs.Items.{plan_items}
-use Rattle.plan_lines.specs.Reading.{LeavesPlan, LeavesIn, LeavesAt, Leaves}
-use Rattle.plan_lines.specs.NoteLines.{KnownReasons, reason_by, note_told, notes_told, IsKnownAt, AreKnownAll, KnowsNoMore, KnowsAtMost, LearnsFrom, reason_of, known_reasons, IsHeld, AreHeld, numbers_on, IsTaken, GivesAll}
+use Rattle.plan_lines.specs.Reading.{LeavesPlan, LeavesIn, LeavesAt}
+use Rattle.plan_lines.specs.NoteLines.{KnownReasons, note_told, notes_told, IsKnownAt, AreKnownAll, KnowsNoMore, KnowsAtMost, LearnsFrom, reason_of, known_reasons, IsHeld, AreHeld, numbers_on, IsTaken, GivesAll}
 use Rattle.plan_lines.proofs.Kept.{none_kept, one_kept}
 use Rattle.plan_lines.proofs.NoteSets.{no_places}
 use Rattle.plan_lines.proofs.NoteRuns.{reason_is}
 use Rattle.plan_lines.proofs.PlanItems.{leaves_same}
-use Rattle.plan_lines.proofs.Begun.{leaves_next}
 
 -- ---- notes that are held
 pub none_held : (facts : JobFacts) (n : ℕ) → AreHeld facts (replicate n None)
@@ -62,10 +59,6 @@ learned stages held number note reason same = (
   ],
 )
 
--- nothing is known of another job's notes
-pub forgotten : (old new : KnownReasons) → new.stages ≡ old.stages → ((number : ℕ) → reason_by new number ≡ None) → KnowsNoMore old new
-forgotten old new same none = (same, λ other known is. absurd (none-some known (sym (none other) ∙ is)))
-
 pub both_known : (old between new : KnownReasons) (number : ℕ) (reason : Reason) → KnowsNoMore old between → KnowsAtMost between number reason new → KnowsAtMost old number reason new
 both_known old between new number reason first then = (
   then.0 ∙ first.0,
@@ -87,9 +80,6 @@ learns old new number reason answer is then = (
     | inr now ↦ inr (is ∙ (λ i. Ok (given.Note (sym now.0 i) (sym now.1 i))))
   ],
 )
-
-pub learns_nothing : (known : KnownReasons) (answer : Result Item CertFault) → LearnsFrom known answer known
-learns_nothing known answer = (refl, λ other said is. inl is)
 
 -- ---- a run of no note
 pub empty_known : (known : KnownReasons) (set : ActionSet) → IsNone set → AreKnownAll known set
@@ -127,24 +117,6 @@ taken_given old new known key least text behind run answers at taken left number
     let all : answers ≡ notes_told known run.notes ++ more =
     plan.left ∙ ap (λ (s : Section). plan_items old.facts.format plan.job old.number s (lines_in (text ++ behind))) at ∙ taken.told plan.job key old.number behind plan.kept refl in
     (more, all, leaves_same old new (numbers_on run.count old.number) (sections.Notes key run.least) rest plan.job plan.kept number_is section_is facts_is)
-
--- what is told is the next of all answers, and the others are left
-pub answered_all : (kind : TextKind) (place : LinePlace) (rest : List ℕ) (all told : List (Result Item CertFault)) (answered count : ℕ) → length told ≡ count → 0 < answered → GivesAll (drop answered all) told place (rest ++ [])
-    → (drop answered all ≡ told ++ drop (answered + count) all) × Leaves (answered + count) kind place rest (drop (answered + count) all)
-answered_all kind place rest all told answered count long some gives =
-    let (more, first, left) = gives in
-    let behind : drop (answered + count) all ≡ more =
-    sym (drop-drop count answered all) ∙ ap (λ (xs : List (Result Item CertFault)). drop count xs) first ∙ ap (λ (n : ℕ). drop n (told ++ more)) (sym long) ∙ drop-append_seam told more in (
-      first ∙ ap (λ (xs : List (Result Item CertFault)). told ++ xs) (sym behind),
-      leaves_next (answered + count) kind place rest (drop (answered + count) all) more (omega (arith, some)) behind left,
-    )
-
--- no more answers are told than there are
-pub told_few : (place : LinePlace) (text : List ℕ) (all told : List (Result Item CertFault)) (answered count : ℕ) → length told ≡ count → GivesAll (drop answered all) told place text → count ≤ length all - answered
-told_few place text all told answered count long gives =
-    let (more, first, left) = gives in
-    let whole : length (drop answered all) ≡ length (told ++ more) = ap (λ (xs : List (Result Item CertFault)). length xs) first in
-    omega (arith, whole, length-append told more, length-drop answered all, long)
 
 -- lists of masks are one where each pair is
 pub masks_same : (E : Mask → Mask → Bool) → ((a b : Mask) → E a b ≡ true → a ≡ b) → (xs ys : List Mask) → pointwise E xs ys ≡ true → xs ≡ ys

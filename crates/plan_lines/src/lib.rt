@@ -23,7 +23,7 @@ pub use job_facts::JobFacts;
 pub use known_note::KnownNote;
 pub use line_place::LinePlace;
 pub use note::Note;
-pub use note_lines::{NoteLines, take_notes};
+pub use note_lines::NoteLines;
 pub use note_run::{NoteBlock, NoteRun};
 pub use plan_answers::answer_behind_job;
 pub use plan_reader::PlanReader;

@@ -7,24 +7,21 @@ ghost use Rattle.plan_lines.specs.declared.item.Item.{Item};
 ghost use Rattle.plan_lines.specs.declared.item.CertFault.{CertFault};
 ghost use Rattle.plan_lines.specs.declared.job_facts.JobFacts.{JobFacts};
 ghost use Rattle.plan_lines.specs.declared.known_note.KnownNote.{KnownNote};
-ghost use Rattle.brake_base.specs.Actions.{IsActionAmong};
-ghost use Rattle.stage_lanes.specs.ActionSets.{place_of, places_of};
+ghost use Rattle.stage_lanes.specs.ActionSets.{places_of};
 ghost use Rattle.plan_lines.specs.Facts.{HasFew, KeepsFacts};
 ghost use Rattle.plan_lines.specs.PlanItem.{item_of, plan_answer};
 ghost use Rattle.plan_lines.specs.Reading.{LeavesAt};
 ghost use Rattle.cert_lines.specs.LineReading.{IsBehind};
-ghost use Rattle.plan_lines.specs.NoteLines.{note_by};
-ghost use Rattle.plan_lines.specs.NoteLines.{KnownReasons, reason_by, or_cover, KnowsNoMore, KnowsAtMost, LearnsFrom, IsHeld, IsRun, IsBlock, IsTaken, notes_told, AreKnownAll, GivesAll, numbers_on};
+ghost use Rattle.plan_lines.specs.NoteLines.{KnownReasons, reason_by, KnowsNoMore, KnowsAtMost, LearnsFrom, IsHeld, IsRun, IsBlock, IsTaken, notes_told, AreKnownAll, GivesAll, numbers_on};
 
 use crate::item::{CertFault, PlanItem};
 use crate::job_facts::JobFacts;
 use crate::known_note::{KnownNote, is_of, note_of};
-use crate::note::Note;
 use crate::note_run::{NoteBlock, NoteRun, take_lines};
 use crate::plan_reader::PlanReader;
 use crate::section::Section;
 use crate::set_leads::SetLeads;
-use brake_base::{Action, Mask, Reason, action_number};
+use brake_base::{Mask, Reason, action_number};
 use cert_lines::{Format, whole_line};
 use stage_lanes::ActionSet;
 use std::marker::Model;
@@ -201,37 +198,6 @@ impl<'a> NoteLines<'a> {
         }
     }
 
-    /// The number of stages.
-    fn stages(&self) -> u8
-        ensures value { result ≡ self.now.stages }
-        ensures few { result ≤ 6 }
-    {
-        self.facts.stages
-    }
-
-    /// The reason that is known against the action of a number, or Cover where none is.
-    fn reason(&self, number: u8) -> Reason
-        ensures { result ≡ or_cover (reason_by self.now number) }
-    {
-        match self.notes.get(usize::from(number)) {
-            Some(Some(note)) => note.reason,
-            _ => Reason::Cover,
-        }
-    }
-
-    /// The note of an action at a row, with the reason that is known against it.
-    pub fn note(&self, row: u32, action: Action) -> Note
-        requires { IsActionAmong 12 self.now.stages action }
-        ensures { result ≡ note_by row self.now (place_of action) }
-    {
-        let number = action_number(action, self.stages());
-        Note {
-            row,
-            action: number,
-            reason: self.reason(number),
-        }
-    }
-
     /// Keeps the first note of the text, where it is of this number and says this.
     fn keep_told(&mut self, text: &'a [u8], number: u8, reason: Reason)
         ensures { KnowsAtMost self.old number reason self.new }
@@ -324,19 +290,18 @@ fn begins_with_note(text: &[u8]) -> bool {
     matches!(text, [b'x', ..])
 }
 
-/// Takes the known notes that come next behind a row. It tells their actions and how many they are.
-pub fn take_notes<'a>(reader: &mut PlanReader<'a>, known: &mut NoteLines<'a>) -> (ActionSet, u8)
+/// Takes the known notes that come next behind a row. It tells their actions.
+pub fn take_notes<'a>(reader: &mut PlanReader<'a>, known: &mut NoteLines<'a>) -> ActionSet
     requires few { HasFew reader.old.place.facts }
     ensures given { (behind : List ℕ) (answers : List (Result Item CertFault))
         → LeavesAt reader.old.place (reader.old.rest.now ++ behind) answers
-        → GivesAll answers (notes_told known.old result.0) reader.new.place
+        → GivesAll answers (notes_told known.old result) reader.new.place
         (reader.new.rest.now ++ behind) }
     ensures few { HasFew reader.new.place.facts }
     ensures rest { IsBehind reader.old.rest.now reader.new.rest.now }
-    ensures shorter { length (places_of result.0) + length reader.new.rest.now
+    ensures shorter { length (places_of result) + length reader.new.rest.now
         ≤ length reader.old.rest.now }
-    ensures count { length (places_of result.0) ≡ result.1 }
-    ensures known { AreKnownAll known.old result.0 }
+    ensures known { AreKnownAll known.old result }
     ensures same { known.new ≡ known.old }
 {
     match reader.place.section {
@@ -345,8 +310,8 @@ pub fn take_notes<'a>(reader: &mut PlanReader<'a>, known: &mut NoteLines<'a>) ->
             reader.rest = run.rest;
             reader.place.number = number_behind(reader.place.number, run.count);
             reader.place.section = Section::Notes(key, run.least);
-            (run.notes, run.count)
+            run.notes
         }
-        _ => (ActionSet::empty(), 0),
+        _ => ActionSet::empty(),
     }
 }

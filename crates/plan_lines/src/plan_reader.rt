@@ -148,7 +148,6 @@ impl<'a> PlanReader<'a> {
         ensures reasons { AreKnownAll known.old result }
         ensures known { known.new ≡ known.old }
     {
-        let (notes, _) = take_notes(self, known);
-        notes
+        take_notes(self, known)
     }
 }

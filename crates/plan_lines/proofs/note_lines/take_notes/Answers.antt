@@ -17,7 +17,6 @@ returns-in_default c = record {
   few = c.requires.few;
   rest = all_behind c.args.reader.now.rest.now;
   shorter = let none = empty_count c.empty.result c.empty.ensures.value in omega (arith, none);
-  count = empty_count c.empty.result c.empty.ensures.value;
   known = empty_known c.args.known.now c.empty.result c.empty.ensures.value;
   same = refl;
 }
