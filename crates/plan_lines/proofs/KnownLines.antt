@@ -1,8 +1,5 @@
 -- Lines of notes that are known, and what they give where they stand again.
-use Rattle.std.proofs.Common.{◌≡◌, inl, inr, ℕ, zero, suc, replicate, List, [], ◌∷◌, set, get_or, Option, Some, None, sym, ◌∙◌, ap, subst}
-use Rattle.std.proofs.lemmas.Bool.Decides.{eqb_tells}
-use Rattle.std.proofs.lemmas.List.{get_or-set_other}
-use Rattle.std.proofs.lemmas.Option.{same_Some, none-some}
+use Rattle.std.proofs.Common.{◌≡◌, ℕ, Option, Some, ◌∙◌, ap, subst}
 use Rattle.brake_base.specs.declared.stroke.Key.{Key}
 use Rattle.brake_base.specs.declared.stroke.Action.{Action}
 use Rattle.brake_base.specs.declared.reason.Reason.{Reason}
@@ -21,7 +18,6 @@ use Rattle.plan_lines.specs.Facts.{KeepsFacts}
 use Rattle.cert_lines.specs.LineReading.{keyword_in, behind_keyword}
 use Rattle.cert_lines.specs.Lines.{note_line}
 use Rattle.plan_lines.specs.PlanReading.{noted, give, plan_words_in, plan_line_in, take_plan_line}
-use Rattle.cert_lines.specs.LineReading.{IsCut}
 use Rattle.plan_lines.specs.KnownNote.{IsKnown}
 use Rattle.plan_lines.proofs.PlanLineRead.{note_among}
 

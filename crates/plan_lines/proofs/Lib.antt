@@ -12,6 +12,7 @@ pub mod KnownLines
 pub mod NoteSets
 pub mod NoteRuns
 pub mod NoteAnswers
+pub mod NewNotes
 pub mod JobSplits
 pub mod ActionNumbers
 pub mod NumberedActions

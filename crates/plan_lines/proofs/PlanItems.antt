@@ -58,6 +58,11 @@ leaves_same old new number section text job kept number_is section_is facts_is =
     ∙ ap (λ f. plan_items f.format job new.number new.section (lines_in text)) (sym facts_is) in
     left_in new.section new text (plan_items old.facts.format job number section (lines_in text)) refl (record { job = job; kept = subst (λ f. KeepsFacts f job) (sym facts_is) kept; left = behind })
 
+-- where nothing more was read, the same answers are left
+pub leaves_still : (old new : LinePlace) (text rest behind : List ℕ) (answers : List (Result Item CertFault)) → new ≡ old → rest ≡ text → LeavesAt old (text ++ behind) answers → LeavesAt new (rest ++ behind) answers
+leaves_still old new text rest behind answers place same left =
+    subst (λ (p : LinePlace). LeavesAt p (rest ++ behind) answers) (sym place) (subst (λ (t : List ℕ). LeavesAt old (t ++ behind) answers) (sym same) left)
+
 -- a whole line behind the job is answered
 pub line_given : (old new : LinePlace) (answers : List (Result Item CertFault)) (text rest behind : List ℕ) (given : Result Item CertFault × Section) → LeavesAt old (text ++ behind) answers → 0 < length answers
     → ((job : JobData) → KeepsFacts old.facts job → GivesLine old job (text ++ behind) given (rest ++ behind))

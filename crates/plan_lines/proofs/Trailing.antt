@@ -1,11 +1,8 @@
 -- What stands behind the line of the end.
-use Rattle.std.proofs.Common.{◌≡◌, ◌≢◌, ℕ, ◌+◌, ◌<◌, ◌==◌, Bool, false, List, [], ◌∷◌, ◌++◌, length, take, drop, get_or, Option, Some, None, Ok, Err, All, true, refl, sym, ap, ◌∙◌, eqb-true, arith}
+use Rattle.std.proofs.Common.{◌≡◌, ℕ, ◌+◌, ◌<◌, ◌==◌, Bool, false, List, [], ◌∷◌, ◌++◌, length, take, drop, Option, Some, None, Ok, Err, true, refl, sym, ap, ◌∙◌, eqb-true, arith}
 use Rattle.std.specs.List.{position}
-use Rattle.std.proofs.lemmas.Bool.{false_from_ne_true, true≢false}
-use Rattle.std.proofs.lemmas.List.{append_assoc, append-nil, length-append}
-use Rattle.std.proofs.lemmas.List.Splits.{slice_split_at, slice_split_none, length-slice_split}
+use Rattle.std.proofs.lemmas.Bool.{true≢false}
 use Rattle.brake_text.specs.Lines.{is_line_feed}
-use Rattle.brake_text.proofs.FirstLine.{first_line-ended, first_line-last}
 use Rattle.plan_lines.specs.declared.item.CertFault.TheVariants as faults
 use Rattle.plan_lines.specs.declared.item.Item.TheVariants as given
 use Rattle.cert_lines.specs.LineReading.{lines_in}

@@ -1,9 +1,7 @@
 -- The items of a certificate or a table file, in order, up to its end or to the refusal.
 use Rattle.std.specs.Prelude.{ℕ, ◌+◌, ◌-◌, ◌^◌, min, Bool, true, false, ◌&&◌, List, [], ◌∷◌}
-use Rattle.std.specs.Prelude.{Option, Some, None, Result, Ok, Err, if◌then◌else◌}
-use Rattle.std.specs.List.{slice_split}
+use Rattle.std.specs.Prelude.{Some, None, Result, Ok, Err, if◌then◌else◌}
 use Rattle.job_setup.specs.Setup.{JobData, bend_count, stage_count}
-use Rattle.brake_text.specs.Lines.{is_line_feed}
 use Rattle.cert_lines.specs.declared.format.TextKind.{TextKind}
 use Rattle.cert_lines.specs.declared.format.Format.{Format}
 use Rattle.plan_lines.specs.declared.section.Section.{Section}
@@ -12,7 +10,6 @@ use Rattle.plan_lines.specs.declared.item.Item.{Item}
 use Rattle.plan_lines.specs.declared.item.Item.TheVariants as given
 use Rattle.plan_lines.specs.declared.item.CertFault.{CertFault}
 use Rattle.plan_lines.specs.declared.item.CertFault.TheVariants as faults
-use Rattle.cert_words.specs.LineWords.{◌>>=◌}
 use Rattle.cert_lines.specs.JobTest.{is_job}
 use Rattle.cert_lines.specs.Formats.{format_of}
 use Rattle.cert_lines.specs.JobLines.{JobLinesData, no_lines, job_of}

@@ -20,7 +20,8 @@ pub struct KnownNote<'a> {
 pub fn note_of<'a>(line: &'a [u8], bends: u8, stages: u8) -> Option<KnownNote<'a>>
     requires bends { bends ≤ 12 }
     requires line { All (λ byte. byte ≢ 10) line.now }
-    ensures { IfSome result (IsKnown bends stages) }
+    ensures known { IfSome result (IsKnown bends stages) }
+    ensures line { IfSome result (λ note. note.line.now ≡ line.now) }
 {
     let (keyword, text) = split_word(line);
     match plan_line_of(keyword) {

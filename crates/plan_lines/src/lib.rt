@@ -8,6 +8,7 @@ mod job_facts;
 mod known_note;
 mod leading_row;
 mod line_place;
+mod new_note;
 mod note;
 mod note_lines;
 mod note_run;

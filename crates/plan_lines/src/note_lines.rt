@@ -1,7 +1,8 @@
 //! The lines of notes that are known by their actions, and those of the last row as one text. Rows of
 //! a set have mostly the same notes, and notes that are known needn't be read one by one.
-ghost use Rattle.std.specs.Prelude.{◌≡◌, ℕ, ◌+◌, ◌≤◌, ◌<◌, ◌++◌, List, length, Option, Result, Ok, None, true, IsTrue, IfSome};
+ghost use Rattle.std.specs.Prelude.{◌≡◌, ℕ, ◌+◌, ◌≤◌, ◌++◌, List, length, Option, Result, None, true, IsTrue};
 ghost use Rattle.brake_base.specs.declared.mask.Mask.{Mask};
+ghost use Rattle.brake_base.specs.Actions.{number_of_action};
 ghost use Rattle.job_setup.specs.Setup.{JobData};
 ghost use Rattle.plan_lines.specs.declared.item.Item.{Item};
 ghost use Rattle.plan_lines.specs.declared.item.CertFault.{CertFault};
@@ -9,20 +10,19 @@ ghost use Rattle.plan_lines.specs.declared.job_facts.JobFacts.{JobFacts};
 ghost use Rattle.plan_lines.specs.declared.known_note.KnownNote.{KnownNote};
 ghost use Rattle.stage_lanes.specs.ActionSets.{places_of};
 ghost use Rattle.plan_lines.specs.Facts.{HasFew, KeepsFacts};
-ghost use Rattle.plan_lines.specs.PlanItem.{item_of, plan_answer};
+ghost use Rattle.plan_lines.specs.KnownNote.{IsKnown};
 ghost use Rattle.plan_lines.specs.Reading.{LeavesAt};
 ghost use Rattle.cert_lines.specs.LineReading.{IsBehind};
-ghost use Rattle.plan_lines.specs.NoteLines.{KnownReasons, reason_by, KnowsNoMore, KnowsAtMost, LearnsFrom, IsHeld, IsRun, IsBlock, IsTaken, notes_told, AreKnownAll, GivesAll, numbers_on};
+ghost use Rattle.plan_lines.specs.NoteLines.{KnownReasons, reason_by, KnowsNoMore, KnowsAtMost, IsRun, IsBlock, IsTaken, notes_told, AreKnownAll, GivesAll, numbers_on};
 
-use crate::item::{CertFault, PlanItem};
 use crate::job_facts::JobFacts;
-use crate::known_note::{KnownNote, is_of, note_of};
+use crate::known_note::{KnownNote, is_of};
 use crate::note_run::{NoteBlock, NoteRun, take_lines};
 use crate::plan_reader::PlanReader;
 use crate::section::Section;
 use crate::set_leads::SetLeads;
-use brake_base::{Mask, Reason, action_number};
-use cert_lines::{Format, whole_line};
+use brake_base::{Mask, action_number};
+use cert_lines::Format;
 use stage_lanes::ActionSet;
 use std::marker::Model;
 
@@ -62,27 +62,6 @@ fn are_same(facts: &JobFacts, other: &JobFacts) -> bool
         return false;
     }
     are_equal(&facts.earlier, &other.earlier)
-}
-
-/// The first note of the text, where it is held at this number and says this.
-fn told_note<'a>(
-    text: &'a [u8],
-    facts: &JobFacts,
-    number: u8,
-    reason: Reason,
-) -> Option<KnownNote<'a>>
-    requires { HasFew facts.now }
-    ensures held { IfSome result (IsHeld facts.now number) }
-    ensures reason { IfSome result (λ note. note.reason ≡ reason) }
-    ensures number { IfSome result (λ note. number < 144) }
-{
-    let (line, _) = whole_line(text)?;
-    let note = note_of(line, facts.bends, facts.stages)?;
-    if action_number(note.action, facts.stages) == number && note.reason == reason {
-        Some(note)
-    } else {
-        None
-    }
 }
 
 /// The block of no note.
@@ -198,59 +177,30 @@ impl<'a> NoteLines<'a> {
         }
     }
 
-    /// Keeps the first note of the text, where it is of this number and says this.
-    fn keep_told(&mut self, text: &'a [u8], number: u8, reason: Reason)
-        ensures { KnowsAtMost self.old number reason self.new }
+    /// Keeps a note of a job of so many bends and stages.
+    fn hold(&mut self, facts: &JobFacts, note: &KnownNote<'a>)
+        requires few { HasFew facts.now }
+        requires known { IsKnown facts.now.bends facts.now.stages note.now }
+        ensures { KnowsAtMost self.old (number_of_action facts.now.stages note.now.action)
+            note.now.reason self.new }
     {
-        if let Some(note) = told_note(text, &self.facts, number, reason) {
-            self.notes[usize::from(number)] = Some(note);
+        if is_of(facts.bends, facts.stages, &self.facts) {
+            let number = action_number(note.action, facts.stages);
+            self.notes[usize::from(number)] = Some(*note);
             self.block = no_block();
         }
     }
 
-    /// Whether no note is known at a number. A second reason of an action isn't worth a reading.
-    fn is_free(&self, number: u8) -> bool {
-        matches!(self.notes.get(usize::from(number)), Some(None))
-    }
-
-    /// The same where none is known at the number.
-    fn keep_first(&mut self, text: &'a [u8], number: u8, reason: Reason)
-        ensures { KnowsAtMost self.old number reason self.new }
-    {
-        if self.is_free(number) {
-            self.keep_told(text, number, reason);
-        }
-    }
-
-    /// Keeps the first note of a job's text, where it is of this number and says this.
-    pub fn keep(&mut self, facts: &JobFacts, text: &'a [u8], number: u8, reason: Reason)
-        requires { HasFew facts.now }
-        ensures { KnowsAtMost self.old number reason self.new }
+    /// Keeps a note of a job.
+    pub fn keep(&mut self, facts: &JobFacts, note: &KnownNote<'a>)
+        requires few { HasFew facts.now }
+        requires known { IsKnown facts.now.bends facts.now.stages note.now }
+        ensures { KnowsAtMost self.old (number_of_action facts.now.stages note.now.action)
+            note.now.reason self.new }
     {
         if facts.stages == self.facts.stages {
             self.turn_to(facts);
-            self.keep_first(text, number, reason);
-        }
-    }
-
-    /// Keeps the first note of a job's text, where this was the answer to it.
-    pub fn learn(&mut self, facts: &JobFacts, text: &'a [u8], answer: &Result<PlanItem, CertFault>)
-        requires { HasFew facts.now }
-        ensures { LearnsFrom self.old (plan_answer answer.now) self.new }
-    {
-        match answer {
-            Ok(item) => self.learn_item(facts, text, item),
-            Err(_) => {}
-        }
-    }
-
-    /// Keeps the first note of a job's text, where this item is it.
-    fn learn_item(&mut self, facts: &JobFacts, text: &'a [u8], item: &PlanItem)
-        requires { HasFew facts.now }
-        ensures { LearnsFrom self.old (Ok (item_of item.now)) self.new }
-    {
-        if let PlanItem::Note { action, reason } = item {
-            self.keep(facts, text, *action, *reason);
+            self.hold(facts, note);
         }
     }
 

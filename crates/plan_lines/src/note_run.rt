@@ -46,7 +46,7 @@ fn likely_number(text: &[u8], stages: u8) -> Option<u8>
     requires { stages ≤ 6 }
     ensures { IfSome result (λ number. number < 144) }
 {
-    let [_, _, first, second, third, fourth, fifth, sixth, ..] = text else {
+    let [b'x', _, first, second, third, fourth, fifth, sixth, ..] = text else {
         return None;
     };
     let (bend, back, stage) = if *second == b' ' {

@@ -44,6 +44,33 @@ pub fn answer_behind_job(reader: &mut PlanReader) -> Result<PlanItem, CertFault>
     }
 }
 
+/// Takes the row whose line stands at the front behind the job, where it may stand there. `None` where
+/// the piece goes on with anything else; then nothing is read.
+pub fn row_behind_job(reader: &mut PlanReader) -> Option<RowHead>
+    requires few { HasFew reader.old.place.facts }
+    ensures given { IfSome result (λ row. (behind : List ℕ)
+        (answers : List (Result Item CertFault))
+        → LeavesAt reader.old.place (reader.old.rest.now ++ behind) answers → 0 < length answers
+        → GivesNext answers (Ok (given.Row row)) reader.new.place
+        (reader.new.rest.now ++ behind)) }
+    ensures few { HasFew reader.new.place.facts }
+    ensures rest { IsBehind reader.old.rest.now reader.new.rest.now }
+    ensures shorter { IfSome result
+        (λ _. length reader.new.rest.now < length reader.old.rest.now) }
+    ensures place { IsNone result → reader.new.place ≡ reader.old.place }
+    ensures unread { IsNone result → reader.new.rest.now ≡ reader.old.rest.now }
+{
+    match next_row(&reader.place, reader.rest) {
+        Some((row, rest)) => {
+            reader.rest = rest;
+            reader.place.number = next_number(reader.place.number);
+            reader.place.section = Section::Notes(row.key, 0);
+            Some(row)
+        }
+        None => None,
+    }
+}
+
 /// The answer of a text's first line, where the next one stands, and the text behind it. `None` where
 /// the text has no whole line.
 fn next_line<'a>(
@@ -55,10 +82,6 @@ fn next_line<'a>(
         (λ x. IsNextLine place.now text.now (plan_answer x.0, x.1) x.2.now) }
     ensures none { IsNone result → lines_in text.now ≡ text.now ∷ [] }
 {
-    if let Some((row, rest)) = next_row(place, text) {
-        let section = Section::Notes(row.key, 0);
-        return Some((Ok(PlanItem::Row(row)), section, rest));
-    }
     match whole_line(text) {
         Some((line, rest)) => {
             let (answer, section) = plan_item(place, line, rest);

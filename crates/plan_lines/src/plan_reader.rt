@@ -13,8 +13,9 @@ ghost use Rattle.plan_lines.specs.NoteLines.{notes_told, AreKnownAll, LearnsFrom
 use crate::item::{CertFault, PlanItem};
 use crate::job_answers::first_answer;
 use crate::line_place::LinePlace;
+use crate::new_note::note_behind_job;
 use crate::note_lines::{NoteLines, take_notes};
-use crate::plan_answers::answer_behind_job;
+use crate::plan_answers::{answer_behind_job, row_behind_job};
 use crate::section::Section;
 use cert_lines::TextKind;
 use job_setup::Job;
@@ -119,11 +120,16 @@ impl<'a> PlanReader<'a> {
         ensures shorter { IfSome result (λ answer. IfOk answer
             (λ _. length self.new.rest.now < length self.old.rest.now)) }
     {
+        if let Some(row) = row_behind_job(self) {
+            return Some(Ok(PlanItem::Row(row)));
+        }
+        if let Some(note) = note_behind_job(self, known) {
+            return Some(Ok(note));
+        }
         let place = self.place;
         let text = self.rest;
         let answer = answer_behind_job(self);
         if is_told(&answer, is_last) {
-            known.learn(&place.facts, text, &answer);
             Some(answer)
         } else {
             self.place = place;

@@ -1,6 +1,6 @@
 //! Reading the lines behind the job: which line may stand where, and what it gives.
 ghost use Rattle.std.specs.Prelude.{◌≡◌, ◌+◌, ◌≤◌, ◌<◌, nat_lt, ℕ, IsTrue, Some, IfSome};
-ghost use Rattle.brake_base.specs.Actions.{IsActionAmong};
+ghost use Rattle.brake_base.specs.Actions.{IsActionAmong, number_of_action};
 ghost use Rattle.job_setup.specs.Setup.{JobData};
 ghost use Rattle.plan_lines.specs.declared.item.Item.TheVariants as given;
 ghost use Rattle.plan_lines.specs.declared.section.Section.TheVariants as sections;
@@ -8,7 +8,7 @@ ghost use Rattle.plan_lines.specs.declared.section.PlanLine.TheVariants as kinds
 ghost use Rattle.cert_lines.specs.LineReading.{only_if, keyword_in, behind_keyword};
 ghost use Rattle.cert_words.specs.LineWords.{Reads};
 ghost use Rattle.plan_lines.specs.Facts.{KeepsFacts};
-ghost use Rattle.plan_lines.specs.PlanItem.{placed};
+ghost use Rattle.plan_lines.specs.PlanItem.{item_of, placed};
 ghost use Rattle.plan_lines.specs.PlanReading.{behind_claim, are_enough, may_leave, may_be_row, give_read, noted, plan_line_of, plan_words_in, plan_line_in, take_plan_line, is_end_line, is_claim_line, is_row_line, may_follow_job, first_section};
 
 use crate::item::PlanItem;
@@ -132,8 +132,10 @@ pub fn noted(
     requires bends { facts.now.bends ≤ 12 }
     requires stages { facts.now.stages ≤ 6 }
     requires action { IsActionAmong facts.now.bends facts.now.stages action }
-    ensures { (job : JobData) → KeepsFacts facts.now job
+    ensures placed { (job : JobData) → KeepsFacts facts.now job
         → Reads placed result (noted job key.now least action reason) }
+    ensures item { IfSome result (λ x. item_of x.0
+        ≡ given.Note (number_of_action facts.now.stages action) reason) }
 {
     let number = action_number(action, facts.stages);
     if least <= number && facts.is_lead(key.mask, action.bend) {
