@@ -46,6 +46,17 @@ impl ProvedCosts {
             costs: costs_behind(job, rows, facts, mask, leads),
         }
     }
+
+    /// Makes this what is proved of the keys behind a set.
+    pub fn turn_to(&mut self, job: &Job, rows: &RowTable, facts: &LaneFacts, mask: Mask)
+        requires rows { rows.now.job ≡ job.now }
+        requires facts { facts.now ≡ job.now }
+        requires mask { mask.0 < 2 ^ bend_count job.now }
+        ensures costs { AreProvedOf job.now rows.now.rows self.new }
+        ensures mask { self.new.mask ≡ mask }
+    {
+        *self = ProvedCosts::of(job, rows, facts, mask);
+    }
 }
 
 /// What is proved of the keys behind the actions of the leads where the bends of the mask are

@@ -71,7 +71,7 @@ impl CheckedSet {
         ensures mask { self.new.proved.mask ≡ mask }
     {
         if self.proved.mask != mask {
-            self.proved = ProvedCosts::of(job, rows, facts, mask);
+            self.proved.turn_to(job, rows, facts, mask);
             self.closing = ClosingCosts::none();
         }
     }
