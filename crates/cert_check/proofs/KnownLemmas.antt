@@ -4,7 +4,7 @@ use Rattle.std.specs.Prelude.{min, is_some, slice_get}
 use Rattle.std.specs.List.{list_any}
 use Rattle.std.specs.Result.{result_ok}
 use Rattle.std.proofs.lemmas.Bool.Decides.{eqb_tells}
-use Rattle.std.proofs.lemmas.List.{append_assoc, append-nil, length-append, length-drop, length-map, get_or-drop, get_or-map, get_or_append_left, get_or-set_same, get_or-set_other}
+use Rattle.std.proofs.lemmas.List.{append_assoc, get_or-set_same, get_or-set_other}
 use Rattle.std.proofs.lemmas.List.Elements.{All-append, All-map}
 use Rattle.std.proofs.lemmas.List.Folds.{list_any-append, list_any_none}
 use Rattle.std.proofs.lemmas.Option.{same_Some, none-some, slice_get_within, slice_get-get_or}
@@ -27,13 +27,12 @@ use Rattle.plan_cert.specs.Cert.{CertData}
 use Rattle.plan_lines.specs.Items.{items}
 use Rattle.plan_lines.specs.declared.item.PlanItem.{PlanItem}
 use Rattle.plan_lines.specs.PlanItem.{item_of, plan_answer}
-use Rattle.plan_cert.specs.CertReading.{cert_of, with_item, with_known, answers_left}
+use Rattle.plan_cert.specs.CertReading.{cert_of, with_known, answers_left}
 use Rattle.plan_lines.specs.NoteLines.{note_by}
-use Rattle.plan_cert.proofs.KnownRead.{known_read, known_behind as answer_behind, some_places}
+use Rattle.plan_cert.proofs.KnownRead.{known_read, known_behind as answer_behind}
 use Rattle.cert_lines.specs.Lines.{action_at}
 use Rattle.plan_lines.specs.NoteLines.{KnownReasons, IsKnownAt, AreKnownAll, number_at, reason_at, reason_by, or_cover, note_told, notes_told, LearnsFrom}
 use Rattle.plan_lines.proofs.ActionNumbers.{number_is, number_below, bend_of_number, action_of_number}
-use Rattle.plan_cert.proofs.Collecting.{goes_on}
 use Rattle.plan_cert.proofs.Conditions.{rows_of}
 use Rattle.plan_lines.proofs.NoteSets.{any_place, at_place, no_places, number_of_place, stage_of_place}
 use Rattle.plan_cert.proofs.RowOrder.{no_row, few_rows}
@@ -43,7 +42,7 @@ use Rattle.cert_check.specs.RowNotes.{is_noted, has_note, note_at, AreNoted, IsS
 use Rattle.cert_check.specs.KnownNotes.{KnowsSound, KnowsSoundBut}
 use Rattle.cert_check.specs.ReadCert.{IsRowFirst, IsUnderway, KeepsNotes}
 use Rattle.cert_check.proofs.GrowLemmas.{grows}
-use Rattle.cert_check.proofs.ItemLemmas.{of_item, some_left}
+use Rattle.cert_check.proofs.ItemLemmas.{some_left}
 use Rattle.cert_check.proofs.NoteLemmas.{wide, place_within}
 
 -- ---- the notes that are told

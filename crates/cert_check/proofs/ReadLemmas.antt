@@ -1,6 +1,6 @@
 -- The loop over the items of a text.
-use Rattle.std.proofs.Common.{◌≡◌, inl, inr, ℕ, ◌+◌, ◌-◌, ◌*◌, ◌^◌, ◌<◌, IsTrue, Bool, true, false, List, [], ◌∷◌, ◌++◌, append-nil, length, drop, map, get_or, Some, None, Option, Result, Ok, Err, refl, sym, ◌∙◌, ap, subst, arith}
-use Rattle.std.specs.Prelude.{min, slice_get, IfOk, IfSome}
+use Rattle.std.proofs.Common.{◌≡◌, inl, inr, ℕ, ◌+◌, ◌-◌, ◌*◌, ◌^◌, ◌<◌, IsTrue, Bool, true, false, List, [], ◌∷◌, ◌++◌, append-nil, length, drop, map, get_or, Some, Result, Ok, Err, refl, sym, ◌∙◌, ap, subst, arith}
+use Rattle.std.specs.Prelude.{min, slice_get, IfOk}
 use Rattle.std.proofs.Math.Seq.{drop-append_seam}
 use Rattle.std.proofs.lemmas.List.{length_push, get_or_push, drop-drop}
 use Rattle.std.proofs.lemmas.List.Elements.{All-nil, Contains-push}
@@ -314,11 +314,6 @@ module _ (kind : TextKind) (text : List ℕ) (read : ReadCert) (reader : Reading
   -- a refusal
   pub refused_on : (fault : CertFault) → cert_of reads.before (answers_left reader) ≡ Err fault → ReadAnswer kind text (Err (Cert fault))
   refused_on fault answer = subst (λ (all : List (Result Item CertFault)). AreRefused all fault) (sym reads.starts) (reads.same ∙ answer)
-
--- what holds of each value there is
-pub some_weaker : {A : Type 0} (P Q : A → Type 0) → ((a : A) → P a → Q a) → (o : Option A) → IfSome o P → IfSome o Q
-some_weaker P Q on (Some a) is = on a is
-some_weaker P Q on None is = tt
 
 -- where nothing more was read
 pub moved : (kind : TextKind) (text : List ℕ) (read other : ReadCert) (place elsewhere : LinePlace) (rest after behind : List ℕ) → other ≡ read → elsewhere ≡ place → after ≡ rest → IsReadBefore kind text read place (rest ++ behind) → IsReadBefore kind text other elsewhere (after ++ behind)

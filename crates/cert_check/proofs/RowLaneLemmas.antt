@@ -1,5 +1,5 @@
 -- Rows that are met by lanes.
-use Rattle.std.proofs.Common.{◌≡◌, inl, inr, ℕ, ◌+◌, ◌*◌, ◌<◌, ◌≤◌, IsTrue, Bool, true, false, List, arith, refl, sym, ◌∙◌, ap, subst}
+use Rattle.std.proofs.Common.{◌≡◌, inl, inr, ℕ, ◌+◌, ◌*◌, ◌<◌, ◌≤◌, IsTrue, false, List, arith, refl, sym, ◌∙◌, ap, subst}
 use Rattle.std.specs.Prelude.{nat_lt, ◌⊎◌}
 use Rattle.std.proofs.lemmas.Bool.Decides.{eqb_tells}
 use Rattle.brake_base.specs.declared.stroke.Key.{Key}
@@ -12,7 +12,6 @@ use Rattle.brake_base.specs.Actions.{number_of_action}
 use Rattle.brake_base.specs.Worths.{IsAtMost, plus}
 use Rattle.stage_lanes.specs.ActionSets.{side_of, has, has_place, place_of}
 use Rattle.job_setup.specs.Setup.{JobData, bend_count, stage_count}
-use Rattle.job_setup.specs.StrokeGroup.{is_lead}
 use Rattle.job_setup.specs.ValidJob.{IsJob}
 use Rattle.handling_cost.specs.StepCost.{attitude_at, key_after, change, change_cost, stage_cost, cost_to, cost_of}
 use Rattle.handling_cost.specs.Good.{Proves}
@@ -27,7 +26,7 @@ use Rattle.plan_lines.proofs.ActionNumbers.{number_is, number_below, action_of_n
 use Rattle.plan_lines.proofs.Actions.{few_actions}
 use Rattle.cert_check.specs.Rows.{ClosesAt, IsMet, AreMet}
 use Rattle.cert_check.specs.ProvedCosts.{worth_cost, IsProvedCost, key_behind}
-use Rattle.cert_check.specs.RowLanes.{IsSideMet, IsBendMet, AreBendsMet}
+use Rattle.cert_check.specs.RowLanes.{AreBendsMet}
 
 -- what is proved behind a step is at least the worth where the costs are
 pub closes : (worth next : Worth) (cost : ℕ) → IsWorth next → cost ≤ 8000000 → worth_cost worth ≤ cost + worth_cost next → IsAtMost worth (plus cost next)

@@ -1,6 +1,6 @@
 -- What closes the actions of rows that are held alike and have the same notes, a lane for each
 -- stage. Costs are in tenths of a second.
-use Rattle.std.specs.Prelude.{◌≡◌, ◌⊎◌, ℕ, ◌+◌, ◌*◌, ◌^◌, ◌<◌, ◌≤◌, IsTrue, IfSome, List}
+use Rattle.std.specs.Prelude.{◌⊎◌, ℕ, ◌+◌, ◌*◌, ◌^◌, ◌<◌, ◌≤◌, IsTrue, IfSome, List}
 use Rattle.std.specs.Prelude.{slice_index}
 use Rattle.brake_base.specs.declared.stroke.Back.{Back}
 use Rattle.stage_lanes.specs.declared.actions.ActionSet.{ActionSet}

@@ -148,42 +148,10 @@ fn take_items<'a>(
         → IsReadBefore kind text read.new reader.new.place (reader.new.rest.now ++ behind) }
 {
     let known = reader.take_known(lines);
-    if known.is_empty() {
-        take_item(read, reader, lines, is_last)
-    } else {
+    if !known.is_empty() {
         read.notes.add_known(known);
-        Some(Ok(true))
+        return Some(Ok(true));
     }
-}
-
-/// The same of one item.
-fn take_item<'a>(
-    read: &mut ReadCert,
-    reader: &mut PlanReader<'a>,
-    lines: &mut NoteLines<'a>,
-    is_last: bool,
-) -> Option<Result<bool, CheckFault>>
-    requires few { HasFew reader.old.place.facts }
-    requires testing { IsTesting read.old.job read.old.notes }
-    requires lines { KnowsSound read.old.job read.old.notes lines.old }
-    ensures few { HasFew reader.new.place.facts }
-    ensures rest { IsBehind reader.old.rest.now reader.new.rest.now }
-    ensures shorter { IfSome result (λ answer. IfOk answer
-        (λ _. length reader.new.rest.now < length reader.old.rest.now)) }
-    ensures last { is_last ≡ true → IsSome result }
-    ensures job { read.new.job ≡ read.old.job }
-    ensures testing { IfSome result (λ answer. IfOk answer
-        (λ _. IsTesting read.new.job read.new.notes)) }
-    ensures lines { IfSome result (λ answer. IfOk answer
-        (λ _. KnowsSound read.new.job read.new.notes lines.new)) }
-    ensures item { IfSome result (λ answer. (kind : TextKind) (text behind : List ℕ)
-        → MayBeBehind is_last behind
-        → IsReadBefore kind text read.old reader.old.place (reader.old.rest.now ++ behind)
-        → PieceAnswer answer kind text read.new reader.new.place (reader.new.rest.now ++ behind)) }
-    ensures same { IsNone result → read.new ≡ read.old }
-    ensures place { IsNone result → reader.new.place ≡ reader.old.place }
-    ensures unread { IsNone result → reader.new.rest.now ≡ reader.old.rest.now }
-{
     let answer = reader.next_kept(lines, is_last)?;
     Some(keep_answer(read, lines, answer))
 }

@@ -1,6 +1,4 @@
-use Rattle.std.proofs.Common.{◌≡◌, ◌<◌, ◌≤◌, arith, sym, subst, ◌∙◌}
-use Rattle.std.specs.Prelude.{slice_index}
-use Rattle.cert_check.specs.ClosingCosts.{ClosesBelow, IsSmall}
+use Rattle.std.proofs.Common.{arith, sym, ◌∙◌}
 use Rattle.cert_check.proofs.ClosingLemmas.{bend_closed, bend_passed_over}
 use Rattle.cert_check.proofs.closing_costs.closing_costs.Goals as goal
 use Rattle.cert_check.proofs.closing_costs.closing_costs.Goals.{then-contains, else-contains}

@@ -3,18 +3,27 @@ use Rattle.std.proofs.lemmas.List.{length-map}
 use Rattle.stage_lanes.specs.ActionSets.{places_of}
 use Rattle.plan_lines.specs.declared.item.Item.{Item}
 use Rattle.plan_lines.specs.declared.item.CertFault.{CertFault}
+use Rattle.plan_lines.specs.PlanItem.{plan_answer}
 use Rattle.plan_lines.specs.Reading.{Reading}
+use Rattle.plan_lines.specs.NoteLines.{KnownReasons, LearnsFrom, note_told, notes_told}
 use Rattle.plan_cert.specs.CertReading.{answers_left, cert_of, with_known}
-use Rattle.plan_lines.specs.NoteLines.{note_told, notes_told}
-use Rattle.cert_check.specs.ReadCert.{IsUnderway}
 use Rattle.plan_cert.proofs.KnownRead.{known_read, some_places}
-use Rattle.cert_check.proofs.KnownLemmas.{known_behind, underway_known}
-use Rattle.cert_check.proofs.ReadLemmas.{all_given, moved, none_told, reads_on, some_weaker}
+use Rattle.cert_check.specs.ReadCert.{IsUnderway}
+use Rattle.cert_check.proofs.ItemLemmas.{some_left}
+use Rattle.cert_check.proofs.KnownLemmas.{known_behind, learned_answer, underway_known}
+use Rattle.cert_check.proofs.ReadLemmas.{all_given, moved, none_told, reads_on}
 use Rattle.cert_lines.proofs.WholeLines.{behind_both}
 use Rattle.cert_check.proofs.read_cert.take_items.Goals as goal
 
-pub returns-else-is_empty-clause-item : goal.returns-else-is_empty-clause-item
-returns-else-is_empty-clause-item c = λ kind text behind may reads.
+pub returns-then-not-is_empty-clause-shorter : goal.returns-then-not-is_empty-clause-shorter
+returns-then-not-is_empty-clause-shorter c =
+    let took = c.take_known-known in
+    let some = some_places took.result (λ none. let is = c.is_empty.ensures.1 none in let isnt = c.if-not-is_empty.true in cc) in
+    let shorter = took.ensures.shorter in
+    omega (arith, some, shorter)
+
+pub returns-then-not-is_empty-clause-item : goal.returns-then-not-is_empty-clause-item
+returns-then-not-is_empty-clause-item c = λ kind text behind may reads.
     let read = c.args.read.now in
     let r = reads.reader in
     let before = reads.reads.before in
@@ -22,7 +31,7 @@ returns-else-is_empty-clause-item c = λ kind text behind may reads.
     let took = c.take_known-known in
     let lines = c.args.lines.now in
     let places = places_of took.result in
-    let some = some_places took.result (λ none. let is = c.is_empty.ensures.1 none in let isnt = c.if-is_empty.false in cc) in
+    let some = some_places took.result (λ none. let is = c.is_empty.ensures.1 none in let isnt = c.if-not-is_empty.true in cc) in
     let next : Reading = record r { answered = r.answered + length places } in
     let place = took.new.self.place in
     let rest = took.new.self.rest.now ++ behind in
@@ -37,30 +46,28 @@ returns-else-is_empty-clause-item c = λ kind text behind may reads.
           c.requires.lines took.ensures.reasons c.add_known.ensures.sets c.add_known.ensures.mask c.add_known.ensures.unsound,
     )
 
-pub returns-else-is_empty-clause-shorter : goal.returns-else-is_empty-clause-shorter
-returns-else-is_empty-clause-shorter c =
-    let took = c.take_known-known in
-    let some = some_places took.result (λ none. let is = c.is_empty.ensures.1 none in let isnt = c.if-is_empty.false in cc) in
-    let shorter = took.ensures.shorter in
-    omega (arith, some, shorter)
-
-pub returns-then-is_empty-clause-rest : goal.returns-then-is_empty-clause-rest
-returns-then-is_empty-clause-rest c = behind_both c.args.reader.now.rest.now c.take_known-known.new.self.rest.now c.take_item.new.reader.rest.now c.take_known-known.ensures.rest c.take_item.ensures.rest
-
-pub returns-then-is_empty-clause-item : goal.returns-then-is_empty-clause-item
-returns-then-is_empty-clause-item c = some_weaker _ _
-    (λ answer is kind text behind may reads.
+pub returns-in_err-answer-clause-none : goal.returns-in_err-answer-clause-none
+returns-in_err-answer-clause-none c = λ none kind text behind reads.
+    let read = c.args.read.now in
     let r = reads.reader in
     let took = c.take_known-known in
-    let none = c.is_empty.ensures.0 c.if-is_empty.true in
-    is kind text behind may (record { reader = r; reads = reads.reads; leaves = none_told c.args.lines.now took.result (answers_left r) took.new.self.place _ none (took.ensures.told behind (answers_left r) reads.leaves) }))
-    c.take_item.result c.take_item.ensures.item
-
-pub returns-then-is_empty-clause-none : goal.returns-then-is_empty-clause-none
-returns-then-is_empty-clause-none c = λ none kind text behind reads.
-    let r = reads.reader in
-    let took = c.take_known-known in
-    let item = c.take_item in
-    let empty = c.is_empty.ensures.0 c.if-is_empty.true in
-    moved kind text c.args.read.now item.new.read took.new.self.place item.new.reader.place took.new.self.rest.now item.new.reader.rest.now behind (item.ensures.same none) (item.ensures.place none) (item.ensures.unread none)
+    let next = c.next_kept.new.self in
+    let empty = c.is_empty.ensures.0 c.if-not-is_empty.false in
+    moved kind text read read took.new.self.place next.place took.new.self.rest.now next.rest.now behind refl (c.in_err-answer.ensures.place refl) (c.in_err-answer.ensures.unread refl)
     (record { reader = r; reads = reads.reads; leaves = none_told c.args.lines.now took.result (answers_left r) took.new.self.place _ empty (took.ensures.told behind (answers_left r) reads.leaves) })
+
+pub keep_answer-requires-clause-lines : goal.keep_answer-requires-clause-lines
+keep_answer-requires-clause-lines c =
+    let learned = subst (λ (known : KnownReasons). LearnsFrom known (plan_answer c.in_ok-answer.answer) c.next_kept.new.known) c.take_known-known.ensures.known c.in_ok-answer.ensures.known in
+    learned_answer c.args.read.now.job c.args.read.now.notes c.in_ok-answer.answer c.args.lines.now c.next_kept.new.known c.requires.lines learned
+
+pub returns-clause-rest : goal.returns-clause-rest
+returns-clause-rest c = behind_both c.args.reader.now.rest.now c.take_known-known.new.self.rest.now c.next_kept.new.self.rest.now c.take_known-known.ensures.rest c.in_ok-answer.ensures.rest
+
+pub returns-clause-item : goal.returns-clause-item
+returns-clause-item c = λ kind text behind may reads.
+    let r = reads.reader in
+    let took = c.take_known-known in
+    let empty = c.is_empty.ensures.0 c.if-not-is_empty.false in
+    let leaves = none_told c.args.lines.now took.result (answers_left r) took.new.self.place _ empty (took.ensures.told behind (answers_left r) reads.leaves) in
+    c.keep_answer.ensures.item kind text r _ _ reads.reads (c.in_ok-answer.ensures.given behind (answers_left r) may leaves (some_left r reads.reads.more))

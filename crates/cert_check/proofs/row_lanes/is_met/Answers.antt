@@ -1,15 +1,13 @@
-use Rattle.std.proofs.Common.{◌≡◌, ◌<◌, ◌≤◌, ◌+◌, ◌*◌, ◌&&◌, ℕ, Bool, true, false, arith, refl, sym, ap, subst, ◌∙◌}
+use Rattle.std.proofs.Common.{◌≡◌, ◌<◌, ◌+◌, ◌*◌, ◌&&◌, Bool, true, false, arith, refl, sym, ap, subst, ◌∙◌}
 use Rattle.std.specs.Prelude.{slice_index, nat_lt, IsTrue}
 use Rattle.std.proofs.lemmas.Bool.{lt-ltb}
 use Rattle.brake_base.specs.declared.mask.Mask.{Mask}
-use Rattle.brake_base.specs.declared.stroke.Back.{Back}
 use Rattle.stage_lanes.specs.ActionSets.{side_of}
 use Rattle.stage_lanes.specs.Stages
 use Rattle.action_lanes.specs.Costs.{cost_at}
-use Rattle.job_setup.specs.Setup.{bend_count, stage_count}
 use Rattle.job_setup.specs.StrokeGroup.{is_lead}
 use Rattle.handling_cost.specs.StepCost.{attitude_at, change, change_cost}
-use Rattle.cert_check.specs.ProvedCosts.{worth_cost, IsProvedCost, key_behind}
+use Rattle.cert_check.specs.ProvedCosts.{IsProvedCost, key_behind}
 use Rattle.cert_check.specs.ClosingCosts.{turn_cost}
 use Rattle.cert_check.proofs.RowLaneLemmas.{lane_met, all_met, not_less}
 use Rattle.cert_check.proofs.row_lanes.is_met.Goals as goal
