@@ -8,9 +8,11 @@ use Rattle.brake_base.specs.declared.mask.Mask.{Mask}
 use Rattle.brake_base.specs.declared.reason.Reason.{Reason}
 use Rattle.brake_base.specs.declared.reason.Reason.TheVariants.{Cover, Rest, Frame, Upper, Nose, Lower, SelfHit, NoGauge, Load}
 use Rattle.brake_base.specs.Masks.{has}
+use Rattle.brake_base.specs.Turns.{map_of}
 use Rattle.unfolder.specs.Blank.{face_numbers, bend_numbers}
 use Rattle.fold_boxes.specs.declared.posed_part.PoseBox.{PoseBox}
-use Rattle.fold_boxes.specs.Pose.{box_ids}
+use Rattle.fold_boxes.specs.declared.posed_part.Pose.{Pose}
+use Rattle.fold_boxes.specs.Pose.{box_ids, pose_data}
 use Rattle.job_setup.specs.Setup.{JobData, shape_of, bend_count, stage_count}
 use Rattle.job_setup.specs.StageOf.{stage_of}
 use Rattle.job_setup.specs.ValidJob.{IsJob}
@@ -24,10 +26,11 @@ use Rattle.box_support.proofs.Boxes.{ids_are, id_found, box_alike, face_place_al
 use Rattle.box_support.proofs.Sets.{none_at_zero, none_past}
 use Rattle.stage_lanes.specs.Lanes.{AreLanes}
 use Rattle.stroke_table.specs.declared.keys.GroupKey.{GroupKey}
+use Rattle.stroke_table.specs.declared.keys.StrokeKey.{StrokeKey}
 use Rattle.stroke_table.specs.declared.keys.BoxKey.{BoxKey}
 use Rattle.stroke_table.specs.declared.known.FoundBox.{FoundBox}
 use Rattle.stroke_table.specs.Codes.{AreLeastCodes, HoldsAmong, IsGiven, stroke_box, stroke_place, IsOfBox}
-use Rattle.stroke_table.specs.Gathering.{IsOfBoxBelow}
+use Rattle.stroke_table.specs.Gathering.{IsOfBoxBelow, IsPoseOf}
 use Rattle.stroke_table.specs.Records.{IsBoxKey, IsFoundBox, parent_of}
 use Rattle.stroke_table.proofs.LeastCodes.{either_codes, same_codes}
 
@@ -149,6 +152,11 @@ boxes_gathered job mask key =
     let corners = filter (has mask) (bend_numbers job.part.faces) in
     ap (λ (xs : List PoseBox). map made (face_numbers job.part.faces) ++ xs) (sym (map-map made (λ b. 12 + b) corners))
     ∙ sym (map-append made (face_numbers job.part.faces) (map (λ b. 12 + b) corners))
+
+-- the part on the machine with its boxes and its places is the pose
+pub pose_whole : (job : JobData) (stroke : StrokeKey) (pose : Pose) → IsPoseOf job stroke pose → pose.boxes.items ≡ (pose_at job stroke.mask stroke.of.group stroke.of.back 0).boxes
+    → map map_of pose.places.items ≡ (pose_at job stroke.mask stroke.of.group stroke.of.back 0).places → pose_data pose ≡ pose_at job stroke.mask stroke.of.group stroke.of.back 0
+pose_whole job stroke pose is boxes places = λ i. record { bend = is.bend i; group = is.group i; boxes = boxes i; places = places i; x0 = is.from i; x1 = is.to i }
 
 -- ---- what is kept of a box
 deciding_folded : (a b : Bool) → b ≡ true → (a && b) ≡ a

@@ -14,7 +14,7 @@ ghost use Rattle.stroke_table.specs.Finding.{IsFound, IsGaugeOf};
 ghost use Rattle.stroke_table.specs.Records.{AreKept, IsGroupRecord};
 
 use crate::codes::{at_stages, code_for, is_free_somewhere};
-use crate::gathering::{gather_boxes, gathered_pose};
+use crate::gathering::{StrokeBoxes, gather_boxes};
 use crate::gauging::first_pair;
 use crate::keys::{GroupKey, StrokeKey};
 use crate::known::{FoundGauge, KnownStroke};
@@ -44,12 +44,12 @@ pub(crate) fn find_codes(
     ensures valid { IsJob job.now }
 {
     let of_group = group_record(job, kept, places, stroke);
-    let gathered = gather_boxes(job, kept, places, stroke);
+    let mut gathered = StrokeBoxes::none(job, stroke);
+    gather_boxes(job, kept, places, stroke, &mut gathered);
     let before = of_group.lines.lesser(gathered.codes);
     let stages = job.stages();
-    let pose = gathered_pose(job, stroke, gathered);
     if is_free_somewhere(before, stages) {
-        find_rest(job, stroke, &pose, before, of_group.load)
+        find_rest(job, stroke, &gathered.pose, before, of_group.load)
     } else {
         KnownStroke {
             codes: before,

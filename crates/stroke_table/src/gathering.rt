@@ -1,19 +1,19 @@
 //! The boxes of a stroke are gathered: what each gives, and where it lies at stage 0.
-ghost use Rattle.std.specs.Prelude.{◌≡◌, ◌+◌, ◌<◌, ◌≤◌, ◌^◌, [], ◌∷◌, ◌++◌, min, map, length, slice_index, slice_index_or, slice_get, None, IfSome, IsSome, All, Any};
+ghost use Rattle.std.specs.Prelude.{◌≡◌, ◌+◌, ◌<◌, ◌≤◌, ◌^◌, [], ◌∷◌, ◌++◌, min, length, slice_index, slice_index_or, slice_get, None, IfSome, IsSome, All, Any};
 ghost use Rattle.fold_boxes.specs.Places.{ArePlaces};
-ghost use Rattle.brake_base.specs.Turns.{map_of};
 ghost use Rattle.fold_boxes.specs.Pose.{IsGroup, lead_of, pose_data};
 ghost use Rattle.fold_boxes.specs.Posing.{IsNearPoseBox};
 ghost use Rattle.unfolder.specs.Blank.{face_numbers};
-ghost use Rattle.job_setup.specs.Setup.{shape_of, bend_count, stage_count};
+ghost use Rattle.job_setup.specs.Setup.{JobData, shape_of, bend_count, stage_count};
 ghost use Rattle.job_setup.specs.ValidJob.{IsJob};
 ghost use Rattle.job_setup.specs.Reasons.{pose_at};
 ghost use Rattle.box_support.specs.Deciding.{IsNumberOfBox};
 ghost use Rattle.stage_lanes.specs.Lanes.{AreLanes};
+ghost use Rattle.stroke_table.specs.declared.keys.StrokeKey.{StrokeKey};
 ghost use Rattle.stroke_table.specs.BoxReasons.{AreAround};
 ghost use Rattle.stroke_table.specs.Codes.{AreLeastCodes, HoldsAmong};
 ghost use Rattle.stroke_table.specs.Records.{AreKept, IsBoxKey, IsFoundOf, IsFoundBox, parent_of};
-ghost use Rattle.stroke_table.specs.Gathering.{IsGathered};
+ghost use Rattle.stroke_table.specs.Gathering.{IsBegun, IsGathered, IsPoseOf};
 
 use crate::box_reasons::box_codes;
 use crate::finding::pose_at;
@@ -28,106 +28,120 @@ use stage_lanes::{FREE, StageCodes};
 use sweep_check::Surroundings;
 
 /// What is gathered of boxes of a stroke: the codes of the first reasons of the kinds Frame, Upper,
-/// Nose and Lower that they give at each stage, the boxes at stage 0, and the places of the faces.
+/// Nose and Lower that they give at each stage, and the part on the machine at stage 0 with these boxes
+/// and with the places of the faces.
 #[derive(Drop)]
 pub struct StrokeBoxes {
     pub codes: StageCodes,
-    pub boxes: ArrayVec<PoseBox, 25>,
-    pub places: ArrayVec<Place, 13>,
+    pub pose: Pose,
 }
 
 impl StrokeBoxes {
-    /// No box.
-    fn none() -> StrokeBoxes
-        ensures codes { AreLanes result.codes.0 (λ stage. 65535) }
-        ensures boxes { result.boxes.items ≡ [] }
-        ensures places { result.places.items ≡ [] }
+    /// No box of a stroke.
+    pub fn none(job: &Job, stroke: &StrokeKey) -> StrokeBoxes
+        requires { IsGroup (shape_of job.now) stroke.now.mask stroke.now.of.group }
+        ensures { IsBegun job.now stroke.now result }
     {
+        job.recall_valid();
+        let (x0, x1) = job.stage_range(0);
         StrokeBoxes {
             codes: StageCodes::all(FREE),
-            boxes: ArrayVec::new(),
-            places: ArrayVec::new(),
+            pose: Pose {
+                bend: lead_of(job, stroke),
+                group: stroke.of.group,
+                boxes: ArrayVec::new(),
+                places: ArrayVec::new(),
+                x0,
+                x1,
+            },
         }
     }
 
     /// One box more.
     fn take(&mut self, found: &FoundBox)
-        requires { length self.old.boxes.items < 25 }
+        requires { length self.old.pose.boxes.items < 25 }
         ensures codes { AreLanes self.new.codes.0 (λ stage.
             min (slice_index self.old.codes.0 stage) (slice_index found.now.codes.0 stage)) }
-        ensures boxes { self.new.boxes.items ≡ self.old.boxes.items ++ found.now.body ∷ [] }
-        ensures places { self.new.places.items ≡ self.old.places.items }
+        ensures pose { (job : JobData) (stroke : StrokeKey)
+            → IsPoseOf job stroke self.old.pose → IsPoseOf job stroke self.new.pose }
+        ensures boxes { self.new.pose.boxes.items
+            ≡ self.old.pose.boxes.items ++ found.now.body ∷ [] }
+        ensures places { self.new.pose.places.items ≡ self.old.pose.places.items }
     {
         self.codes = self.codes.lesser(found.codes);
-        self.boxes.push(found.body);
+        self.pose.boxes.push(found.body);
     }
 
     /// One face's box more, and the face's place.
     fn take_face(&mut self, found: &FoundBox)
-        requires boxes { length self.old.boxes.items < 25 }
-        requires places { length self.old.places.items < 13 }
+        requires boxes { length self.old.pose.boxes.items < 25 }
+        requires places { length self.old.pose.places.items < 13 }
         ensures codes { AreLanes self.new.codes.0 (λ stage.
             min (slice_index self.old.codes.0 stage) (slice_index found.now.codes.0 stage)) }
-        ensures boxes { self.new.boxes.items ≡ self.old.boxes.items ++ found.now.body ∷ [] }
-        ensures places { self.new.places.items ≡ self.old.places.items ++ found.now.place ∷ [] }
+        ensures pose { (job : JobData) (stroke : StrokeKey)
+            → IsPoseOf job stroke self.old.pose → IsPoseOf job stroke self.new.pose }
+        ensures boxes { self.new.pose.boxes.items
+            ≡ self.old.pose.boxes.items ++ found.now.body ∷ [] }
+        ensures places { self.new.pose.places.items
+            ≡ self.old.pose.places.items ++ found.now.place ∷ [] }
     {
         self.codes = self.codes.lesser(found.codes);
-        self.boxes.push(found.body);
-        self.places.push(found.place);
+        self.pose.boxes.push(found.body);
+        self.pose.places.push(found.place);
     }
 }
 
-/// All boxes of a stroke.
+/// Gathers all boxes of a stroke.
 pub(crate) fn gather_boxes(
     job: &Job,
     kept: &mut StrokeRecords,
     places: &[Place],
     stroke: &StrokeKey,
-) -> StrokeBoxes
+    gathered: &mut StrokeBoxes,
+)
     requires kept { AreKept job.now kept.old }
     requires count { length places.now ≡ length job.now.part.faces }
     requires places { ArePlaces (shape_of job.now) stroke.now.mask places.now }
     requires mask { stroke.now.mask.0 < 2 ^ bend_count job.now }
     requires group { IsGroup (shape_of job.now) stroke.now.mask stroke.now.of.group }
+    requires begun { IsBegun job.now stroke.now gathered.old }
     ensures kept { AreKept job.now kept.new }
     ensures codes { AreLeastCodes (stage_count job.now)
-        (HoldsAmong job.now stroke.now.mask stroke.now.of 3 6) result.codes.0 }
-    ensures boxes { result.boxes.items ≡ (pose_at job.now stroke.now.mask stroke.now.of.group
-        stroke.now.of.back 0).boxes }
-    ensures near { All IsNearPoseBox result.boxes.items }
-    ensures places { map map_of result.places.items ≡ (pose_at job.now stroke.now.mask
-        stroke.now.of.group stroke.now.of.back 0).places }
+        (HoldsAmong job.now stroke.now.mask stroke.now.of 3 6) gathered.new.codes.0 }
+    ensures pose { pose_data gathered.new.pose ≡ pose_at job.now stroke.now.mask
+        stroke.now.of.group stroke.now.of.back 0 }
+    ensures near { All IsNearPoseBox gathered.new.pose.boxes.items }
 {
     let from = parent_of(job, stroke);
-    let mut gathered = gather_faces(job, kept, places, stroke, from);
-    gather_corners(job, kept, places, stroke, from, &mut gathered);
-    gathered
+    gather_faces(job, kept, places, stroke, from, gathered);
+    gather_corners(job, kept, places, stroke, from, gathered);
 }
 
-/// The boxes of the faces.
+/// Gathers the boxes of the faces.
 fn gather_faces(
     job: &Job,
     kept: &mut StrokeRecords,
     places: &[Place],
     stroke: &StrokeKey,
     from: u8,
-) -> StrokeBoxes
+    gathered: &mut StrokeBoxes,
+)
     requires kept { AreKept job.now kept.old }
     requires count { length places.now ≡ length job.now.part.faces }
     requires places { ArePlaces (shape_of job.now) stroke.now.mask places.now }
     requires mask { stroke.now.mask.0 < 2 ^ bend_count job.now }
     requires group { IsGroup (shape_of job.now) stroke.now.mask stroke.now.of.group }
     requires from { from ≡ parent_of job.now stroke.now.of.group }
+    requires begun { IsBegun job.now stroke.now gathered.old }
     ensures kept { AreKept job.now kept.new }
-    ensures gathered { IsGathered job.now stroke.now 13 (face_numbers job.now.part.faces) result }
-    ensures room { length result.boxes.items ≤ 13 }
+    ensures gathered { IsGathered job.now stroke.now 13 (face_numbers job.now.part.faces)
+        gathered.new }
+    ensures room { length gathered.new.pose.boxes.items ≤ 13 }
 {
-    let mut gathered = StrokeBoxes::none();
     for number in 0..job.bends() + 1 {
         let index = index_of_number(job, kept, places, stroke, from, number);
         gathered.take_face(&kept.box_at(index).found);
     }
-    gathered
 }
 
 /// Gathers the boxes of the corners of the folded bends behind those of the faces.
@@ -147,14 +161,13 @@ fn gather_corners(
     requires from { from ≡ parent_of job.now stroke.now.of.group }
     requires gathered { IsGathered job.now stroke.now 13 (face_numbers job.now.part.faces)
         gathered.old }
-    requires room { length gathered.old.boxes.items ≤ 13 }
+    requires room { length gathered.old.pose.boxes.items ≤ 13 }
     ensures kept { AreKept job.now kept.new }
     ensures codes { AreLeastCodes (stage_count job.now)
         (HoldsAmong job.now stroke.now.mask stroke.now.of 3 6) gathered.new.codes.0 }
-    ensures boxes { gathered.new.boxes.items ≡ (pose_at job.now stroke.now.mask
-        stroke.now.of.group stroke.now.of.back 0).boxes }
-    ensures near { All IsNearPoseBox gathered.new.boxes.items }
-    ensures places { gathered.new.places.items ≡ gathered.old.places.items }
+    ensures pose { pose_data gathered.new.pose ≡ pose_at job.now stroke.now.mask
+        stroke.now.of.group stroke.now.of.back 0 }
+    ensures near { All IsNearPoseBox gathered.new.pose.boxes.items }
 {
     for bend in 1..job.bends() + 1 {
         if stroke.mask.contains(bend) {
@@ -187,30 +200,6 @@ fn index_of_number(
 {
     let key = kept.box_key(job, stroke, from, number);
     index_of_box(job, kept, places, stroke.mask, &key)
-}
-
-/// The part on the machine at stage 0, from what is gathered of the boxes of a stroke.
-pub(crate) fn gathered_pose(job: &Job, stroke: &StrokeKey, gathered: StrokeBoxes) -> Pose
-    requires group { IsGroup (shape_of job.now) stroke.now.mask stroke.now.of.group }
-    requires boxes { gathered.boxes.items ≡ (pose_at job.now stroke.now.mask stroke.now.of.group
-        stroke.now.of.back 0).boxes }
-    requires places { map map_of gathered.places.items ≡ (pose_at job.now stroke.now.mask
-        stroke.now.of.group stroke.now.of.back 0).places }
-    ensures value { pose_data result ≡ pose_at job.now stroke.now.mask stroke.now.of.group
-        stroke.now.of.back 0 }
-    ensures boxes { result.boxes.items ≡ gathered.boxes.items }
-{
-    job.recall_valid();
-    let (x0, x1) = job.stage_range(0);
-    let StrokeBoxes { boxes, places, .. } = gathered;
-    Pose {
-        bend: lead_of(job, stroke),
-        group: stroke.of.group,
-        boxes,
-        places,
-        x0,
-        x1,
-    }
 }
 
 /// The face on which the bends of the group of a stroke stand.

@@ -21,12 +21,13 @@ loop-number-init c =
     let stroke = c.args.stroke.now in
     record {
       kept = c.requires.kept;
-      codes = none_hold (stage_count job) (λ stage. IsOfBoxBelow job stroke.mask stroke.of stage 0) c.none-gathered.result.codes.0 (omega (arith, c.requires.kept.around.few)) c.none-gathered.ensures.codes (λ stage reason within some. let low = some.1 in absurd (omega (arith, low)));
-      boxes = c.none-gathered.ensures.boxes;
-      count = ap length c.none-gathered.ensures.boxes;
-      near = subst (All IsNearPoseBox) (sym c.none-gathered.ensures.boxes) (All-nil IsNearPoseBox);
-      places = ap (map map_of) c.none-gathered.ensures.places;
-      placed = ap length c.none-gathered.ensures.places;
+      pose = c.requires.begun.pose;
+      codes = none_hold (stage_count job) (λ stage. IsOfBoxBelow job stroke.mask stroke.of stage 0) c.args.gathered.now.codes.0 (omega (arith, c.requires.kept.around.few)) c.requires.begun.codes (λ stage reason within some. let low = some.1 in absurd (omega (arith, low)));
+      boxes = c.requires.begun.boxes;
+      count = ap length c.requires.begun.boxes;
+      near = subst (All IsNearPoseBox) (sym c.requires.begun.boxes) (All-nil IsNearPoseBox);
+      places = ap (map map_of) c.requires.begun.places;
+      placed = ap length c.requires.begun.places;
     }
 
 pub index_of_number-index-requires-clause-number : goal.index_of_number-index-requires-clause-number
@@ -41,15 +42,16 @@ loop-number-preserved c =
     let found = c.box_at.result.now.found in
     let of_number = subst (λ (one : Option BoxRecord). IfSome one (λ record_. IsFoundOf job stroke.mask stroke.of n record_.found)) c.box_at.ensures c.index_of_number-index.ensures.found in
     let inside : n < length job.part.faces = omega (arith, c.loop-number-test.true, c.bends-number-end.ensures.value) in
-    let long = length-append before.boxes.items (found.body ∷ []) in
-    let far = length-append before.places.items (found.place ∷ []) in
+    let long = length-append before.pose.boxes.items (found.body ∷ []) in
+    let far = length-append before.pose.places.items (found.place ∷ []) in
     record {
       kept = c.index_of_number-index.ensures.kept;
+      pose = c.take_face.ensures.pose job stroke c.loop-number.invariant.pose;
       codes = box_more job stroke.mask stroke.of n before.codes.0 found.codes.0 c.take_face.new.self.codes.0 (omega (arith, c.requires.kept.around.few)) (inl inside) c.loop-number.invariant.codes of_number.codes c.take_face.ensures.codes;
       boxes = push_next (λ k. stroke_box job stroke.mask stroke.of k 0) 0 n n _ _ _ c.take_face.ensures.boxes c.loop-number.invariant.boxes of_number.body (omega arith);
       count = ap length c.take_face.ensures.boxes ∙ omega (arith, long, c.loop-number.invariant.count);
       near = all_pushed IsNearPoseBox _ _ _ c.take_face.ensures.boxes c.loop-number.invariant.near of_number.near;
-      places = push_next (stroke_place job stroke.mask stroke.of) 0 n n _ _ _ (ap (map map_of) c.take_face.ensures.places ∙ map-append map_of before.places.items (found.place ∷ [])) c.loop-number.invariant.places (of_number.place inside) (omega arith);
+      places = push_next (stroke_place job stroke.mask stroke.of) 0 n n _ _ _ (ap (map map_of) c.take_face.ensures.places ∙ map-append map_of before.pose.places.items (found.place ∷ [])) c.loop-number.invariant.places (of_number.place inside) (omega arith);
       placed = ap length c.take_face.ensures.places ∙ omega (arith, far, c.loop-number.invariant.placed);
     }
 
@@ -60,6 +62,7 @@ returns-clause-gathered c =
     let n = c.loop-number.number in
     let all : n ≡ length job.part.faces = omega (arith, c.loop-number-test.false, c.loop-number.auto.number-end, c.bends-number-end.ensures.value) in
     record {
+      pose = c.loop-number.invariant.pose;
       codes = faces_alone job stroke.mask stroke.of n c.loop-number.gathered.codes.0 all (omega (arith, all, c.bends-number-end.ensures.value, c.bends-number-end.ensures.few)) c.loop-number.invariant.codes;
       boxes = c.loop-number.invariant.boxes ∙ ap (λ (k : ℕ). map (λ number. stroke_box job stroke.mask stroke.of number 0) (range_with_len 0 k)) all;
       near = c.loop-number.invariant.near;
