@@ -10,10 +10,11 @@ ghost use Rattle.sweep_check.specs.Pieces.{IsSolidBox, AreSolidBoxes, back_piece
 use crate::frames::first_in_frame;
 use crate::hits::{Hit, first_hit};
 use crate::noses::first_nose_hit;
-use crate::pieces::box_pieces;
-use crate::self_hits::{first_back_hit, front_obstacles};
+use crate::pieces::begin_pieces;
+use crate::self_hits::{first_back_hit, put_front_obstacles};
 use crate::sides::side_in;
 use crate::surroundings::Surroundings;
+use arrayvec::ArrayVec;
 use brake_base::{Back, Half, Reason};
 use fold_boxes::{Pose, PoseBox};
 use job_setup::{Job, is_overloaded_at, is_uncovered_at, lacks_rest_at};
@@ -103,7 +104,8 @@ fn first_of_box(job: &Job, around: &Surroundings, body: &PoseBox) -> Option<Reas
     ensures { (back : Back)
         → IsFirstAmong job.now (pose_of_boxes (body.now ∷ [])) back around.now.stage 4 6 result }
 {
-    let found = box_pieces(job, Sweep::Eighth, body);
+    let mut found = ArrayVec::new();
+    begin_pieces(job, Sweep::Eighth, body, &mut found);
     let pieces = found.as_slice();
     if let Some(hit) = first_hit(pieces, around.upper.as_slice()) {
         return Some(Reason::Upper(hit.body, hit.quarter, hit.other));
@@ -155,7 +157,9 @@ fn first_self_hit(job: &Job, boxes: &[PoseBox]) -> Option<Hit>
         (front_obstacles job.now boxes.now) result }
 {
     job.recall_valid();
-    first_back_hit(job, boxes, front_obstacles(job, boxes).as_slice())
+    let mut obstacles = ArrayVec::new();
+    put_front_obstacles(job, boxes, &mut obstacles);
+    first_back_hit(job, boxes, obstacles.as_slice())
 }
 
 /// Load, where it holds. Of the pose only the group counts.

@@ -13,8 +13,9 @@ use crate::frames::is_in_frame;
 use crate::hits::{Hit, is_met};
 use crate::noses::{PunchNose, is_nose_met, noses};
 use crate::pieces::{Piece, all_pieces};
-use crate::self_hits::{back_pieces, front_obstacles};
+use crate::self_hits::{back_pieces, put_front_obstacles};
 use crate::sides::side_in;
+use arrayvec::ArrayVec;
 use brake_base::{Back, Reason};
 use fold_boxes::{Pose, PoseBox};
 use job_setup::{
@@ -143,11 +144,10 @@ fn is_self_hit(job: &Job, pose: &Pose, hit: Hit) -> bool
         (front_obstacles job.now pose.now.boxes.items) hit.body hit.quarter hit.other }
 {
     let boxes = pose.boxes.as_slice();
-    is_some_hit(
-        back_pieces(job, boxes).as_slice(),
-        front_obstacles(job, boxes).as_slice(),
-        hit,
-    )
+    let pieces = back_pieces(job, boxes);
+    let mut obstacles = ArrayVec::new();
+    put_front_obstacles(job, boxes, &mut obstacles);
+    is_some_hit(pieces.as_slice(), obstacles.as_slice(), hit)
 }
 
 /// Whether one of the pieces meets one of the obstacles as the hit says.

@@ -1,6 +1,6 @@
 //! The pieces of the part's boxes, with the sectors that they sweep. They don't depend on the
 //! obstacles.
-ghost use Rattle.std.specs.Prelude.{◌≡◌, ◌+◌, ◌^◌, ◌≤◌, ◌++◌, pos, ◌≤ℤ◌, unsigned_abs, length, option_to_list};
+ghost use Rattle.std.specs.Prelude.{◌≡◌, [], ◌+◌, ◌^◌, ◌≤◌, ◌++◌, pos, ◌≤ℤ◌, unsigned_abs, length, option_to_list};
 ghost use Rattle.sector_geom.specs.declared.sector.Sweep.TheVariants.{Eighth};
 ghost use Rattle.sector_geom.specs.Plane.{IsInRange};
 ghost use Rattle.sector_geom.specs.Pieces.{piece_of};
@@ -67,16 +67,15 @@ pub(crate) fn all_pieces(job: &Job, boxes: &[PoseBox]) -> ArrayVec<Piece, 100>
     pieces
 }
 
-/// The pieces of a box by quarters, swept like this.
-pub(crate) fn box_pieces(job: &Job, sweep: Sweep, body: &PoseBox) -> ArrayVec<Piece, 4>
+/// Puts the pieces of a box by quarters, swept like this, where there are none yet.
+pub(crate) fn begin_pieces(job: &Job, sweep: Sweep, body: &PoseBox, pieces: &mut ArrayVec<Piece, 4>)
     requires solid { IsSolidBox body.now }
-    ensures value { result.items ≡ box_pieces job.now sweep body.now }
+    requires none { pieces.old.items ≡ [] }
+    ensures value { pieces.new.items ≡ box_pieces job.now sweep body.now }
     ensures valid { IsJob job.now }
 {
     let _ = job.q();
-    let mut pieces = ArrayVec::new();
-    put_pieces(job, sweep, body, &mut pieces);
-    pieces
+    put_pieces(job, sweep, body, pieces);
 }
 
 /// Puts the pieces of a box.

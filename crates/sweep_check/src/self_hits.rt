@@ -7,7 +7,7 @@ ghost use Rattle.sweep_check.specs.Hits.{IsPieceMet, IsFirstHit, IsSolidObstacle
 ghost use Rattle.sweep_check.specs.Pieces.{IsSolidBox, AreSolidBoxes, box_pieces, if_back, if_front, back_pieces, front_obstacle, front_obstacles};
 
 use crate::hits::{Hit, first_hit};
-use crate::pieces::{Piece, across, box_pieces, put_pieces, widening};
+use crate::pieces::{Piece, across, begin_pieces, put_pieces, widening};
 use crate::ranges::is_overlap;
 use arrayvec::ArrayVec;
 use brake_base::Half;
@@ -84,7 +84,9 @@ fn first_box_hit(job: &Job, body: &PoseBox, obstacles: &[Obstacle]) -> Option<Hi
     if is_apart(body, obstacles) {
         return None;
     }
-    first_hit(box_pieces(job, Sweep::Fourth, body).as_slice(), obstacles)
+    let mut pieces = ArrayVec::new();
+    begin_pieces(job, Sweep::Fourth, body, &mut pieces);
+    first_hit(pieces.as_slice(), obstacles)
 }
 
 /// Whether no obstacle lies where the box does along the bed.
@@ -106,16 +108,19 @@ fn is_along(body: &PoseBox, obstacle: &Obstacle) -> bool
     is_overlap((body.body.lo.x, body.body.hi.x), (obstacle.x0, obstacle.x1))
 }
 
-/// The boxes of the front half as obstacles of the back half.
-pub(crate) fn front_obstacles(job: &Job, boxes: &[PoseBox]) -> ArrayVec<Obstacle, 25>
+/// Puts the boxes of the front half as obstacles of the back half, where there are none yet.
+pub(crate) fn put_front_obstacles(
+    job: &Job,
+    boxes: &[PoseBox],
+    obstacles: &mut ArrayVec<Obstacle, 25>,
+)
     requires boxes { AreSolidBoxes boxes.now }
-    ensures value { result.items ≡ front_obstacles job.now boxes.now }
+    requires none { obstacles.old.items ≡ [] }
+    ensures value { obstacles.new.items ≡ front_obstacles job.now boxes.now }
 {
-    let mut obstacles = ArrayVec::new();
     for body in boxes {
-        put_front_obstacle(job, body, &mut obstacles);
+        put_front_obstacle(job, body, obstacles);
     }
-    obstacles
 }
 
 /// Puts a box, where it is of the front half.

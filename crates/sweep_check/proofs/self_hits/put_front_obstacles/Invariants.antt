@@ -1,7 +1,7 @@
 use Rattle.std.proofs.Common.{◌≡◌, ◌≤◌, [], ◌∷◌, length, take}
 use Rattle.std.specs.Prelude.{flat_map}
 use Rattle.sweep_check.specs.Pieces.{if_front, front_obstacle}
-use Rattle.sweep_check.proofs.self_hits.front_obstacles.Given as goal
+use Rattle.sweep_check.proofs.self_hits.put_front_obstacles.Given as goal
 
 abbrev pub invariant-loop-body : goal.invariant-loop-body
 invariant-loop-body l = record {
