@@ -177,7 +177,14 @@ impl<'a> NoteLines<'a> {
         }
     }
 
-    /// Keeps a note of a job of so many bends and stages.
+    /// Whether no note is known at a number.
+    fn is_free(&self, number: u8) -> bool {
+        matches!(self.notes.get(usize::from(number)), Some(None))
+    }
+
+    /// Keeps a note of a job of so many bends and stages, where none is known of its action. A second
+    /// reason of an action isn't worth it: in a text that alternates between two, each row would
+    /// forget the notes of the row before.
     fn hold(&mut self, facts: &JobFacts, note: &KnownNote<'a>)
         requires few { HasFew facts.now }
         requires known { IsKnown facts.now.bends facts.now.stages note.now }
@@ -186,12 +193,14 @@ impl<'a> NoteLines<'a> {
     {
         if is_of(facts.bends, facts.stages, &self.facts) {
             let number = action_number(note.action, facts.stages);
-            self.notes[usize::from(number)] = Some(*note);
-            self.block = no_block();
+            if self.is_free(number) {
+                self.notes[usize::from(number)] = Some(*note);
+                self.block = no_block();
+            }
         }
     }
 
-    /// Keeps a note of a job.
+    /// Keeps a note of a job, where none is known of its action.
     pub fn keep(&mut self, facts: &JobFacts, note: &KnownNote<'a>)
         requires few { HasFew facts.now }
         requires known { IsKnown facts.now.bends facts.now.stages note.now }

@@ -28,8 +28,8 @@ invariant_of-self c =
       is_block = c.no_block-self-inside.ensures own _;
     }
 
-pub returns-then-is_of : goal.returns-then-is_of
-returns-then-is_of c =
+pub returns-then-is_free : goal.returns-then-is_free
+returns-then-is_free c =
     let stages = c.self.inside.facts.stages in
     let held = c.self.inside.notes in
     let note = c.args.note.now in
