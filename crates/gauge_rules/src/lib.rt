@@ -6,4 +6,4 @@ mod flat_faces;
 mod pairs;
 
 pub use fingers::{finger_box, left_finger, right_finger};
-pub use pairs::{first_legal, legal};
+pub use pairs::{are_legal, first_legal, legal};

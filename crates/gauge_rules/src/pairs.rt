@@ -3,7 +3,7 @@ ghost use Rattle.std.specs.Prelude.{◌≡◌, ◌↔◌, IsTrue, IsNone, All, l
 ghost use Rattle.fold_boxes.specs.Pose.{pose_data};
 ghost use Rattle.fold_boxes.specs.Posing.{IsNearPoseBox};
 ghost use Rattle.job_setup.specs.LegalGauge.{IsLeftOfPair, IsLegalPair, LacksGauge};
-ghost use Rattle.gauge_rules.specs.Pairs.{HasFlatFace, IsFirstLegal, IsFirstWith};
+ghost use Rattle.gauge_rules.specs.Pairs.{AreLegalBoxes, HasFlatFace, IsFirstLegal, IsFirstWith};
 
 use crate::fingers::is_pair;
 use crate::flat_faces::is_flat_face;
@@ -33,6 +33,17 @@ fn is_left_of_pair(job: &Job, pose: &Pose, gauge: Gauge, left: &PoseBox) -> bool
         && pose.boxes.iter().any(|right| {
             is_flat_face(job, pose, gauge.right_face, right) && is_pair(job, pose, left, right)
         })
+}
+
+/// The same of the faces whose boxes these are.
+pub fn are_legal(job: &Job, pose: &Pose, left: &PoseBox, right: &PoseBox) -> bool
+    requires left { IsNearPoseBox left.now }
+    requires right { IsNearPoseBox right.now }
+    ensures { IsTrue result ↔ AreLegalBoxes job.now (pose_data pose.now) left.now right.now }
+{
+    is_flat_face(job, pose, left.id, left)
+        && is_flat_face(job, pose, right.id, right)
+        && is_pair(job, pose, left, right)
 }
 
 /// The first legal pair in the order of its left face, then of its right one. None exactly where no
