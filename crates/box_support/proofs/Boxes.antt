@@ -11,14 +11,14 @@ use Rattle.unfolder.specs.Cores.{joint_of}
 use Rattle.unfolder.specs.Blank.{face_numbers, bend_numbers}
 use Rattle.fold_boxes.specs.declared.posed_part.PoseBox.{PoseBox}
 use Rattle.fold_boxes.specs.Shapes.{ShapeData, IsShape}
-use Rattle.fold_boxes.specs.Pose.{lead_of, face_of_box, pose_box, posed_place, box_ids, pose_of}
+use Rattle.fold_boxes.specs.Pose.{lead_of, face_of_box, pose_box, posed_place, box_ids, pose_of, IsNumberOfBox}
 use Rattle.fold_boxes.proofs.Leads.{lead_is}
 use Rattle.fold_boxes.proofs.PartBounds.{parent_inside}
 use Rattle.fold_boxes.proofs.Picked.{all_numbers, all_picked}
 use Rattle.fold_boxes.proofs.PoseLists.{is_face, is_corner}
 use Rattle.fold_boxes.proofs.Locality.{place_alike, face_alike, corner_alike}
 use Rattle.job_setup.proofs.ReasonLocality.{HasBox}
-use Rattle.box_support.specs.Deciding.{is_on_path, is_deciding, AgreeOnBox, IsNumberOfBox}
+use Rattle.box_support.specs.Deciding.{is_on_path, is_deciding, AgreeOnBox}
 use Rattle.box_support.proofs.Paths.{path_walk}
 use Rattle.box_support.proofs.Elements.{any_after, any_before, any_mapped, any_unmapped, any_number, any_picked}
 

@@ -1,10 +1,8 @@
 -- The bends that decide where a box lies as seen from a face.
-use Rattle.std.specs.Prelude.{◌≡◌, ◌⊎◌, ℕ, ◌+◌, ◌<◌, ◌==◌, nat_lt, Bool, not, ◌&&◌, ◌||◌, IsTrue}
-use Rattle.std.specs.Prelude.{List, length}
+use Rattle.std.specs.Prelude.{◌≡◌, ℕ, ◌==◌, nat_lt, Bool, not, ◌&&◌, ◌||◌, IsTrue, List}
 use Rattle.brake_base.specs.declared.mask.Mask.{Mask}
 use Rattle.brake_base.specs.Masks.{has}
 use Rattle.part_file.specs.Part.{FaceData}
-use Rattle.fold_boxes.specs.Shapes.{ShapeData}
 use Rattle.fold_boxes.specs.Pose.{is_beyond_some, face_of_box}
 
 -- the bend is on the path between two faces: the one lies beyond it and the other doesn't
@@ -23,10 +21,3 @@ is_deciding faces from box bend =
 abbrev pub AgreeOnBox : List FaceData → ℕ → ℕ → Mask → Mask → Type 0
 AgreeOnBox faces from box s t =
     (bend : ℕ) → IsTrue (is_deciding faces from box bend) → has s bend ≡ has t bend
-
--- the number of a box of the part where the bends of the mask are folded: a face's, or that of a
--- folded bend's corner
-abbrev pub IsNumberOfBox : ShapeData → Mask → ℕ → Type 0
-IsNumberOfBox shape mask box =
-    (box < length shape.part.faces)
-    ⊎ ((c : ℕ) × (0 < c) × (c < length shape.part.faces) × IsTrue (has mask c) × (box ≡ 12 + c))

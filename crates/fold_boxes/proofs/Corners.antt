@@ -8,10 +8,9 @@ use Rattle.brake_base.specs.declared.space.Box3.{Box3}
 use Rattle.brake_base.specs.declared.space.Place.{Place}
 use Rattle.brake_base.specs.declared.mask.Mask.{Mask}
 use Rattle.brake_base.specs.Vectors.{vector, plus, times}
-use Rattle.brake_base.specs.Turns.{Map, turn_of, mapped, after, map_of}
+use Rattle.brake_base.specs.Turns.{Map, turn_of, mapped, after}
 use Rattle.brake_base.specs.Boxes.{IsIn, IsBox, box_of, image}
 use Rattle.brake_base.specs.Masks.{has}
-use Rattle.brake_base.proofs.Vectors.{same_point}
 use Rattle.brake_base.proofs.Maps.{mapped-after}
 use Rattle.brake_base.proofs.Images.{image_points}
 use Rattle.part_file.specs.declared.part.Side.{Side}
@@ -20,19 +19,19 @@ use Rattle.part_file.specs.declared.part.Dir.{Dir}
 use Rattle.part_file.specs.declared.part.Dir.TheVariants.{Up, Down}
 use Rattle.part_file.specs.Part.{FaceData, face_at, half_thickness, start, along, outward, is_bent}
 use Rattle.unfolder.specs.declared.blank.UnfoldFault.{UnfoldFault}
-use Rattle.unfolder.specs.Cores.{joint_of, z_axis, side_point, if_bent, core, line_start, line_end, is_off_face}
+use Rattle.unfolder.specs.Cores.{joint_of, z_axis, side_point, if_bent, core, line_start, is_off_face}
 use Rattle.unfolder.specs.Blank.{BlankData, blank_of_part, flat_step}
-use Rattle.unfolder.specs.Design.{fold_sign, design_step, thick}
+use Rattle.unfolder.specs.Design.{fold_sign, design_step}
 use Rattle.unfolder.proofs.HingeLaws.{in_frame}
 use Rattle.unfolder.proofs.FlatMaps.{side_level}
 use Rattle.unfolder.proofs.FoldLaws.{design_point, core_is_wide, core_is_long}
-use Rattle.unfolder.proofs.PlaceLaws.{AreCores, place-bend}
+use Rattle.unfolder.proofs.PlaceLaws.{place-bend}
 use Rattle.unfolder.proofs.Unfolded.{lines_of_blank}
 use Rattle.unfolder.proofs.ChainLemmas.{joint_of_part}
-use Rattle.unfolder.proofs.Abutting.{IsHeld, start_held, bent_edge, bent_at_own}
+use Rattle.unfolder.proofs.Abutting.{start_held, bent_edge, bent_at_own}
 use Rattle.fold_boxes.specs.Shapes.{ShapeData, IsShape, mould_distance}
-use Rattle.fold_boxes.specs.Folded.{place_of, core_box, corner_column, face_box, corner_box}
-use Rattle.fold_boxes.specs.Corners.{Touch, CornersTouch}
+use Rattle.fold_boxes.specs.Folded.{place_of, core_box, corner_column, face_box}
+use Rattle.fold_boxes.specs.Corners.{CornersTouch}
 use Rattle.fold_boxes.specs.Places.{IsPlaceOf, ArePlaces}
 use Rattle.fold_boxes.proofs.Columns.{half_bounds}
 use Rattle.fold_boxes.proofs.Folding.{cores_of_shape}

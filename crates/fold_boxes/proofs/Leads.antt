@@ -4,7 +4,7 @@ use Rattle.std.proofs.Math.Nat.{eq-or-lt_of_le}
 use Rattle.std.specs.Prelude.{find, unwrap_or}
 use Rattle.std.specs.List.{range_with_len}
 use Rattle.brake_base.specs.declared.mask.Mask.{Mask}
-use Rattle.brake_base.specs.Masks.{has, IsLeast, IsSubset, IsEmpty}
+use Rattle.brake_base.specs.Masks.{has, IsLeast, IsSubset}
 use Rattle.unfolder.specs.Blank.{bend_numbers}
 use Rattle.unfolder.proofs.Finding.{NoneBelow, find_first}
 use Rattle.fold_boxes.specs.Shapes.{ShapeData}

@@ -1,25 +1,24 @@
 -- How far from 0 the cores, the corners and the places of a part lie.
-use Rattle.std.proofs.Common.{◌≡◌, ℕ, zero, suc, ◌+◌, ◌*◌, ◌<◌, ◌≤◌, ℤ, pos, neg_ℤ, ◌+ℤ◌, ◌-ℤ◌, ◌*ℤ◌, ◌≤ℤ◌, Bool, true, false, cond, length, sym, ap, subst, arith}
+use Rattle.std.proofs.Common.{ℕ, zero, suc, ◌+◌, ◌*◌, ◌<◌, ◌≤◌, ℤ, pos, neg_ℤ, ◌+ℤ◌, ◌-ℤ◌, ◌*ℤ◌, ◌≤ℤ◌, Bool, true, false, cond, length, sym, ap, subst, arith}
 use Rattle.std.proofs.lemmas.Int.{ints}
 use Rattle.std.specs.Prelude.{unwrap_or}
 use Rattle.brake_base.specs.declared.space.V3.{V3}
 use Rattle.brake_base.specs.declared.space.Box3.{Box3}
 use Rattle.brake_base.specs.declared.mask.Mask.{Mask}
-use Rattle.brake_base.specs.Vectors.{vector, plus, times, IsWithin}
-use Rattle.brake_base.specs.Turns.{Map, IsTurn, apply, mapped, after}
+use Rattle.brake_base.specs.Vectors.{plus, times, IsWithin}
+use Rattle.brake_base.specs.Turns.{Map, IsTurn, apply, mapped}
 use Rattle.brake_base.specs.Boxes.{image, IsBoxWithin}
 use Rattle.brake_base.specs.Masks.{has}
 use Rattle.brake_base.proofs.Vectors.{least_within, greatest_within, within_more, box_within_more}
 use Rattle.brake_base.proofs.Maps.{after-shift}
 use Rattle.brake_base.proofs.Images.{axis}
-use Rattle.part_file.specs.declared.part.Joint.{Joint}
 use Rattle.part_file.specs.declared.part.Side.{Side}
 use Rattle.part_file.specs.declared.part.Side.TheVariants.{N, E, S, W}
 use Rattle.part_file.specs.declared.part.Dir.{Dir}
 use Rattle.part_file.specs.declared.part.Dir.TheVariants.{Up, Down}
 use Rattle.part_file.specs.Part.{PartData, FaceData, HasSizes, IsJointOf, IsPart, face_at, is_bent, half_thickness, outward}
 use Rattle.unfolder.specs.Near.{IsWithin as IsNear}
-use Rattle.unfolder.specs.Cores.{joint_of, no_joint, z_axis, side_point, if_bent, line_start, line_end}
+use Rattle.unfolder.specs.Cores.{joint_of, no_joint, z_axis, side_point, if_bent}
 use Rattle.unfolder.specs.Blank.{flat_step}
 use Rattle.unfolder.specs.Design.{fold_sign, design_step}
 use Rattle.unfolder.proofs.ChainLemmas.{joint_of_part}

@@ -1,5 +1,5 @@
 -- Each box of a pose has an interior, and lies near.
-use Rattle.std.proofs.Common.{◌≡◌, ℕ, zero, suc, ◌+◌, ◌*◌, ◌-◌, ◌<◌, ◌≤◌, ℤ, pos, ◌+ℤ◌, ◌-ℤ◌, ◌*ℤ◌, ◌≤ℤ◌, Bool, true, false, cond, List, [], ◌∷◌, map, filter, unsigned_abs, IsTrue, length, sym, subst, arith}
+use Rattle.std.proofs.Common.{ℕ, zero, suc, ◌+◌, ◌*◌, ◌-◌, ◌<◌, ◌≤◌, ℤ, pos, ◌+ℤ◌, ◌-ℤ◌, ◌*ℤ◌, ◌≤ℤ◌, Bool, true, false, cond, List, [], ◌∷◌, map, filter, unsigned_abs, IsTrue, length, sym, subst, arith}
 use Rattle.std.specs.Prelude.{All, fold}
 use Rattle.std.specs.Int.{int_min, int_max}
 use Rattle.std.specs.List.{range_with_len}
@@ -27,7 +27,6 @@ use Rattle.unfolder.specs.Blank.{face_numbers, bend_numbers}
 use Rattle.unfolder.specs.Design.{fold_sign}
 use Rattle.unfolder.specs.Extent.{least, greatest}
 use Rattle.unfolder.specs.Fold.{dot, minus}
-use Rattle.fold_boxes.specs.declared.posed_part.PoseBox.{PoseBox}
 use Rattle.fold_boxes.specs.Shapes.{ShapeData, IsShape}
 use Rattle.fold_boxes.specs.Folded.{face_box, corner_box}
 use Rattle.fold_boxes.specs.Groups.{line_from, line_to, span}

@@ -1,7 +1,7 @@
 -- The part on the machine before a stroke. The machine's axes are x along the bed, y to the back
 -- and z up. Lengths are in micrometres.
-use Rattle.std.specs.Prelude.{◌≡◌, ℕ, zero, suc, ◌+◌, ◌-◌, ℤ, pos, negsuc, ◌+ℤ◌, ◌-ℤ◌, ◌*ℤ◌, neg_ℤ}
-use Rattle.std.specs.Prelude.{int_le, nat_le, Bool, false, ◌&&◌, ◌||◌, IsTrue, List, ◌++◌, map}
+use Rattle.std.specs.Prelude.{◌≡◌, ◌⊎◌, ℕ, zero, suc, ◌+◌, ◌-◌, ◌<◌, ℤ, pos, negsuc, ◌+ℤ◌, ◌-ℤ◌, ◌*ℤ◌, neg_ℤ}
+use Rattle.std.specs.Prelude.{int_le, nat_le, Bool, false, ◌&&◌, ◌||◌, IsTrue, List, ◌++◌, map, length}
 use Rattle.std.specs.Prelude.{filter, find, unwrap_or, if◌then◌else◌}
 use Rattle.std.specs.Int.{int_min, int_div_euclid}
 use Rattle.std.specs.List.{range_with_len}
@@ -23,6 +23,7 @@ use Rattle.unfolder.specs.Cores.{joint_of, z_axis, side_point, line_start, line_
 use Rattle.unfolder.specs.Blank.{face_numbers, bend_numbers}
 use Rattle.unfolder.specs.Design.{fold_sign}
 use Rattle.unfolder.specs.Fold.{dot, minus}
+use Rattle.fold_boxes.specs.declared.part_boxes.PartBox.{PartBox}
 use Rattle.fold_boxes.specs.declared.posed_part.PoseBox.{PoseBox}
 use Rattle.fold_boxes.specs.declared.posed_part.Pose.{Pose}
 use Rattle.fold_boxes.specs.Shapes.{ShapeData}
@@ -215,6 +216,10 @@ abbrev pub part_body : ShapeData → Mask → ℕ → Box3
 part_body shape mask id =
     if nat_le id 12 then (face_box shape mask id).body else (corner_box shape mask (id - 12)).body
 
+-- the same with its number
+abbrev pub part_box : ShapeData → Mask → ℕ → PartBox
+part_box shape mask id = record { id = id; body = part_body shape mask id }
+
 -- the box of this number in a pose
 abbrev pub body_of : ShapeData → Mask → Mask → Back → ℤ → ℤ → ℕ → Box3
 body_of shape mask group back x0 x1 id =
@@ -226,6 +231,13 @@ pose_box shape mask group back x0 x1 id = record {
   half = half_of shape group back id;
   body = body_of shape mask group back x0 x1 id;
 }
+
+-- the number of a box of the part where the bends of the mask are folded: a face's, or that of a
+-- folded bend's corner
+abbrev pub IsNumberOfBox : ShapeData → Mask → ℕ → Type 0
+IsNumberOfBox shape mask box =
+    (box < length shape.part.faces)
+    ⊎ ((c : ℕ) × (0 < c) × (c < length shape.part.faces) × IsTrue (has mask c) × (box ≡ 12 + c))
 
 -- the numbers of the boxes: those of the faces, and 12 + b for each folded bend b
 abbrev pub box_ids : ShapeData → Mask → List ℕ

@@ -54,7 +54,7 @@ pub(crate) fn half_of(beyond: Mask, back: Back, id: u8) -> Half
 }
 
 /// The face whose half a box shares: its own, or for a corner the child of its bend.
-fn face_of_box(id: u8) -> u8
+pub(crate) fn face_of_box(id: u8) -> u8
     requires { id ≤ 24 }
     ensures value { result ≡ face_of_box id }
     ensures few { result ≤ 12 }

@@ -16,6 +16,6 @@ pub use halves::faces_beyond;
 pub use part_boxes::{PartBox, boxes};
 pub use places::{child_place, place};
 pub use pose_map::{attitude, attitude_from, start_of_span};
-pub use posed_part::{Pose, PoseBox};
-pub use posing::{pose, pose_from};
+pub use posed_part::{Pose, PoseBox, PosedStroke};
+pub use posing::{pose, pose_box, pose_from};
 pub use shape::{Shape, core, line_length};

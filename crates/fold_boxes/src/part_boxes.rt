@@ -5,6 +5,7 @@ ghost use Rattle.unfolder.specs.Blank.{face_numbers, bend_numbers};
 ghost use Rattle.fold_boxes.specs.Folded.{boxes_of, face_box, corner_box, IsNearBox, IsBoxId};
 ghost use Rattle.fold_boxes.specs.Corners.{CornersTouch};
 ghost use Rattle.fold_boxes.specs.Places.{ArePlaces};
+ghost use Rattle.fold_boxes.specs.Pose.{IsNumberOfBox, part_box};
 
 use crate::places::place_faces;
 use crate::shape::Shape;
@@ -82,6 +83,22 @@ fn put_corner_boxes(shape: &Shape, mask: Mask, places: &[Place], boxes: &mut Arr
         if mask.contains(bend) {
             boxes.push(corner_box(shape, mask, places, bend));
         }
+    }
+}
+
+/// The box of this number, from the places of the faces.
+pub(crate) fn box_at(shape: &Shape, mask: Mask, places: &[Place], number: u8) -> PartBox
+    requires count { length places.now ≡ length shape.now.part.faces }
+    requires places { ArePlaces shape.now mask places.now }
+    requires number { IsNumberOfBox shape.now mask number }
+    ensures value { result ≡ part_box shape.now mask number }
+    ensures near { IsNearBox result }
+    ensures id { IsBoxId result }
+{
+    if number < shape.faces() {
+        face_box(shape, mask, places, number)
+    } else {
+        corner_box(shape, mask, places, number - 12)
     }
 }
 

@@ -1,7 +1,7 @@
 //! The part on the machine before a stroke.
 
 use arrayvec::ArrayVec;
-use brake_base::{Box3, Half, Mask, Place};
+use brake_base::{Back, Box3, Half, Mask, Place};
 
 /// A box of the part on the machine, and the half of the part to which it belongs.
 #[derive(Clone, Copy, Debug, Default, PartialEq, Eq)]
@@ -9,6 +9,17 @@ pub struct PoseBox {
     pub id: u8,
     pub half: Half,
     pub body: Box3,
+}
+
+/// Where the part lies before a stroke: which bends are folded, which ones are bent, which side is
+/// at the back, and the range of the bed in whose middle their span lies, in micrometres.
+#[derive(Clone, Copy)]
+pub struct PosedStroke {
+    pub mask: Mask,
+    pub group: Mask,
+    pub back: Back,
+    pub x0: i64,
+    pub x1: i64,
 }
 
 /// The part on the machine before a stroke over a range of the bed: the boxes and places of the

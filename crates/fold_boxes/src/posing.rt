@@ -4,16 +4,17 @@ ghost use Rattle.brake_base.specs.Masks.{has};
 ghost use Rattle.brake_base.specs.Vectors.{IsWithin};
 ghost use Rattle.brake_base.specs.Turns.{Map, map_of, after};
 ghost use Rattle.unfolder.specs.Near.{IsWithin as IsNear};
+ghost use Rattle.fold_boxes.specs.Shapes.{IsShape};
 ghost use Rattle.fold_boxes.specs.Places.{ArePlaces};
 ghost use Rattle.fold_boxes.specs.Folded.{IsNearBox, IsBoxId};
-ghost use Rattle.fold_boxes.specs.Pose.{IsGroup, IsPoseMap, lead_of, pose_map, pose_of, pose_data};
+ghost use Rattle.fold_boxes.specs.Pose.{IsGroup, IsNumberOfBox, IsPoseMap, face_of_box, lead_of, pose_box, pose_map, pose_of, pose_data, posed_place};
 ghost use Rattle.fold_boxes.specs.Posing.{moved_box, IsNearShift, IsNearPoseBox};
 
-use crate::halves::{faces_beyond, half_of};
-use crate::part_boxes::{PartBox, boxes_at};
+use crate::halves::{face_of_box, faces_beyond, half_of};
+use crate::part_boxes::{PartBox, box_at, boxes_at};
 use crate::places::{onto, place_faces};
 use crate::pose_map::pose_map;
-use crate::posed_part::{Pose, PoseBox};
+use crate::posed_part::{Pose, PoseBox, PosedStroke};
 use crate::shape::Shape;
 use arrayvec::ArrayVec;
 use brake_base::{Back, Mask, Place};
@@ -70,12 +71,17 @@ pub fn pose_from(
         → m ≡ pose_map shape.now mask group back x0 x1 }
     ensures near { All IsNearPoseBox result.boxes.items }
 {
-    let lead = lead_of(shape, group);
-    let parent = &places[usize::from(shape.hinge(lead).parent)];
-    let to_machine = pose_map(shape, parent, group, back, lead, x0, x1);
+    let stroke = PosedStroke {
+        mask,
+        group,
+        back,
+        x0,
+        x1,
+    };
+    let to_machine = machine_map(shape, places, &stroke);
     let boxes = boxes_at(shape, mask, places);
     Pose {
-        bend: lead,
+        bend: lead_of(shape, group),
         group,
         boxes: moved_boxes(
             &to_machine,
@@ -87,6 +93,62 @@ pub fn pose_from(
         x0,
         x1,
     }
+}
+
+/// The box of this number in a pose, and where the pose has the face whose half the box shares, from
+/// the places of the faces where the bends of the mask are folded.
+pub fn pose_box(
+    shape: &Shape,
+    places: &[Place],
+    stroke: &PosedStroke,
+    number: u8,
+) -> (PoseBox, Place)
+    requires count { length places.now ≡ length shape.now.part.faces }
+    requires places { ArePlaces shape.now stroke.now.mask places.now }
+    requires group { IsGroup shape.now stroke.now.mask stroke.now.group }
+    requires range { stroke.now.x0 <ℤ stroke.now.x1 }
+    requires from { IsNear 1000000000 stroke.now.x0 }
+    requires to { IsNear 1000000000 stroke.now.x1 }
+    requires number { IsNumberOfBox shape.now stroke.now.mask number }
+    ensures value { result.0 ≡ pose_box shape.now stroke.now.mask stroke.now.group stroke.now.back
+        stroke.now.x0 stroke.now.x1 number }
+    ensures place { map_of result.1 ≡ posed_place shape.now stroke.now.mask stroke.now.group
+        stroke.now.back stroke.now.x0 stroke.now.x1 (face_of_box number) }
+    ensures near { IsNearPoseBox result.0 }
+{
+    let to_machine = machine_map(shape, places, stroke);
+    let beyond = faces_beyond(shape, stroke.group);
+    let part_box = box_at(shape, stroke.mask, places, number);
+    (
+        moved_box(&to_machine, beyond, stroke.back, &part_box),
+        onto(&to_machine, &places[usize::from(face_of_box(number))]),
+    )
+}
+
+/// The map of a pose, from the places of the faces.
+fn machine_map(shape: &Shape, places: &[Place], stroke: &PosedStroke) -> Place
+    requires count { length places.now ≡ length shape.now.part.faces }
+    requires places { ArePlaces shape.now stroke.now.mask places.now }
+    requires group { IsGroup shape.now stroke.now.mask stroke.now.group }
+    requires from { IsNear 1000000000 stroke.now.x0 }
+    requires to { IsNear 1000000000 stroke.now.x1 }
+    ensures value { map_of result ≡ pose_map shape.now stroke.now.mask stroke.now.group
+        stroke.now.back stroke.now.x0 stroke.now.x1 }
+    ensures turn { result.turn < 24 }
+    ensures near { IsNearShift result.at }
+    ensures rules { IsShape shape.now }
+{
+    let lead = lead_of(shape, stroke.group);
+    let parent = &places[usize::from(shape.hinge(lead).parent)];
+    pose_map(
+        shape,
+        parent,
+        stroke.group,
+        stroke.back,
+        lead,
+        stroke.x0,
+        stroke.x1,
+    )
 }
 
 /// The least bend of a group.

@@ -8,7 +8,7 @@ use Rattle.brake_base.specs.declared.stroke.Back.{Back}
 use Rattle.brake_base.specs.declared.reason.Reason.{Reason}
 use Rattle.brake_base.specs.declared.reason.Reason.TheVariants.{Cover, Rest, Frame, Upper, Nose, Lower, SelfHit, NoGauge, Load}
 use Rattle.fold_boxes.specs.declared.posed_part.PoseBox.{PoseBox}
-use Rattle.fold_boxes.specs.Pose.{face_of_box, pose_box, box_ids}
+use Rattle.fold_boxes.specs.Pose.{face_of_box, pose_box, box_ids, IsNumberOfBox}
 use Rattle.job_setup.specs.Setup.{JobData, shape_of, bend_count}
 use Rattle.job_setup.specs.StageOf.{stage_of}
 use Rattle.job_setup.specs.ValidJob.{IsJob}
@@ -16,7 +16,6 @@ use Rattle.job_setup.specs.Reasons.{SomeBox, IsReason, pose_at}
 use Rattle.handling_cost.specs.Plan.{IsReasonFor}
 use Rattle.nogood_book.specs.Support.{NamesBoxes}
 use Rattle.box_support.proofs.Elements.{any_unmapped}
-use Rattle.box_support.specs.Deciding.{IsNumberOfBox}
 use Rattle.box_support.proofs.Boxes.{ids_are, face_number, corner_number}
 
 -- the number of a box of the part is a face's or a corner's

@@ -12,7 +12,7 @@ use Rattle.brake_base.specs.Turns.{map_of}
 use Rattle.unfolder.specs.Blank.{face_numbers, bend_numbers}
 use Rattle.fold_boxes.specs.declared.posed_part.PoseBox.{PoseBox}
 use Rattle.fold_boxes.specs.declared.posed_part.Pose.{Pose}
-use Rattle.fold_boxes.specs.Pose.{box_ids, pose_data}
+use Rattle.fold_boxes.specs.Pose.{box_ids, pose_data, IsNumberOfBox}
 use Rattle.job_setup.specs.Setup.{JobData, shape_of, bend_count, stage_count}
 use Rattle.job_setup.specs.StageOf.{stage_of}
 use Rattle.job_setup.specs.ValidJob.{IsJob}
@@ -20,7 +20,7 @@ use Rattle.job_setup.specs.Obstacles.{upper_group, lower_group}
 use Rattle.job_setup.specs.Reasons.{MeetsAlong, IsHit, IsNoseHit, SomeObstacle, IsReasonOf, pose_at}
 use Rattle.job_setup.proofs.Validity.{shape_of_job}
 use Rattle.sweep_check.specs.FirstReasons.{kind_place, pose_of_boxes}
-use Rattle.box_support.specs.Deciding.{is_deciding, AgreeOnBox, IsNumberOfBox}
+use Rattle.box_support.specs.Deciding.{is_deciding, AgreeOnBox}
 use Rattle.box_support.proofs.Elements.{any_here, any_mapped, any_unmapped}
 use Rattle.box_support.proofs.Boxes.{ids_are, id_found, box_alike, face_place_alike}
 use Rattle.box_support.proofs.Sets.{none_at_zero, none_past}

@@ -3,13 +3,12 @@ use Rattle.std.proofs.Common.{◌≡◌, inl, inr, ℕ, zero, suc, ◌+◌, ◌*
 use Rattle.std.proofs.lemmas.Bool.{cases_lt, eq-eqb, ne_eqb}
 use Rattle.brake_base.specs.declared.mask.Mask.{Mask}
 use Rattle.brake_base.specs.Masks.{has}
-use Rattle.fold_boxes.specs.Pose.{lead_of, face_of_box}
+use Rattle.fold_boxes.specs.Pose.{lead_of, face_of_box, IsNumberOfBox}
 use Rattle.fold_boxes.proofs.Leads.{lead_is}
 use Rattle.fold_boxes.proofs.PartBounds.{parent_inside}
 use Rattle.job_setup.specs.Setup.{JobData, shape_of}
 use Rattle.job_setup.specs.ValidJob.{IsJob}
 use Rattle.job_setup.proofs.Validity.{shape_of_job}
-use Rattle.box_support.specs.Deciding.{IsNumberOfBox}
 use Rattle.box_support.proofs.Boxes.{face_number, corner_number}
 use Rattle.stroke_table.specs.Records.{parent_of, AreDeciding}
 

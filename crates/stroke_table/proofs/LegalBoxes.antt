@@ -2,11 +2,12 @@
 use Rattle.std.proofs.Common.{◌≡◌, ◌⊎◌, ◌∙◌, inl, inr, ℕ, ◌<◌, ◌≤◌, List, length, get_or, Option, Some, None, refl, sym, ap, subst, arith}
 use Rattle.std.proofs.lemmas.Bool.{cases_lt}
 use Rattle.std.proofs.lemmas.List.{get_or_default}
-use Rattle.std.specs.Prelude.{All, Any, AllPairs}
+use Rattle.std.specs.Prelude.{All, Any, AllPairs, ◌↔◌}
 use Rattle.brake_base.specs.declared.stroke.Gauge.{Gauge}
 use Rattle.fold_boxes.specs.declared.posed_part.PoseBox.{PoseBox}
 use Rattle.fold_boxes.specs.Pose.{PoseData}
-use Rattle.gauge_rules.specs.Pairs.{IsFirstLegal, IsFirstWith}
+use Rattle.fold_boxes.specs.Posing.{IsNearPoseBox}
+use Rattle.gauge_rules.specs.Pairs.{AreLegalBoxes, IsFirstLegal, IsFirstWith}
 use Rattle.job_setup.specs.Setup.{JobData}
 use Rattle.job_setup.specs.LegalGauge.{IsFlatFace, IsLeftOfPair, IsRightOf, IsLegalPair}
 use Rattle.sweep_check.specs.Hits.{IsLeastNumber}
@@ -44,6 +45,9 @@ pub one_box : (boxes : List PoseBox) → Ascend boxes → (x y : PoseBox) → Is
 one_box boxes ascend x y first second same =
     sym first.4 ∙ same_at boxes ascend first.0 second.0 first.1 second.1 first.2 second.2 first.3 second.3 (ap (λ (b : PoseBox). b.id) first.4 ∙ same ∙ sym (ap (λ (b : PoseBox). b.id) second.4)) ∙ second.4
 
+pub near_among : (boxes : List PoseBox) → All IsNearPoseBox boxes → (box : PoseBox) → IsAmong boxes box → IsNearPoseBox box
+near_among boxes near box among = subst IsNearPoseBox (among.3 ∙ among.4) (near among.0 among.1 among.2)
+
 -- some pair with this left box is legal
 abbrev pub HasPair : JobData → PoseData → PoseBox → Type 0
 HasPair job pose left = (gauge : Gauge) × (gauge.left_face ≡ left.id) × IsLegalPair job pose gauge
@@ -76,6 +80,28 @@ module _ (job : JobData) (pose : PoseData) (boxes : List PoseBox) (same : boxes 
         top = subst IsAtTop is_right (at_top right.id other.1 other.4.0);
         edge = sym (ap (λ (b : PoseBox). b.body.hi.y) is_right) ∙ other.4.1.reach.edge.edge ∙ ap (λ (b : PoseBox). b.body.hi.y) is_left;
       }
+
+  -- the boxes themselves make the pair
+  pub legal_boxes : Ascend boxes → (left right : PoseBox) → IsAmong boxes left → IsAmong boxes right → AreLegalBoxes job pose left right ↔ MakesPair job pose left right
+  legal_boxes ascend left right among_left among_right = (makes, made)
+    where
+      gauge : Gauge
+      gauge = record { left_face = left.id; right_face = right.id }
+
+      makes : AreLegalBoxes job pose left right → MakesPair job pose left right
+      makes legal =
+          let a = among_left in
+          let b = among_right in
+          let of_right = subst (Any (IsRightOf job pose gauge left)) same (b.0, b.1, b.2, b.3, subst (IsRightOf job pose gauge left) (sym b.4) legal.1) in
+          subst (Any (IsLeftOfPair job pose gauge)) same (a.0, a.1, a.2, a.3, subst (IsLeftOfPair job pose gauge) (sym a.4) (legal.0, of_right))
+
+      made : MakesPair job pose left right → AreLegalBoxes job pose left right
+      made legal =
+          let some = left_of gauge legal in
+          let other = right_of gauge some.1 some.4 in
+          let is_left = one_box boxes ascend some.1 left (some.0, some.1, some.2, some.3, refl) among_left some.4.0.number in
+          let is_right = one_box boxes ascend other.1 right (other.0, other.1, other.2, other.3, refl) among_right other.4.0.number in
+          (subst (IsFlatFace job.part.thickness pose left.id) is_left some.4.0, subst (λ (b : PoseBox). IsRightOf job pose gauge b right) is_left (subst (IsRightOf job pose gauge some.1) is_right other.4))
 
   -- the first legal pair with a left face
   pub first_with : (left : PoseBox) (found : ℕ) → IsLeastNumber (λ body. body.id) (MakesPair job pose left) boxes (Some found) → IsFirstWith job pose left.id (Some (record { left_face = left.id; right_face = found }))

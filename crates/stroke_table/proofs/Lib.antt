@@ -6,6 +6,7 @@ mod Firsts
 mod MovedReasons
 mod BoxSteps
 mod TrueRecords
+mod FoundBoxes
 mod LeastCodes
 mod FirstCodes
 mod BoxCodes

@@ -1,6 +1,6 @@
 -- The first reasons at a stage, from those in the pose at stage 0: the part lies farther along the bed, and its halves as before.
 use Rattle.std.proofs.Common.{◌≡◌, ℕ, zero, suc, ◌<◌, IsTrue, ℤ, ◌+ℤ◌, ◌-ℤ◌, ◌<ℤ◌, List, [], ◌∷◌, map, length, get_or, Option, refl, sym, ap, subst, ◌∙◌, arith}
-use Rattle.std.specs.Prelude.{All, Any}
+use Rattle.std.specs.Prelude.{Any}
 use Rattle.std.specs.Int.{int_min, int_max}
 use Rattle.std.proofs.lemmas.Int.{ints, clamps}
 use Rattle.std.proofs.lemmas.List.{length-map, get_or-map}
@@ -13,17 +13,13 @@ use Rattle.brake_base.specs.declared.reason.Reason.TheVariants.{Cover, Rest, Fra
 use Rattle.brake_base.proofs.Whole.{lt_from_test, lt_test}
 use Rattle.fold_boxes.specs.declared.posed_part.PoseBox.{PoseBox}
 use Rattle.fold_boxes.specs.Pose.{PoseData}
-use Rattle.fold_boxes.specs.Posing.{IsNearPoseBox}
 use Rattle.job_setup.specs.Setup.{JobData, shape_of}
 use Rattle.job_setup.specs.StageOf.{stage_of}
-use Rattle.job_setup.specs.ValidJob.{IsJob}
-use Rattle.job_setup.specs.Reasons.{is_uncovered, lacks_rest, is_overloaded, side_in, x_range, MeetsAlong, IsSelfHit, pose_at, IsPoseAt}
+use Rattle.job_setup.specs.Reasons.{is_uncovered, lacks_rest, is_overloaded, side_in, x_range, MeetsAlong, IsSelfHit, pose_at}
 use Rattle.sweep_check.specs.FirstReasons.{IsFirstAmong, pose_of_boxes}
-use Rattle.sweep_check.specs.Pieces.{IsSolidBox}
 use Rattle.sweep_check.proofs.Alike.{AreAlike, among_alike}
-use Rattle.sweep_check.proofs.PoseBoxes.{pose_solid}
 use Rattle.stroke_table.specs.Moved.{moved_box}
-use Rattle.stroke_table.specs.BoxReasons.{start_at, shift_of, box_at, IsBoxOf}
+use Rattle.stroke_table.specs.BoxReasons.{start_at, shift_of, box_at}
 use Rattle.stroke_table.proofs.Moved.{pose_moved}
 
 -- ---- the halves
@@ -117,15 +113,3 @@ boxes_at job mask group back stage =
     let first = stage_of job 0 in
     let at = stage_of job stage in
     sym (ap (λ (pose : PoseData). pose.boxes) (pose_moved (shape_of job) mask group back first.x0 first.x1 at.x0 at.x1 (shift_of job group stage) (from_to (start_at job group 0) (start_at job group stage))))
-
-pub boxes_of : (job : JobData) → IsJob job → (pose : PoseData) → IsPoseAt job 0 pose → All IsNearPoseBox pose.boxes → All (IsBoxOf job pose.group) pose.boxes
-boxes_of job valid pose stroke near = λ k d within. record {
-  near = near k d within;
-  solid = λ stage inside.
-      let there : IsPoseAt job stage (pose_at job stroke.mask stroke.group stroke.back stage) = record { mask = stroke.mask; group = stroke.group; back = stroke.back; stroke = stroke.stroke; within = inside; value = refl } in
-      let solid = (pose_solid job stage (pose_at job stroke.mask stroke.group stroke.back stage) valid there).solid in
-      let moved : All IsSolidBox (map (box_at job stroke.group stage) (pose_at job stroke.mask stroke.group stroke.back 0).boxes) = subst (All IsSolidBox) (sym (boxes_at job stroke.mask stroke.group stroke.back stage)) solid in
-      let here : All IsSolidBox (map (box_at job pose.group stage) pose.boxes) = subst (λ (p : PoseData). All IsSolidBox (map (box_at job p.group stage) p.boxes)) (sym stroke.value) moved in
-      let long : k < length (map (box_at job pose.group stage) pose.boxes) = omega (arith, within, length-map pose.boxes (box_at job pose.group stage)) in
-      subst IsSolidBox (get_or-map (box_at job pose.group stage) pose.boxes k d (box_at job pose.group stage d) within) (here k (box_at job pose.group stage d) long);
-}

@@ -9,16 +9,17 @@ use Rattle.brake_base.specs.Turns.{Map, map_of}
 use Rattle.brake_base.specs.declared.stroke.Back.{Back}
 use Rattle.brake_base.specs.declared.reason.Reason.{Reason}
 use Rattle.fold_boxes.specs.declared.posed_part.PoseBox.{PoseBox}
-use Rattle.fold_boxes.specs.Pose.{IsGroup, pose_box, box_ids}
+use Rattle.fold_boxes.specs.Pose.{IsGroup, pose_box, box_ids, IsNumberOfBox}
 use Rattle.fold_boxes.specs.Posing.{IsNearPoseBox}
 use Rattle.job_setup.specs.Setup.{JobData, shape_of, stage_count}
 use Rattle.job_setup.specs.StageOf.{stage_of}
 use Rattle.job_setup.specs.ValidJob.{IsJob}
 use Rattle.job_setup.specs.Reasons.{pose_at, IsPoseAt}
 use Rattle.sweep_check.specs.FirstReasons.{IsFirstAmong, pose_of_boxes}
+use Rattle.sweep_check.specs.Pieces.{IsSolidBox}
 use Rattle.sweep_check.proofs.Alike.{of_boxes}
-use Rattle.box_support.specs.Deciding.{IsNumberOfBox}
-use Rattle.box_support.proofs.Elements.{any_mapped, any_unmapped}
+use Rattle.sweep_check.proofs.PoseBoxes.{pose_solid}
+use Rattle.box_support.proofs.Elements.{any_mapped}
 use Rattle.box_support.proofs.Boxes.{id_found}
 use Rattle.stage_lanes.specs.Codes.{IsCoded}
 use Rattle.stage_lanes.specs.Lanes.{AreLanes}
@@ -26,7 +27,7 @@ use Rattle.stroke_table.specs.declared.keys.GroupKey.{GroupKey}
 use Rattle.stroke_table.specs.BoxReasons.{start_at, shift_of, box_at, IsBoxOf}
 use Rattle.stroke_table.specs.Codes.{IsLeastCode, AreLeastCodes, HoldsAmong, IsGiven, stroke_box, stroke_place, IsOfBox, at_stages, code_for}
 use Rattle.stroke_table.proofs.Moved.{pose_box_moved}
-use Rattle.stroke_table.proofs.MovedReasons.{halves_there, boxes_at, boxes_of, from_to}
+use Rattle.stroke_table.proofs.MovedReasons.{halves_there, boxes_at, from_to}
 use Rattle.stroke_table.proofs.FirstCodes.{coded, least_of_first, joined_codes}
 use Rattle.stroke_table.proofs.BoxCodes.{whole_of_box}
 use Rattle.stroke_table.proofs.LeastCodes.{same_codes, code_at_stages}
@@ -39,27 +40,12 @@ halves_at job mask group back stage boxes found same first =
     (halves_there job (shift_of job group stage) boxes back stage found first)
 
 module _ (job : JobData) (fit : IsJob job) (mask : Mask) (key : GroupKey) (number : ℕ) (is : IsNumberOfBox (shape_of job) mask number) where
-  -- the pose at stage 0 has the box of the number
-  pub has_number : (boxes : List PoseBox) → boxes ≡ (pose_at job mask key.group key.back 0).boxes → Any (λ (box : PoseBox). box.id ≡ number) boxes
-  has_number boxes same =
-      let make = pose_box (shape_of job) mask key.group key.back (stage_of job 0).x0 (stage_of job 0).x1 in
-      subst (Any (λ (box : PoseBox). box.id ≡ number)) (sym same) (any_mapped (λ (box : PoseBox). box.id ≡ number) make (box_ids (shape_of job) mask) (id_found (shape_of job) mask number (λ n. n ≡ number) is refl))
-
-  -- the only box of the number is that of the stroke
-  pub is_stroke_box : (boxes : List PoseBox) (body : PoseBox) → boxes ≡ (pose_at job mask key.group key.back 0).boxes → Any (λ (box : PoseBox). box ≡ body) boxes → body.id ≡ number → body ≡ stroke_box job mask key number 0
-  is_stroke_box boxes body same among named =
-      let make = pose_box (shape_of job) mask key.group key.back (stage_of job 0).x0 (stage_of job 0).x1 in
-      let found = any_unmapped (λ (box : PoseBox). box ≡ body) make 0 (box_ids (shape_of job) mask) (subst (Any (λ (box : PoseBox). box ≡ body)) same among) in
-      let id : found.1 ≡ number = ap (λ (box : PoseBox). box.id) found.4 ∙ named in
-      sym found.4 ∙ ap make id
-
-  -- the place of a face of the pose is that of the stroke
-  pub place_there : (items : List Place) (none : Place) → map map_of items ≡ (pose_at job mask key.group key.back 0).places → number < length job.part.faces → map_of (get_or items number none) ≡ stroke_place job mask key number
-  place_there items none same face =
-      let place = stroke_place job mask key in
-      let n = length job.part.faces in
-      let long : length items ≡ n = sym (length-map items map_of) ∙ ap length same ∙ length-map-range_with_len place 0 n in
-      sym (get_or-map map_of items number none (map_of none) (omega (arith, long, face))) ∙ ap (λ (places : List Map). get_or places number (map_of none)) same ∙ get_or-map-range_with_len place 0 n number number (map_of none) face (omega arith)
+  -- what holds of all boxes of the stroke holds of that of the number
+  at_number : (P : PoseBox → Type 0) (stage : ℕ) → All P (pose_at job mask key.group key.back stage).boxes → P (stroke_box job mask key number stage)
+  at_number P stage all =
+      let make = pose_box (shape_of job) mask key.group key.back (stage_of job stage).x0 (stage_of job stage).x1 in
+      let here = any_mapped (λ (box : PoseBox). box ≡ make number) make (box_ids (shape_of job) mask) (id_found (shape_of job) mask number (λ n. make n ≡ make number) is refl) in
+      subst P (here.3 ∙ here.4) (all here.0 here.1 here.2)
 
   -- it lies at each stage where the stroke has it
   pub box_there : (body : PoseBox) → body ≡ stroke_box job mask key number 0 → (stage : ℕ) → box_at job key.group stage body ≡ stroke_box job mask key number stage
@@ -82,12 +68,13 @@ module _ (job : JobData) (fit : IsJob job) (mask : Mask) (key : GroupKey) (numbe
       (λ stage reason within holds. subst (λ (b : PoseBox). IsGiven job b key.back stage reason) (box_there body same stage) holds) are
 
   -- the box lies near, and has an interior at each stage
-  pub is_box_of : (body : PoseBox) (boxes : List PoseBox) → IsGroup (shape_of job) mask key.group → 0 < stage_count job → boxes ≡ (pose_at job mask key.group key.back 0).boxes → All IsNearPoseBox boxes → Any (λ (box : PoseBox). box ≡ body) boxes → IsBoxOf job key.group body
-  is_box_of body boxes group some same near among =
-      let pose : IsPoseAt job 0 (pose_at job mask key.group key.back 0) = record { mask = mask; group = key.group; back = key.back; stroke = group; within = some; value = refl } in
-      let all = boxes_of job fit (pose_at job mask key.group key.back 0) pose (subst (All IsNearPoseBox) same near) in
-      let here = subst (Any (λ (box : PoseBox). box ≡ body)) same among in
-      subst (IsBoxOf job key.group) (here.3 ∙ here.4) (all here.0 here.1 here.2)
+  pub is_box_of : (body : PoseBox) → IsGroup (shape_of job) mask key.group → body ≡ stroke_box job mask key number 0 → IsNearPoseBox body → IsBoxOf job key.group body
+  is_box_of body group same near = record {
+    near = near;
+    solid = λ stage inside.
+        let pose : IsPoseAt job stage (pose_at job mask key.group key.back stage) = record { mask = mask; group = key.group; back = key.back; stroke = group; within = inside; value = refl } in
+        subst IsSolidBox (sym (box_there body same stage)) (at_number IsSolidBox stage (pose_solid job stage (pose_at job mask key.group key.back stage) fit pose).solid);
+  }
 
 -- ---- the kinds that look at the whole part
 module _ (job : JobData) (fit : IsJob job) (mask : Mask) (key : GroupKey) where

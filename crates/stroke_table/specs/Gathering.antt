@@ -5,11 +5,10 @@ use Rattle.brake_base.specs.declared.reason.Reason.{Reason}
 use Rattle.brake_base.specs.Turns.{map_of}
 use Rattle.unfolder.specs.Blank.{face_numbers}
 use Rattle.fold_boxes.specs.declared.posed_part.Pose.{Pose}
-use Rattle.fold_boxes.specs.Pose.{lead_of}
+use Rattle.fold_boxes.specs.Pose.{lead_of, IsNumberOfBox}
 use Rattle.fold_boxes.specs.Posing.{IsNearPoseBox}
 use Rattle.job_setup.specs.Setup.{JobData, shape_of, stage_count}
 use Rattle.job_setup.specs.StageOf.{stage_of}
-use Rattle.box_support.specs.Deciding.{IsNumberOfBox}
 use Rattle.stage_lanes.specs.Lanes.{AreLanes}
 use Rattle.stroke_table.specs.declared.keys.GroupKey.{GroupKey}
 use Rattle.stroke_table.specs.declared.keys.StrokeKey.{StrokeKey}

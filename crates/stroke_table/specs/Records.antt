@@ -5,10 +5,10 @@ use Rattle.brake_base.specs.declared.mask.Mask.{Mask}
 use Rattle.brake_base.specs.Masks.{has}
 use Rattle.brake_base.specs.Turns.{map_of}
 use Rattle.unfolder.specs.Cores.{joint_of}
-use Rattle.fold_boxes.specs.Pose.{IsGroup, lead_of, face_of_box}
+use Rattle.fold_boxes.specs.Pose.{IsGroup, lead_of, face_of_box, IsNumberOfBox}
 use Rattle.fold_boxes.specs.Posing.{IsNearPoseBox}
 use Rattle.job_setup.specs.Setup.{JobData, shape_of, bend_count, stage_count}
-use Rattle.box_support.specs.Deciding.{is_deciding, IsNumberOfBox}
+use Rattle.box_support.specs.Deciding.{is_deciding}
 use Rattle.stroke_table.specs.declared.keys.GroupKey.{GroupKey}
 use Rattle.stroke_table.specs.declared.keys.BoxKey.{BoxKey}
 use Rattle.stroke_table.specs.declared.known.FoundBox.{FoundBox}

@@ -43,9 +43,9 @@ pub(crate) fn find_codes(
     ensures found { IsFound job.now stroke.now result }
     ensures valid { IsJob job.now }
 {
-    let of_group = group_record(job, kept, places, stroke);
     let mut gathered = StrokeBoxes::none(job, stroke);
     gather_boxes(job, kept, places, stroke, &mut gathered);
+    let of_group = group_record(job, kept, places, stroke);
     let before = of_group.lines.lesser(gathered.codes);
     let stages = job.stages();
     if is_free_somewhere(before, stages) {

@@ -1,28 +1,27 @@
 //! The boxes of a stroke are gathered: what each gives, and where it lies at stage 0.
-ghost use Rattle.std.specs.Prelude.{◌≡◌, ◌+◌, ◌<◌, ◌≤◌, ◌^◌, [], ◌∷◌, ◌++◌, min, length, slice_index, slice_index_or, slice_get, None, IfSome, IsSome, All, Any};
+ghost use Rattle.std.specs.Prelude.{◌≡◌, ◌+◌, ◌<◌, ◌≤◌, ◌^◌, [], ◌∷◌, ◌++◌, min, length, slice_index, slice_get, IfSome, IsSome, All};
+ghost use Rattle.brake_base.specs.Turns.{map_of};
 ghost use Rattle.fold_boxes.specs.Places.{ArePlaces};
-ghost use Rattle.fold_boxes.specs.Pose.{IsGroup, lead_of, pose_data};
+ghost use Rattle.fold_boxes.specs.Pose.{IsGroup, IsNumberOfBox, face_of_box, lead_of, pose_data};
 ghost use Rattle.fold_boxes.specs.Posing.{IsNearPoseBox};
 ghost use Rattle.unfolder.specs.Blank.{face_numbers};
 ghost use Rattle.job_setup.specs.Setup.{JobData, shape_of, bend_count, stage_count};
 ghost use Rattle.job_setup.specs.ValidJob.{IsJob};
 ghost use Rattle.job_setup.specs.Reasons.{pose_at};
-ghost use Rattle.box_support.specs.Deciding.{IsNumberOfBox};
 ghost use Rattle.stage_lanes.specs.Lanes.{AreLanes};
 ghost use Rattle.stroke_table.specs.declared.keys.StrokeKey.{StrokeKey};
 ghost use Rattle.stroke_table.specs.BoxReasons.{AreAround};
-ghost use Rattle.stroke_table.specs.Codes.{AreLeastCodes, HoldsAmong};
+ghost use Rattle.stroke_table.specs.Codes.{AreLeastCodes, HoldsAmong, stroke_box, stroke_place};
 ghost use Rattle.stroke_table.specs.Records.{AreKept, IsBoxKey, IsFoundOf, IsFoundBox, parent_of};
 ghost use Rattle.stroke_table.specs.Gathering.{IsBegun, IsGathered, IsPoseOf};
 
 use crate::box_reasons::box_codes;
-use crate::finding::pose_at;
 use crate::keys::{BoxKey, StrokeKey};
 use crate::known::FoundBox;
 use crate::records::{BoxRecord, StrokeRecords};
 use arrayvec::ArrayVec;
 use brake_base::{Mask, Place};
-use fold_boxes::{Pose, PoseBox};
+use fold_boxes::{Pose, PoseBox, PosedStroke, pose_box};
 use job_setup::Job;
 use stage_lanes::{FREE, StageCodes};
 use sweep_check::Surroundings;
@@ -199,7 +198,10 @@ fn index_of_number(
         (λ one. IsFoundOf job.now stroke.now.mask stroke.now.of number one.found) }
 {
     let key = kept.box_key(job, stroke, from, number);
-    index_of_box(job, kept, places, stroke.mask, &key)
+    match kept.first_index(&key) {
+        Some(index) => index,
+        None => index_of_box(job, kept, places, stroke.mask, key),
+    }
 }
 
 /// The face on which the bends of the group of a stroke stand.
@@ -224,29 +226,31 @@ fn lead_of(job: &Job, stroke: &StrokeKey) -> u8
     }
 }
 
-/// The index of the record of a box, which is kept where it isn't yet.
+/// The index of the record of a box, which is kept where it isn't yet. It is called seldom: were it
+/// inlined, the key would be written to memory for each box.
+#[inline(never)]
 fn index_of_box(
     job: &Job,
     kept: &mut StrokeRecords,
     places: &[Place],
     mask: Mask,
-    key: &BoxKey,
+    key: BoxKey,
 ) -> usize
     requires kept { AreKept job.now kept.old }
     requires count { length places.now ≡ length job.now.part.faces }
     requires places { ArePlaces (shape_of job.now) mask places.now }
     requires mask { mask.0 < 2 ^ bend_count job.now }
-    requires box_ { IsBoxKey job.now mask key.now }
+    requires box_ { IsBoxKey job.now mask key }
     ensures kept { AreKept job.now kept.new }
     ensures some { IsSome (slice_get kept.new.boxes.items result) }
     ensures found { IfSome (slice_get kept.new.boxes.items result)
-        (λ one. IsFoundBox job.now mask key.now one.found) }
+        (λ one. IsFoundBox job.now mask key one.found) }
 {
-    match kept.search_box(key) {
+    match kept.search_box(&key) {
         Ok(index) => index,
         Err(place) => {
-            let found = find_box(job, &kept.around, places, mask, key);
-            kept.keep_box(place, BoxRecord { key: *key, found })
+            let found = find_box(job, &kept.around, places, mask, &key);
+            kept.keep_box(place, BoxRecord { key, found })
         }
     }
 }
@@ -266,35 +270,30 @@ fn find_box(
     ensures found { IsFoundBox job.now mask key.now result }
     ensures valid { IsJob job.now }
 {
-    job.recall_valid();
-    let pose = pose_at(job, places, mask, key.of.group, key.of.back, 0);
-    let body = box_of(pose.boxes.as_slice(), key.number);
-    let place = place_at(pose.places.as_slice(), key.number);
+    let (body, place) = stroke_box(job, places, mask, key);
     let codes = box_codes(job, around, &key.of, &body);
     FoundBox { codes, body, place }
 }
 
-/// The place of a face, or any place where there is no such face.
-fn place_at(places: &[Place], face: u8) -> Place
-    ensures { (none : Place) → face < length places.now
-        → result ≡ slice_index_or places.now face none }
+/// The box of a stroke at stage 0, and where the face lies whose half it shares.
+fn stroke_box(job: &Job, places: &[Place], mask: Mask, key: &BoxKey) -> (PoseBox, Place)
+    requires count { length places.now ≡ length job.now.part.faces }
+    requires places { ArePlaces (shape_of job.now) mask places.now }
+    requires box_ { IsBoxKey job.now mask key.now }
+    ensures body { result.0 ≡ stroke_box job.now mask key.now.of key.now.number 0 }
+    ensures place { map_of result.1
+        ≡ stroke_place job.now mask key.now.of (face_of_box key.now.number) }
+    ensures near { IsNearPoseBox result.0 }
+    ensures valid { IsJob job.now }
 {
-    match places.get(usize::from(face)) {
-        Some(place) => *place,
-        None => Place::default(),
-    }
-}
-
-/// The box of this number, which is among these.
-fn box_of(boxes: &[PoseBox], number: u8) -> PoseBox
-    requires { Any (λ box. box.id ≡ number) boxes.now }
-    ensures among { Any (λ box. box ≡ result) boxes.now }
-    ensures number { result.id ≡ number }
-{
-    for body in boxes {
-        if body.id == number {
-            return *body;
-        }
-    }
-    unreachable!()
+    job.recall_valid();
+    let (x0, x1) = job.stage_range(0);
+    let stroke = PosedStroke {
+        mask,
+        group: key.of.group,
+        back: key.of.back,
+        x0,
+        x1,
+    };
+    pose_box(job.shape(), places, &stroke, key.number)
 }

@@ -8,7 +8,7 @@ ghost use Rattle.stroke_table.specs.Gauging.{MakesPair, IsAtTop, MayBeRight};
 
 use brake_base::{Gauge, Half};
 use fold_boxes::{Pose, PoseBox};
-use gauge_rules::legal;
+use gauge_rules::are_legal;
 use job_setup::Job;
 
 /// The first legal pair of a pose in the order of its left face, then of its right one, from the
@@ -59,15 +59,7 @@ fn is_pair(job: &Job, pose: &Pose, boxes: &[PoseBox], left: &PoseBox, right: &Po
     requires right { Any (λ body. body ≡ right.now) boxes.now }
     ensures { IsTrue result ↔ MakesPair job.now (pose_data pose.now) left.now right.now }
 {
-    if may_be_right(left, right) {
-        let gauge = Gauge {
-            left_face: left.id,
-            right_face: right.id,
-        };
-        legal(job, pose, gauge)
-    } else {
-        false
-    }
+    may_be_right(left, right) && are_legal(job, pose, left, right)
 }
 
 /// Whether the right box lies as high as the sheet in the back half, and ends at the left one's edge.

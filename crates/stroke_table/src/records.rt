@@ -1,8 +1,7 @@
 //! What is kept of a job for its strokes.
 ghost use Rattle.std.specs.Prelude.{◌≡◌, ◌↔◌, ◌*◌, ◌<◌, ◌≤◌, ◌^◌, length, replicate, slice_index_or, slice_get, Some, None, IfOk, IfErr, IfSome, IsSome, IsTrue, All, vec_capacity};
-ghost use Rattle.fold_boxes.specs.Pose.{IsGroup};
+ghost use Rattle.fold_boxes.specs.Pose.{IsGroup, IsNumberOfBox};
 ghost use Rattle.job_setup.specs.Setup.{JobData, shape_of, bend_count};
-ghost use Rattle.box_support.specs.Deciding.{IsNumberOfBox};
 ghost use Rattle.stroke_table.specs.BoxReasons.{AreAround};
 ghost use Rattle.stroke_table.specs.Records.{IsBoxRecord, IsGroupRecord, IsBoxKey, AreKept, HasRecordAt, parent_of};
 
@@ -113,6 +112,29 @@ impl StrokeRecords {
             of: stroke.of,
             number,
             folded: stroke.mask.intersection(deciding),
+        }
+    }
+
+    /// The index of the record of a box, where the first place at which it may stand has it.
+    pub(crate) fn first_index(&self, key: &BoxKey) -> Option<usize>
+        requires { length self.now.indices.items ≡ 16384 }
+        ensures { IfSome result (λ index. HasRecordAt self.now.boxes.items key.now index) }
+    {
+        let index = usize::from(self.indices[own_place(key)]);
+        if self.is_record_of(index, key) {
+            Some(index)
+        } else {
+            None
+        }
+    }
+
+    /// Whether the record at an index is that of a box.
+    fn is_record_of(&self, index: usize, key: &BoxKey) -> bool
+        ensures { IsTrue result → HasRecordAt self.now.boxes.items key.now index }
+    {
+        match self.boxes.get(index) {
+            Some(known) => is_same_box(&known.key, key),
+            None => false,
         }
     }
 

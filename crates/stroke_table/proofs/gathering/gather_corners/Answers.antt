@@ -9,8 +9,8 @@ use Rattle.unfolder.proofs.Listing.{all_pushed}
 use Rattle.fold_boxes.specs.Posing.{IsNearPoseBox}
 use Rattle.fold_boxes.specs.declared.posed_part.PoseBox.{PoseBox}
 use Rattle.fold_boxes.proofs.Picked.{pick_next, put_at_end, put_nothing}
+use Rattle.fold_boxes.specs.Pose.{IsNumberOfBox}
 use Rattle.job_setup.specs.Setup.{shape_of, stage_count}
-use Rattle.box_support.specs.Deciding.{IsNumberOfBox}
 use Rattle.stroke_table.specs.declared.gathering.StrokeBoxes.{StrokeBoxes}
 use Rattle.stroke_table.specs.Codes.{AreLeastCodes, HoldsAmong, stroke_box}
 use Rattle.stroke_table.specs.declared.records.BoxRecord.{BoxRecord}
