@@ -1,7 +1,8 @@
 -- A cost for each action, in tenths of a second.
-use Rattle.std.specs.Prelude.{◌≡◌, ◌⊎◌, ℕ, ◌+◌, ◌*◌, ◌/◌, ◌%◌, ◌<◌, ◌≤◌, Bool, IsTrue, List, []}
+use Rattle.std.specs.Prelude.{◌≡◌, ◌⊎◌, ℕ, ◌+◌, ◌*◌, ◌/◌, ◌%◌, ◌<◌, ◌≤◌, ◌==◌, Bool, IsTrue, List, []}
 use Rattle.std.specs.Prelude.{slice_index, slice_index_or, map}
 use Rattle.std.specs.List.{range_with_len}
+use Rattle.std.specs.Int.{bit_at}
 use Rattle.brake_base.specs.declared.mask.Mask.{Mask}
 use Rattle.brake_base.specs.Masks.{has}
 use Rattle.brake_base.specs.declared.stroke.Action.{Action}
@@ -59,3 +60,7 @@ pub record IsLeastCost (costs : ActionCosts) (bends : Mask) (cost : ℕ) : Type 
   pub attained :
       (cost ≡ 536870912)
       ⊎ ((place : ℕ) × (place < 192) × IsTrue (is_of bends place) × (cost_at costs place ≡ cost))
+
+-- of the 64 bits of a word those are set of which this holds
+abbrev pub AreBits : ℕ → (ℕ → Bool) → Type 0
+AreBits word holds = (bit : ℕ) → bit < 64 → (bit_at word bit == 1) ≡ holds bit

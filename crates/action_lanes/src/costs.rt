@@ -1,10 +1,11 @@
 //! A cost for each action.
-ghost use Rattle.std.specs.Prelude.{◌≡◌, ◌≢◌, ℕ, ◌+◌, ◌-◌, ◌*◌, ◌/◌, ◌%◌, ◌^◌, ◌<◌, ◌≤◌, ◌&&◌, ◌||◌, IsTrue, false, IfSome, IfNone, nat_lt, ◌==◌, if◌then◌else◌, slice_index};
+ghost use Rattle.std.specs.Prelude.{◌≡◌, ℕ, ◌+◌, ◌-◌, ◌*◌, ◌/◌, ◌%◌, ◌^◌, ◌<◌, ◌≤◌, ◌&&◌, ◌||◌, IsTrue, IfSome, IfNone, nat_lt, ◌==◌, if◌then◌else◌, slice_index};
+ghost use Rattle.std.specs.Int.{bit_at};
 ghost use Rattle.brake_base.specs.Actions.{IsActionAmong};
 ghost use Rattle.stage_lanes.specs.Lanes.{AreLanes};
 ghost use Rattle.stage_lanes.specs.Stages;
-ghost use Rattle.stage_lanes.specs.ActionSets.{side_of, place_of, has_place, has, ArePlaces, IsNone};
-ghost use Rattle.action_lanes.specs.Costs.{cost_at, sum_costs, AreCosts, is_of, IsLeastCost, IsCheapest};
+ghost use Rattle.stage_lanes.specs.ActionSets.{side_of, place_of, has, ArePlaces, IsNone};
+ghost use Rattle.action_lanes.specs.Costs.{cost_at, sum_costs, AreCosts, AreBits, is_of, IsLeastCost, IsCheapest};
 ghost use Rattle.action_lanes.specs.Cheapest.{IsLeastIn, AreCheapest};
 
 use brake_base::{Action, Back, Mask};
@@ -88,15 +89,13 @@ impl ActionCosts {
         ensures places { ArePlaces result (λ place. is_of bends place
             && (cost_at (sum_costs self.now other.now) place == cost)) }
     {
-        let mut set = ActionSet::empty();
-        for bend in 1..13u8 {
-            if bends.contains(bend) {
-                let parent = self.sums(other, side(bend, Back::Parent)).equal(cost);
-                let child = self.sums(other, side(bend, Back::Child)).equal(cost);
-                set = with_bend(set, bend, parent, child);
-            }
+        ActionSet {
+            words: [
+                self.equal_sum_in(other, bends, cost, 0),
+                self.equal_sum_in(other, bends, cost, 1),
+                self.equal_sum_in(other, bends, cost, 2),
+            ],
         }
-        set
     }
 
     /// The least cost of the actions of these bends, [`BLOCKED`] where none is below that.
@@ -117,15 +116,13 @@ impl ActionCosts {
         ensures places { ArePlaces result
             (λ place. is_of bends place && nat_lt (cost_at self.now place) cost) }
     {
-        let mut set = ActionSet::empty();
-        for bend in 1..13u8 {
-            if bends.contains(bend) {
-                let parent = self.side(bend, Back::Parent).below(cost);
-                let child = self.side(bend, Back::Child).below(cost);
-                set = with_bend(set, bend, parent, child);
-            }
+        ActionSet {
+            words: [
+                self.below_in(bends, cost, 0),
+                self.below_in(bends, cost, 1),
+                self.below_in(bends, cost, 2),
+            ],
         }
-        set
     }
 
     /// The actions of these bends whose cost is this one.
@@ -133,15 +130,13 @@ impl ActionCosts {
         ensures places { ArePlaces result
             (λ place. is_of bends place && (cost_at self.now place == cost)) }
     {
-        let mut set = ActionSet::empty();
-        for bend in 1..13u8 {
-            if bends.contains(bend) {
-                let parent = self.side(bend, Back::Parent).equal(cost);
-                let child = self.side(bend, Back::Child).equal(cost);
-                set = with_bend(set, bend, parent, child);
-            }
+        ActionSet {
+            words: [
+                self.equal_in(bends, cost, 0),
+                self.equal_in(bends, cost, 1),
+                self.equal_in(bends, cost, 2),
+            ],
         }
-        set
     }
 
     /// The action of a set whose cost is the least, and of these the first by number. None exactly
@@ -165,6 +160,61 @@ impl ActionCosts {
             }
             None => set,
         }
+    }
+
+    // The three that follow are inlined, since the word is a constant at each call.
+
+    /// A word of the set of the actions of these bends whose cost is below this one.
+    #[inline(always)]
+    fn below_in(&self, bends: Mask, cost: u32, word: u8) -> u64
+        requires { word < 3 }
+        ensures bits { AreBits result (λ bit. is_of bends (64 * word + bit)
+            && nat_lt (cost_at self.now (64 * word + bit)) cost) }
+    {
+        let mut bits = 0;
+        for eighth in 0..8u8 {
+            let side = 8 * word + eighth;
+            if bends.contains(side / 2 + 1) {
+                bits = with_eighth(bits, eighth, self.lanes(side).below(cost));
+            }
+        }
+        bits
+    }
+
+    /// A word of the set of the actions of these bends whose cost is this one.
+    #[inline(always)]
+    fn equal_in(&self, bends: Mask, cost: u32, word: u8) -> u64
+        requires { word < 3 }
+        ensures bits { AreBits result (λ bit. is_of bends (64 * word + bit)
+            && (cost_at self.now (64 * word + bit) == cost)) }
+    {
+        let mut bits = 0;
+        for eighth in 0..8u8 {
+            let side = 8 * word + eighth;
+            if bends.contains(side / 2 + 1) {
+                bits = with_eighth(bits, eighth, self.lanes(side).equal(cost));
+            }
+        }
+        bits
+    }
+
+    /// A word of the set of the actions of these bends at which the sum of both costs is this one.
+    #[inline(always)]
+    fn equal_sum_in(&self, other: &ActionCosts, bends: Mask, cost: u32, word: u8) -> u64
+        requires word { word < 3 }
+        requires room { (place : ℕ) → place < 192 → IsTrue (is_of bends place)
+            → cost_at self.now place + cost_at other.now place < 2 ^ 32 }
+        ensures bits { AreBits result (λ bit. is_of bends (64 * word + bit)
+            && (cost_at (sum_costs self.now other.now) (64 * word + bit) == cost)) }
+    {
+        let mut bits = 0;
+        for eighth in 0..8u8 {
+            let side = 8 * word + eighth;
+            if bends.contains(side / 2 + 1) {
+                bits = with_eighth(bits, eighth, self.sums(other, side).equal(cost));
+            }
+        }
+        bits
     }
 
     /// The least cost of the set's actions, of which this is one.
@@ -212,42 +262,13 @@ impl ActionCosts {
     }
 }
 
-/// The set and the actions of a bend at these stages, by the side at the back.
-fn with_bend(set: ActionSet, bend: u8, parent: StageSet, child: StageSet) -> ActionSet
-    requires first { 1 ≤ bend }
-    requires last { bend ≤ 12 }
-    ensures parent { (place : ℕ) → place < 192 → place / 8 ≡ 2 * (bend - 1)
-        → has_place result place ≡ (has_place set place || Stages.has parent (place % 8)) }
-    ensures child { (place : ℕ) → place < 192 → place / 8 ≡ 2 * (bend - 1) + 1
-        → has_place result place ≡ (has_place set place || Stages.has child (place % 8)) }
-    ensures rest { (place : ℕ) → place < 192 → place / 16 + 1 ≢ bend
-        → has_place result place ≡ has_place set place }
+/// The bits of a word, and at one of its eighths, the places of a side, those of these stages.
+fn with_eighth(bits: u64, eighth: u8, stages: StageSet) -> u64
+    requires { eighth < 8 }
+    ensures bits { AreBits result (λ bit. bit_at bits bit == 1
+        || (bit / 8 == eighth && Stages.has stages (bit % 8))) }
 {
-    let (word, own) = ((bend - 1) / 4, (bend - 1) % 4 + 1);
-    let both = ActionSet::empty()
-        .with_stages(own, Back::Parent, parent)
-        .with_stages(own, Back::Child, child);
-    set.union(in_word(both, word))
-}
-
-/// The actions of a set of the first four bends as those of the fours before which so many stand. The
-/// words of a set are moved here, since the compiler keeps in registers what isn't found by number.
-fn in_word(set: ActionSet, word: u8) -> ActionSet
-    requires word { word < 3 }
-    requires first { (place : ℕ) → place < 192 → 64 ≤ place → has_place set place ≡ false }
-    ensures places { ArePlaces result
-        (λ place. place / 64 == word && has_place set (place % 64)) }
-{
-    let [first, second, third] = set.words;
-    if word == 0 {
-        return set;
-    }
-    let words = if word == 1 {
-        [second, first, third]
-    } else {
-        [third, second, first]
-    };
-    ActionSet { words }
+    bits | (u64::from(stages.0) << (8 * eighth))
 }
 
 /// Where a bend with this side at the back stands among the 24.

@@ -1,22 +1,10 @@
-use Rattle.std.proofs.Common.{ℕ, Bool, nat_eq, ◌==◌, sym, ◌∙◌, arith}
-use Rattle.action_lanes.specs.Costs.{cost_at}
-use Rattle.action_lanes.proofs.SetLemmas.{bend_tested, bend_left, compared_both}
+use Rattle.std.proofs.Common.{◌&&◌, ◌==◌}
+use Rattle.action_lanes.specs.Costs.{cost_at, is_of}
+use Rattle.action_lanes.proofs.WordLemmas.{words_are}
 use Rattle.action_lanes.proofs.costs.ActionCosts.equal.Goals as goal
-use Rattle.action_lanes.proofs.costs.ActionCosts.equal.Goals.{then-contains, else-contains}
 
-pub loop-bend-preserved : goal.loop-bend-preserved
-loop-bend-preserved c =
-    let costs = c.args.self.now in
-    let test : ℕ → Bool = λ place. cost_at c.args.self.now place == c.args.cost in
-    let its = c.loop-bend.invariant in
-    record {
-      below = elim c.if-contains.branch [
-        | then-contains w ↦
-            rw w.set-is
-            (bend_tested c.args.bends test c.loop-bend.bend c.loop-bend.set w.with_bend-set.result w.equal-parent.result w.equal-child.result its.first (sym c.contains.ensures ∙ w.if-contains.true) its.below
-            (compared_both costs nat_eq c.args.cost c.loop-bend.bend w.side.result.0 w.side-then-contains.result.0 w.equal-parent.result w.equal-child.result w.side.ensures.lanes w.side-then-contains.ensures.lanes w.equal-parent.ensures.stages w.equal-child.ensures.stages)
-            w.with_bend-set.ensures.parent w.with_bend-set.ensures.child w.with_bend-set.ensures.rest)
-        | else-contains w ↦ rw w.set-is (bend_left c.args.bends test c.loop-bend.bend c.loop-bend.set (sym c.contains.ensures ∙ w.if-contains.false) its.below)
-      ];
-      first = omega arith;
-    }
+pub returns : goal.returns
+returns c = record {
+  places = words_are c.equal_in.result c.equal_in-2.result c.equal_in-3.result (λ place. is_of c.args.bends place && (cost_at c.args.self.now place == c.args.cost))
+      c.equal_in.ensures.bits c.equal_in-2.ensures.bits c.equal_in-3.ensures.bits;
+}

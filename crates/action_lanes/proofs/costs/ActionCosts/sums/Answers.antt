@@ -1,4 +1,4 @@
-use Rattle.std.proofs.Common.{◌∙◌, sym, arith}
+use Rattle.std.proofs.Common.{arith}
 use Rattle.action_lanes.proofs.SumLemmas.{lanes_summed}
 use Rattle.action_lanes.proofs.costs.ActionCosts.sums.Goals as goal
 
