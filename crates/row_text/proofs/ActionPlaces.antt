@@ -1,5 +1,5 @@
 -- The action that has a place in sets, and its number.
-use Rattle.std.proofs.Common.{◌≡◌, ◌≢◌, ℕ, ◌+◌, ◌-◌, ◌*◌, ◌/◌, ◌%◌, ◌<◌, ◌≤◌, ◌==◌, if◌then◌else◌, arith, ap, sym, ◌∙◌, refl}
+use Rattle.std.proofs.Common.{◌≡◌, ℕ, ◌+◌, ◌-◌, ◌*◌, ◌/◌, ◌%◌, ◌<◌, ◌≤◌, ◌==◌, if◌then◌else◌, arith, refl}
 use Rattle.std.proofs.lemmas.Nat.{div-mul-add, mod-mul-add, same_from_place}
 use Rattle.std.proofs.lemmas.Grind.{common_steps}
 use Rattle.brake_base.specs.declared.stroke.Back.TheVariants.{Parent, Child}

@@ -1,5 +1,5 @@
 -- The lines that are kept are those of the notes.
-use Rattle.std.proofs.Common.{◌≡◌, ◌≢◌, ℕ, suc, ◌*◌, ◌%◌, ◌<◌, ◌≤◌, Bool, true, false, ◌&&◌, ◌||◌, not, ◌==◌, List, [], ◌++◌, length, map, set, get_or, refl, ap, sym, ◌∙◌, subst, arith, append_assoc, inl, inr}
+use Rattle.std.proofs.Common.{◌≡◌, ◌≢◌, ℕ, suc, ◌%◌, ◌<◌, ◌≤◌, Bool, true, false, ◌&&◌, ◌||◌, not, ◌==◌, List, [], ◌++◌, length, map, set, get_or, refl, ap, sym, ◌∙◌, subst, arith, append_assoc, inl, inr}
 use Rattle.std.specs.List.{flat_map}
 use Rattle.std.proofs.lemmas.List.{get_or-set_same, get_or-set_other}
 use Rattle.std.proofs.lemmas.List.Folds.{flat_map-map}
@@ -13,7 +13,7 @@ use Rattle.stage_lanes.specs.ActionSets.{has_place, place_of, places_of, ArePlac
 use Rattle.cert_lines.specs.Lines.{line_text, lines_text, note_line, action_at}
 use Rattle.plan_cert.specs.CertText.{line_of_note}
 use Rattle.row_text.specs.Notes.{SetNotes, IsAmong, AreOfStages, number_at, note_at, notes_of}
-use Rattle.row_text.specs.Blocks.{block_text}
+use Rattle.row_text.specs.Blocks.{block_text, IsSplit}
 use Rattle.row_text.specs.Writer.{AreLines}
 use Rattle.row_text.proofs.ActionPlaces.{among_eight, place_below, action_of_place, number_of_place, stage_of_place, action_at_number, same_place}
 use Rattle.plan_lines.proofs.NoteSets.{first_place, no_places}
@@ -24,7 +24,7 @@ stages_of_some stages set other among are place within is = are place within (am
 
 -- a set's kept lines, one after the other, are the text of its notes
 pub block_is : (said : SetNotes) (row : ℕ) (lines : List (List ℕ)) (set : ActionSet) → AreOfStages said.stages said.known → AreLines said lines → IsAmong set said.known
-    → block_text said.stages lines set ≡ lines_text (map (line_of_note said.stages) (notes_of said row set))
+    → block_text lines set ≡ lines_text (map (line_of_note said.stages) (notes_of said row set))
 block_is said row lines set stages are among =
     same_texts set _ (λ place. line_text (line_of_note said.stages (note_at said row place)))
     (λ place within is.
@@ -54,18 +54,18 @@ stages_more stages known more action few among are all place within is = elim (c
 
 pub lines_more : (said after : SetNotes) (lines : List (List ℕ)) (action : Action) (reason : Reason) (line : List ℕ) → said.stages ≤ 6 → IsActionAmong 12 said.stages action
     → after.stages ≡ said.stages → ArePlaces after.known (λ place. has_place said.known place || place == place_of action) → after.reasons ≡ set said.reasons (number_of_action said.stages action) reason
-    → number_of_action said.stages action < length lines → number_of_action said.stages action < length said.reasons → line ≡ line_text (note_line action reason)
-    → AreOfStages said.stages said.known → AreLines said lines → AreLines after (set lines (number_of_action said.stages action) line)
+    → place_of action < length lines → number_of_action said.stages action < length said.reasons → line ≡ line_text (note_line action reason)
+    → AreOfStages said.stages said.known → AreLines said lines → AreLines after (set lines (place_of action) line)
 lines_more said after lines action reason line few among stages known reasons fits fits_too told all are place within is =
     rw (stages, reasons) (elim (cases_eq place (place_of action)) [
       | inl here ↦
           let at : number_at said.stages place ≡ number = ap (λ (p : ℕ). number_at said.stages p) here ∙ number_of_place said.stages action eight.stage in
-          ap (λ (n : ℕ). get_or (set lines number line) n []) at ∙ get_or-set_same lines number line [] fits ∙ told
+          ap (λ (p : ℕ). get_or (set lines (place_of action) line) p []) here ∙ get_or-set_same lines (place_of action) line [] fits ∙ told
           ∙ (λ i. line_text (note_line (same here i) (sym (ap (λ (n : ℕ). get_or (set said.reasons number reason) n Cover) at ∙ get_or-set_same said.reasons number reason Cover fits_too) i)))
       | inr apart ↦
           let before = known_before (has_place said.known place) place (place_of action) (sym (known place within) ∙ is) apart in
           let other : number_at said.stages place ≢ number = λ e. apart (same_place said.stages place (place_of action) (all place within before) (subst (λ (s : ℕ). s < said.stages) (sym (stage_of_place action eight.stage)) among.stage) (e ∙ sym (number_of_place said.stages action eight.stage))) in
-          get_or-set_other lines number (number_at said.stages place) line [] other ∙ are place within before
+          get_or-set_other lines (place_of action) place line [] apart ∙ are place within before
           ∙ ap (λ (r : Reason). line_text (note_line (action_at 8 place) r)) (sym (get_or-set_other said.reasons number (number_at said.stages place) reason Cover other))
     ])
   where
@@ -107,28 +107,34 @@ fewer set rest action first left =
     let count : length (places_of set) ≡ suc (length (places_of rest)) = ap (λ (ps : List ℕ). length ps) same in
     omega (arith, count)
 
-pub stages_left : (stages : ℕ) (set rest : ActionSet) (here : ℕ) → ArePlaces rest (λ place. has_place set place && not (place == here)) → AreOfStages stages set → AreOfStages stages rest
-stages_left stages set rest here left are place within is = are place within (one (has_place set place) (not (place == here)) (sym (left place within) ∙ is))
-  where
-    one : (s t : Bool) → (s && t) ≡ true → s ≡ true
-    one true t e = refl
-    one false t e = absurd cc
+-- a set's first action and what is left without it
+pub split : (set rest : ActionSet) (action : Action) (place : ℕ) → IsFirst set action → place ≡ place_of action → ArePlaces rest (λ other. has_place set other && not (other == place_of action)) → IsSplit set place rest
+split set rest action place first is left = rw is (record {
+  within = place_below action first.among;
+  member = first.member;
+  none_before = first.none_before;
+  without = left;
+})
+
+-- what is left has a line less
+pub fewer_split : (set rest : ActionSet) (place : ℕ) → IsSplit set place rest → length (places_of rest) < length (places_of set)
+fewer_split set rest place s =
+    let count : length (places_of set) ≡ suc (length (places_of rest)) = ap (λ (ps : List ℕ). length ps) (first_place set rest place s.within s.member s.none_before s.without) in
+    omega (arith, count)
 
 -- one line more
-pub block_more : (stages : ℕ) (lines : List (List ℕ)) (set rest : ActionSet) (action : Action) (line before after whole : List ℕ) → IsFirst set action → ArePlaces rest (λ place. has_place set place && not (place == place_of action))
-    → line ≡ get_or lines (number_of_action stages action) [] → before ++ block_text stages lines set ≡ whole → after ≡ before ++ line → after ++ block_text stages lines rest ≡ whole
-block_more stages lines set rest action line before after whole first left is told put =
-    let among = first.among in
-    let at : line ≡ get_or lines (number_at stages (place_of action)) [] = is ∙ ap (λ (n : ℕ). get_or lines n []) (sym (number_of_place stages action among.stage)) in
-    let all : block_text stages lines set ≡ get_or lines (number_at stages (place_of action)) [] ++ block_text stages lines rest =
-    ap (λ (ps : List ℕ). flat_map (λ place. get_or lines (number_at stages place) []) ps) (first_place set rest (place_of action) (place_below action among) first.member first.none_before left) in
-    ap (λ (t : List ℕ). t ++ block_text stages lines rest) (put ∙ ap (λ (t : List ℕ). before ++ t) at)
-    ∙ append_assoc before (get_or lines (number_at stages (place_of action)) []) (block_text stages lines rest)
+pub block_more : (lines : List (List ℕ)) (set rest : ActionSet) (place : ℕ) (line before after whole : List ℕ) → IsSplit set place rest
+    → line ≡ get_or lines place [] → before ++ block_text lines set ≡ whole → after ≡ before ++ line → after ++ block_text lines rest ≡ whole
+block_more lines set rest place line before after whole s is told put =
+    let all : block_text lines set ≡ get_or lines place [] ++ block_text lines rest =
+    ap (λ (ps : List ℕ). flat_map (λ here. get_or lines here []) ps) (first_place set rest place s.within s.member s.none_before s.without) in
+    ap (λ (t : List ℕ). t ++ block_text lines rest) (put ∙ ap (λ (t : List ℕ). before ++ t) is)
+    ∙ append_assoc before (get_or lines place []) (block_text lines rest)
     ∙ ap (λ (t : List ℕ). before ++ t) (sym all) ∙ told
 
 -- no line is left
-pub block_done : (stages : ℕ) (lines : List (List ℕ)) (set : ActionSet) → IsNone set → block_text stages lines set ≡ []
-block_done stages lines set none = ap (λ (ps : List ℕ). flat_map (λ place. get_or lines (number_at stages place) []) ps) (no_places set none)
+pub block_done : (lines : List (List ℕ)) (set : ActionSet) → IsNone set → block_text lines set ≡ []
+block_done lines set none = ap (λ (ps : List ℕ). flat_map (λ place. get_or lines place []) ps) (no_places set none)
 
 -- ---- whether all have a reason
 pub all_known : (notes known left : ActionSet) → ArePlaces left (λ place. has_place notes place && not (has_place known place)) → IsAmong notes known → IsNone left

@@ -6,3 +6,4 @@ pub mod MoreRows
 mod RowLines
 mod WriterKept
 mod KeyTexts
+mod RowEnds

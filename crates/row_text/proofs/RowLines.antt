@@ -1,5 +1,5 @@
 -- The line of a row from its parts.
-use Rattle.std.proofs.Common.{◌≡◌, ℕ, List, [], ◌∷◌, ◌++◌, codes, ap, sym, ◌∙◌, append_assoc}
+use Rattle.std.proofs.Common.{◌≡◌, ℕ, List, [], ◌++◌, codes, ap, sym, ◌∙◌, append_assoc}
 use Rattle.cert_lines.specs.declared.row_head.RowHead.{RowHead}
 use Rattle.cert_lines.specs.Lines.{number, spaced, worth_word, line_text, row_line}
 use Rattle.row_text.specs.RowWords.{row_start, key_words}
@@ -14,11 +14,11 @@ joined a r m t s w n =
     (append_assoc m (t ++ (s ++ (w ++ []))) n
     ∙ ap (λ (x : List ℕ). m ++ x) (append_assoc t (s ++ (w ++ [])) n ∙ ap (λ (x : List ℕ). t ++ x) (append_assoc s (w ++ []) n ∙ ap (λ (x : List ℕ). s ++ x) (append_assoc w [] n))))))
 
-pub row_put : (row : RowHead) (start key a b c d e : List ℕ) → start ≡ row_start row.key.mask.0 → key ≡ key_words row.key.attitude row.key.stage
-    → b ≡ a ++ start → c ≡ b ++ key → d ≡ c ++ spaced (worth_word row.worth) → e ≡ d ++ codes "\n" → e ≡ a ++ line_text (row_line row)
+pub row_put : (row : RowHead) (start key end a b c d : List ℕ) → start ≡ row_start row.key.mask.0 → key ≡ key_words row.key.attitude row.key.stage → end ≡ spaced (worth_word row.worth) ++ codes "\n"
+    → b ≡ a ++ start → c ≡ b ++ key → d ≡ c ++ end → d ≡ a ++ line_text (row_line row)
 unfolding line_text
-row_put row start key a b c d e begins goes one two three four =
+row_put row start key end a b c d begins goes ends one two three =
     let w = spaced (worth_word row.worth) in
-    four
-    ∙ ap (λ (x : List ℕ). x ++ codes "\n") (three ∙ ap (λ (x : List ℕ). x ++ w) (two ∙ (λ i. (one ∙ ap (λ (x : List ℕ). a ++ x) begins) i ++ goes i)))
+    three ∙ ap (λ (x : List ℕ). c ++ x) ends ∙ sym (append_assoc c w (codes "\n"))
+    ∙ ap (λ (x : List ℕ). (x ++ w) ++ codes "\n") (two ∙ (λ i. (one ∙ ap (λ (x : List ℕ). a ++ x) begins) i ++ goes i))
     ∙ joined a (codes "row") (spaced (number row.key.mask.0)) (spaced (number row.key.attitude)) (spaced (number row.key.stage)) w (codes "\n")

@@ -19,7 +19,7 @@ use Rattle.row_text.specs.Writer.{AreKeyWords, AreLines, IsWriter}
 use Rattle.row_text.proofs.BlockTexts.{block_is, block_done, lines_more, stages_more, lines_of_none, stages_of_none}
 
 -- a set of folded bends is begun
-pub begun : (said : SetNotes) (start : List ℕ) (keys lines : List (List ℕ)) (block : NoteBlock) → said.stages ≤ 6 → start ≡ row_start said.mask.0 → AreKeyWords keys → length lines ≡ 144 → IsNone said.known → IsBlock said.stages lines block
+pub begun : (said : SetNotes) (start : List ℕ) (keys lines : List (List ℕ)) (block : NoteBlock) → said.stages ≤ 6 → start ≡ row_start said.mask.0 → AreKeyWords keys → length lines ≡ 192 → IsNone said.known → IsBlock lines block
     → IsWriter said start keys lines block
 begun said start keys lines block few begins words count none is_block = record {
   few = few;
@@ -31,34 +31,35 @@ begun said start keys lines block few begins words count none is_block = record 
   is_block = is_block;
 }
 
-pub empty_block : (stages : ℕ) (lines : List (List ℕ)) (notes : ActionSet) (text : List ℕ) → IsNone notes → text ≡ [] → text ≡ block_text stages lines notes
-empty_block stages lines notes text none empty = empty ∙ sym (block_done stages lines notes none)
+pub empty_block : (lines : List (List ℕ)) (notes : ActionSet) (text : List ℕ) → IsNone notes → text ≡ [] → text ≡ block_text lines notes
+empty_block lines notes text none empty = empty ∙ sym (block_done lines notes none)
 
 -- an action has a reason
-pub with_reason : (said : SetNotes) (start : List ℕ) (keys lines : List (List ℕ)) (block after : NoteBlock) (more : ActionSet) (action : Action) (reason : Reason) (line : List ℕ) (number : ℕ) → IsWriter said start keys lines block
-    → IsActionAmong 12 said.stages action → number ≡ number_of_action said.stages action → number < 24 * said.stages → length said.reasons ≡ 144 → ArePlaces more (λ place. has_place said.known place || place == place_of action)
+pub with_reason : (said : SetNotes) (start : List ℕ) (keys lines : List (List ℕ)) (block after : NoteBlock) (more : ActionSet) (action : Action) (reason : Reason) (line : List ℕ) (number place : ℕ) → IsWriter said start keys lines block
+    → IsActionAmong 12 said.stages action → number ≡ number_of_action said.stages action → number < 24 * said.stages → place ≡ place_of action → place < 192 → length said.reasons ≡ 144 → ArePlaces more (λ here. has_place said.known here || here == place_of action)
     → line ≡ line_text (note_line action reason) → IsNone after.notes → after.text.items ≡ []
-    → IsWriter (record { stages = said.stages; mask = said.mask; known = more; reasons = set said.reasons number reason }) start keys (set lines number line) after
-with_reason said start keys lines block after more action reason line number w among is below long places told none empty = record {
+    → IsWriter (record { stages = said.stages; mask = said.mask; known = more; reasons = set said.reasons number reason }) start keys (set lines place line) after
+with_reason said start keys lines block after more action reason line number place w among is below at within long places told none empty = record {
   few = few;
   begins = w.begins;
   words = w.words;
-  count = length-set lines number line ∙ w.count;
+  count = length-set lines place line ∙ w.count;
   stages = stages_more said.stages said.known more action few among places w.stages;
-  are_lines = subst (λ (n : ℕ). AreLines (record { stages = said.stages; mask = said.mask; known = more; reasons = set said.reasons n reason }) (set lines n line)) (sym is)
+  are_lines = subst (λ (p : ℕ). AreLines (record { stages = said.stages; mask = said.mask; known = more; reasons = set said.reasons number reason }) (set lines p line)) (sym at)
+      (subst (λ (n : ℕ). AreLines (record { stages = said.stages; mask = said.mask; known = more; reasons = set said.reasons n reason }) (set lines (place_of action) line)) (sym is)
       (lines_more said (record { stages = said.stages; mask = said.mask; known = more; reasons = set said.reasons (number_of_action said.stages action) reason }) lines action reason line few among refl places refl
-      (omega (arith, is, below, few, count)) (omega (arith, is, below, few, long)) told w.stages w.are_lines);
-  is_block = empty_block said.stages (set lines number line) after.notes after.text.items none empty;
+      (omega (arith, at, within, count)) (omega (arith, is, below, few, long)) told w.stages w.are_lines));
+  is_block = empty_block (set lines place line) after.notes after.text.items none empty;
 }
   where
     few : said.stages ≤ 6
     few = w.few
 
-    count : length lines ≡ 144
+    count : length lines ≡ 192
     count = w.count
 
 -- another block is kept
-pub with_block : (said : SetNotes) (start : List ℕ) (keys lines : List (List ℕ)) (block after : NoteBlock) → IsWriter said start keys lines block → IsBlock said.stages lines after → IsWriter said start keys lines after
+pub with_block : (said : SetNotes) (start : List ℕ) (keys lines : List (List ℕ)) (block after : NoteBlock) → IsWriter said start keys lines block → IsBlock lines after → IsWriter said start keys lines after
 with_block said start keys lines block after w is = record {
   few = w.few;
   begins = w.begins;
@@ -71,11 +72,11 @@ with_block said start keys lines block after w is = record {
 
 -- a row's line and then the block of its notes are the row's text
 pub row_written : (said : SetNotes) (row : RowHead) (notes blocked : ActionSet) (lines : List (List ℕ)) (text old middle last new : List ℕ) → AreOfStages said.stages said.known → AreLines said lines → IsAmong notes said.known
-    → blocked ≡ notes → text ≡ block_text said.stages lines blocked → middle ≡ old ++ line_text (row_line row) → last ≡ text → new ≡ middle ++ last
+    → blocked ≡ notes → text ≡ block_text lines blocked → middle ≡ old ++ line_text (row_line row) → last ≡ text → new ≡ middle ++ last
     → new ≡ old ++ lines_text (row_line row ∷ map (line_of_note said.stages) (notes_of said 0 notes))
 row_written said row notes blocked lines text old middle last new stages are among same block first rest all =
     let own : last ≡ lines_text (map (line_of_note said.stages) (notes_of said 0 notes)) =
-    rest ∙ block ∙ ap (λ (s : ActionSet). block_text said.stages lines s) same ∙ block_is said 0 lines notes stages are among in
+    rest ∙ block ∙ ap (λ (s : ActionSet). block_text lines s) same ∙ block_is said 0 lines notes stages are among in
     all ∙ (λ i. first i ++ own i) ∙ append_assoc old (line_text (row_line row)) (lines_text (map (line_of_note said.stages) (notes_of said 0 notes)))
 
 -- the reasons by number after one more is set

@@ -1,11 +1,11 @@
 //! The notes of a row as one block of text.
-ghost use Rattle.std.specs.Prelude.{◌≡◌, ◌≤◌, ◌*◌, ◌++◌, [], length, OnOk};
-ghost use Rattle.stage_lanes.specs.ActionSets.{IsNone};
-ghost use Rattle.row_text.specs.Notes.{AreOfStages};
-ghost use Rattle.row_text.specs.Blocks.{block_text, IsBlock};
+ghost use Rattle.std.specs.Prelude.{◌≡◌, ◌<◌, ◌++◌, [], length, OnOk, IfSome, IfNone};
+ghost use Rattle.brake_base.specs.Actions.{IsActionAmong};
+ghost use Rattle.stage_lanes.specs.ActionSets.{IsNone, place_of};
+ghost use Rattle.row_text.specs.Blocks.{block_text, IsBlock, IsSplit};
 
 use crate::short_text::ShortText;
-use brake_base::action_number;
+use brake_base::{Action, Back};
 use stage_lanes::ActionSet;
 use std::alloc::AllocError;
 
@@ -16,22 +16,37 @@ pub(crate) struct NoteBlock {
     pub text: Vec<u8>,
 }
 
+/// The place of an action in sets.
+pub(crate) fn action_place(action: Action) -> u8
+    requires { IsActionAmong 12 8 action }
+    ensures value { result ≡ place_of action }
+    ensures below { result < 192 }
+{
+    let back = match action.back {
+        Back::Parent => 0,
+        Back::Child => 1,
+    };
+    ((action.bend - 1) * 2 + back) * 8 + action.stage
+}
+
+/// The place of the set's first action, and the set without it.
+fn split_first(set: ActionSet) -> Option<(u8, ActionSet)>
+    ensures some { IfSome result (λ split. IsSplit set split.0 split.1) }
+    ensures none { IfNone result (IsNone set) }
+{
+    let action = set.first()?;
+    Some((action_place(action), set.except(action)))
+}
+
 /// Appends the line of each action of the set, in the order of their numbers.
-fn put_lines(
-    out: &mut Vec<u8>,
-    lines: &[ShortText],
-    stages: u8,
-    notes: ActionSet,
-) -> Result<(), AllocError>
-    requires stages { stages ≤ 6 }
-    requires lines { 24 * stages ≤ length lines.now }
-    requires notes { AreOfStages stages notes }
-    ensures { OnOk result (out.new.items ≡ out.old.items ++ block_text stages lines.now notes) }
+fn put_lines(out: &mut Vec<u8>, lines: &[ShortText], notes: ActionSet) -> Result<(), AllocError>
+    requires { length lines.now ≡ 192 }
+    ensures { OnOk result (out.new.items ≡ out.old.items ++ block_text lines.now notes) }
 {
     let mut rest = notes;
-    while let Some(action) = rest.first() {
-        lines[usize::from(action_number(action, stages))].put(out)?;
-        rest = rest.except(action);
+    while let Some((place, others)) = split_first(rest) {
+        lines[usize::from(place)].put(out)?;
+        rest = others;
     }
     Ok(())
 }
@@ -48,24 +63,17 @@ impl NoteBlock {
 
     /// Makes it the block of these actions. A block of the same actions stays as it is; after a
     /// refusal it is the block of no action.
-    pub fn turn_to(
-        &mut self,
-        lines: &[ShortText],
-        stages: u8,
-        notes: ActionSet,
-    ) -> Result<(), AllocError>
-        requires stages { stages ≤ 6 }
-        requires lines { 24 * stages ≤ length lines.now }
-        requires notes { AreOfStages stages notes }
-        requires block { IsBlock stages lines.now self.old }
+    pub fn turn_to(&mut self, lines: &[ShortText], notes: ActionSet) -> Result<(), AllocError>
+        requires lines { length lines.now ≡ 192 }
+        requires block { IsBlock lines.now self.old }
         ensures notes { OnOk result (self.new.notes ≡ notes) }
-        ensures block { IsBlock stages lines.now self.new }
+        ensures block { IsBlock lines.now self.new }
     {
         if self.notes == notes {
             return Ok(());
         }
         self.clear();
-        match put_lines(&mut self.text, lines, stages, notes) {
+        match put_lines(&mut self.text, lines, notes) {
             Ok(()) => {
                 self.notes = notes;
                 Ok(())

@@ -3,6 +3,7 @@
 #![tactic(auto)]
 
 mod block;
+mod row_end;
 mod row_words;
 mod row_writer;
 mod short_text;

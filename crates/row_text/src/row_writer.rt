@@ -10,12 +10,13 @@ ghost use Rattle.row_text.specs.Notes.{IsAmong, reason_at, notes_of, GoOnAs};
 ghost use Rattle.row_text.specs.RowWords.{row_start, key_words};
 ghost use Rattle.row_text.specs.Writer.{AreKeyWords};
 
-use crate::block::NoteBlock;
+use crate::block::{NoteBlock, action_place};
+use crate::row_end::RowEnd;
 use crate::row_words::{key_words, note_line, row_start};
 use crate::short_text::ShortText;
 use brake_base::{Action, Key, Mask, Reason, action_number};
 use brake_text::put_word;
-use plan_cert::{RowHead, put_worth};
+use plan_cert::RowHead;
 use stage_lanes::ActionSet;
 use std::alloc::{AllocError, Global};
 use std::marker::Model;
@@ -75,12 +76,12 @@ fn key_place(key: &Key) -> usize
     usize::from(key.attitude.number()) * 6 + usize::from(key.stage)
 }
 
-/// A text of no byte for each number of an action.
+/// A text of no byte for each place of an action in sets.
 fn no_lines(alloc: Global) -> Result<Vec<ShortText>, AllocError>
-    ensures { IfOk result (λ lines. length lines.items ≡ 144) }
+    ensures { IfOk result (λ lines. length lines.items ≡ 192) }
 {
-    let mut lines = Vec::with_capacity(alloc, 144)?;
-    for _ in 0..144u8 {
+    let mut lines = Vec::with_capacity(alloc, 192)?;
+    for _ in 0..192u8 {
         lines.push(ShortText::empty())?;
     }
     Ok(lines)
@@ -100,8 +101,7 @@ fn put_row_line(
 {
     start.put(out)?;
     key.put(out)?;
-    put_worth(out, row.worth)?;
-    put_word(out, b"\n")
+    RowEnd::of(row.worth).put(out)
 }
 
 impl RowWriter {
@@ -179,7 +179,7 @@ impl RowWriter {
     {
         let line = note_line(&mut self.line, action, reason)?;
         let number = usize::from(action_number(action, self.stages));
-        self.lines[number] = line;
+        self.lines[usize::from(action_place(action))] = line;
         self.reasons[number] = reason;
         self.known = self.known.with(action);
         self.block.clear();
@@ -205,8 +205,7 @@ impl RowWriter {
             ∷ map (line_of_note self.old.stages) (notes_of self.old 0 notes))) }
         ensures rows { OnOk result (GoOnAs self.old row.now notes out.old.items out.new.items) }
     {
-        self.block
-            .turn_to(self.lines.as_slice(), self.stages, notes)?;
+        self.block.turn_to(self.lines.as_slice(), notes)?;
         put_row_line(out, &self.start, &self.keys[key_place(&row.key)], row)?;
         put_word(out, self.block.text.as_slice())
     }

@@ -47,6 +47,7 @@ impl ShortText {
     }
 
     /// Appends the bytes.
+    #[inline(always)]
     pub fn put(&self, out: &mut Vec<u8>) -> Result<(), AllocError>
         ensures { OnOk result (out.new.items ≡ out.old.items ++ self.now) }
     {

@@ -1,4 +1,4 @@
-use Rattle.std.proofs.Common.{ℕ, ◌<◌, arith}
+use Rattle.std.proofs.Common.{◌<◌, arith}
 use Rattle.row_text.proofs.WordLengths.{key_words_fit}
 use Rattle.row_text.proofs.row_words.key_words.Goals as goal
 

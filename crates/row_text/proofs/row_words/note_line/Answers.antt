@@ -1,4 +1,4 @@
-use Rattle.std.proofs.Common.{ℕ, ◌<◌, rules}
+use Rattle.std.proofs.Common.{◌<◌, rules}
 use Rattle.row_text.proofs.WordLengths.{note_fits}
 use Rattle.row_text.proofs.row_words.note_line.Goals as goal
 

@@ -1,4 +1,4 @@
-use Rattle.std.proofs.Common.{ℕ, ◌^◌, ◌<◌, arith, rules}
+use Rattle.std.proofs.Common.{◌^◌, ◌<◌, arith, rules}
 use Rattle.row_text.proofs.WordLengths.{row_start_fits}
 use Rattle.row_text.proofs.row_words.row_start.Goals as goal
 

@@ -4,7 +4,7 @@ use Rattle.row_text.proofs.row_writer.put_row_line.Goals as goal
 
 pub returns : goal.returns
 returns c =
-    on_ok_weaker c.put_word.result
-    (row_put c.args.row.now c.args.start.now c.args.key.now c.args.out.now.items c.put.new.out.items c.put-2.new.out.items c.put_worth.new.out.items c.put_word.new.out.items
-    c.requires.start c.requires.key c.in_ok-put.ensures c.in_ok-put-2.ensures c.in_ok-put_worth.ensures)
-    c.put_word.ensures.ok
+    on_ok_weaker c.put-3.result
+    (row_put c.args.row.now c.args.start.now c.args.key.now c.of.result c.args.out.now.items c.put.new.out.items c.put-2.new.out.items c.put-3.new.out.items
+    c.requires.start c.requires.key c.of.ensures c.in_ok-put.ensures c.in_ok-put-2.ensures)
+    c.put-3.ensures

@@ -1,4 +1,4 @@
-use Rattle.std.proofs.Common.{◌≡◌, ℕ, ◌<◌, List, [], ◌∷◌, ◌++◌, length, map, get_or, OnOk, subst, sym, ap, ◌∙◌, arith}
+use Rattle.std.proofs.Common.{◌≡◌, ℕ, ◌<◌, [], ◌∷◌, ◌++◌, length, map, get_or, OnOk, subst, sym, ap, ◌∙◌, arith}
 use Rattle.std.proofs.lemmas.List.{get_or_default}
 use Rattle.std.proofs.lemmas.Result.{on_ok_weaker}
 use Rattle.brake_base.specs.declared.mask.Mask.{Mask}
@@ -6,7 +6,6 @@ use Rattle.cert_lines.specs.Lines.{lines_text, row_line}
 use Rattle.plan_cert.specs.CertText.{line_of_note}
 use Rattle.row_text.specs.RowWords.{row_start}
 use Rattle.row_text.specs.Notes.{SetNotes, IsAmong, notes_of}
-use Rattle.row_text.proofs.BlockTexts.{stages_of_some}
 use Rattle.row_text.proofs.MoreRows.{goes_on}
 use Rattle.row_text.proofs.WriterKept.{with_block, row_written}
 use Rattle.row_text.proofs.row_writer.RowWriter.put_row.Goals as goal
@@ -14,13 +13,7 @@ use Rattle.row_text.proofs.row_writer.RowWriter.put_row.Goals as goal
 pub turn_to-requires : goal.turn_to-requires
 turn_to-requires c =
     let w = c.self.invariant in
-    let among : IsAmong c.args.notes c.self.inside.known = subst (λ (s : SetNotes). IsAmong c.args.notes s.known) (sym c.self.view_is) c.requires.notes in
-    record {
-      stages = w.few;
-      lines = rw c.as_slice.ensures.value (omega (arith, w.count, w.few));
-      notes = stages_of_some c.self.inside.stages c.args.notes c.self.inside.known among w.stages;
-      block = rw c.as_slice.ensures.value w.is_block;
-    }
+    record { lines = rw c.as_slice.ensures.value w.count; block = rw c.as_slice.ensures.value w.is_block }
 
 pub key_place-requires : goal.key_place-requires
 key_place-requires c =
