@@ -12,3 +12,4 @@ pub mod BoxByBox
 pub mod Solid
 pub mod Lines
 pub mod ReasonLocality
+pub mod ReasonNumbers
