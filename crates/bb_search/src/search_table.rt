@@ -165,10 +165,12 @@ impl SearchTable {
         requires blocked { AreCosts sums.old (λ place. 536870912) }
         ensures { AreSums job.now key.now leads sums.new }
     {
+        // A copy, since what is put might else be taken to change the key.
+        let key = *key;
         let ways = self.lanes.ways(key.mask, key.stage);
         for bend in 1..job.bends() + 1 {
             if leads.contains(bend) {
-                self.put_sums(job, key, bend, ways, sums);
+                self.put_sums(job, &key, bend, ways, sums);
             }
         }
     }
