@@ -37,9 +37,6 @@ one-*ℤ a = same_in _ _ (omega (arith, product_is (pos 1) a))
 pub zero-*ℤ : (a : ℤ) → pos 0 *ℤ a ≡ pos 0
 zero-*ℤ a = same_in _ _ (omega (arith, product_is (pos 0) a))
 
-pub four_sums : (a b c d : ℤ) → (a +ℤ b) +ℤ (c +ℤ d) ≡ (a +ℤ c) +ℤ (b +ℤ d)
-four_sums a b c d = same_in _ _ (omega (arith, sum_is_lem))
-
 pub four_products : (a b c d : ℤ) → (a *ℤ b) *ℤ (c *ℤ d) ≡ (a *ℤ c) *ℤ (b *ℤ d)
 four_products a b c d = same_in _ _ (simp (up-mul, down-mul) (omega arith))
 

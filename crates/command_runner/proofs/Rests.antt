@@ -61,10 +61,6 @@ among_causes : (names : List (List ℕ)) (first before now : ℕ) (content : Opt
 among_causes names first before now None least due = tt
 among_causes names first before now (Some content) least due = inr (due.0, due.1, due.2, due.3, (omega (arith, least, due.4.0), due.4.1))
 
--- a call that was to fail, after the files were fetched
-pub cause_later : (names : List (List ℕ)) (first before now : ShelfState) → before.content ≡ first.content → first.calls ≤ before.calls → HasDueCall before now → HasCause names first now
-cause_later names first before now same least due = among_causes names first.calls before.calls now.calls first.content least (rw same at due)
-
 -- one call for each file
 fetches_files : (form : List WordKind) (words : List (List ℕ)) (files : List FileWord) (a b : ShelfState) → files ≡ file_words form → OnlyFetches (length files) a b → OnlyFetches (length (files_of form words)) a b
 fetches_files form words files a b is only =

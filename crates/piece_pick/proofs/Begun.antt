@@ -98,10 +98,6 @@ taken_more tool p (v ∷ wants) (y ∷ picked) zero x w within few want here =
 taken_more tool p (v ∷ wants) (y ∷ picked) (suc i) x w within few want here =
     let later = taken_more tool p wants picked i x w (omega arith) (omega arith) want here in omega (arith, later)
 
-pub taken_all : (tool : Tool) (p : ℤ) (wants : List Want) (picked : List (ArrayVec ℤ)) (i : ℕ) → length picked ≤ i
-    → taken tool p wants (lists_of (take i picked)) ≡ taken tool p wants (lists_of picked)
-taken_all tool p wants picked i past = ap (λ (ps : List (ArrayVec ℤ)). taken tool p wants (lists_of ps)) (take_all i picked past)
-
 -- ---- the pieces of any want that has none yet
 pub record HasPieces (wants : List Want) (before : List (List ℤ)) (choice : List (List ℤ)) (want : Want) : Type 0 where
   pub pieces : List ℤ

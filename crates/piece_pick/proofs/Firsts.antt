@@ -155,9 +155,6 @@ makes_up wanted supply pieces is_supply drawn long sum few = record {
     has_some [] is = absurd (omega (arith, ints))
     has_some (x ∷ xs) is = omega arith
 
-held_still : (a b n e m taken_now : ℕ) (c d : ℕ) → n ≡ min (min (a - b) (c - d)) e → m ≤ n → b ≤ a → taken_now ≡ b + m → taken_now ≤ a
-held_still a b n e m taken_now c d is small before now = omega arith
-
 pub part_push : (tools : ToolsData) (wants : List Want) (before : List (List ℤ)) (want : Want) (supply pieces : List ℤ)
     → IsPart tools wants before → IsNext wants before want → IsSupply supply → IsLeftFor tools wants before want supply
     → IsDrawn pieces supply → pos 1 ≤ℤ want.length → total pieces ≡ want.length → length pieces ≤ most_pieces

@@ -8,10 +8,6 @@ use Rattle.sector_geom.specs.SpecialPoints.{IsBeside, IsPast}
 use Rattle.sector_geom.proofs.ClearLaw.{clear_law}
 use Rattle.sector_geom.proofs.CoverShape.{testable}
 
-pub clear_beside : (s : Sector) (r : Rect) → IsBeside s r → IsClear s r
-clear_beside s r (inl a) = inl a
-clear_beside s r (inr b) = inr (inl b)
-
 pub clear_past : (s : Sector) (r : Rect) → IsPast s r → IsClear s r
 clear_past s r past = inr (inr past)
 

@@ -157,9 +157,6 @@ far_back l u r n p d c = record {
   beyond = rw (norm-back p) c.beyond;
 }
 
-minus_side : (a b c d : ℤ) → (a *ℤ b) ≤ℤ (c *ℤ d) → (neg_ℤ d *ℤ c) ≤ℤ (neg_ℤ b *ℤ a)
-minus_side a b c d h = le_from (nonneg_as (ring (a ∷ b ∷ c ∷ d ∷ []) (minus (var 1) ⊗ var 0 ⊖ minus (var 3) ⊗ var 2) (var 2 ⊗ var 3 ⊖ var 0 ⊗ var 1) tt) (le_to h))
-
 far_right : (l u : Point) (r : Rect) (n : ℤ) (p : Point) (d : ℤ) → FarCase l u r n p d → pos 0 <ℤ p.0 → (r.z0 *ℤ p.0) ≤ℤ (p.1 *ℤ r.y1) → (p.1 *ℤ r.y1) ≤ℤ (r.z1 *ℤ p.0) → ⊥
 far_right l u r n p d c py low high = cases (by_sign p.1)
   where

@@ -45,9 +45,6 @@ rises low (x ∷ xs) (suc i) (suc j) up order within = rises x xs i j (both (int
 ascending : T (ascends (pos 1) SCALES)
 ascending = tt
 
-same_scales : scales ≡ SCALES
-same_scales = refl
-
 -- each scale is one of a picture
 pub is_scale : (i : ℕ) → i < 62 → IsScale (get_or SCALES i (pos 0))
 is_scale i within = record {

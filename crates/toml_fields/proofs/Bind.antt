@@ -51,13 +51,3 @@ checked_is_within low high (Some m) n given = by_tests (int_le low m) (int_le m 
 pub gives_ok : {X Y E : Type 0} (view : X → Y) (result : Result X E) (defined : Result Y E) (P : Y → Type 0) → Gives view result defined → ((y : Y) → defined ≡ Ok y → P y) → IfOk result (λ x. P (view x))
 gives_ok view (Ok x) defined P given all = all (view x) given
 gives_ok view (Err e) defined P given all = tt
-
--- the same, where memory may run out
-pub gives_or_ok : {X Y E : Type 0} (no_memory : E) (view : X → Y) (result : Result X E) (defined : Result Y E) (P : Y → Type 0) → GivesOr no_memory view result defined → ((y : Y) → defined ≡ Ok y → P y) → IfOk result (λ x. P (view x))
-gives_or_ok no_memory view (Ok x) defined P given all = all (view x) given
-gives_or_ok no_memory view (Err e) defined P given all = tt
-
--- what gives exactly what is defined does so where memory may run out
-pub gives_or : {X Y E : Type 0} (no_memory : E) (view : X → Y) (result : Result X E) (defined : Result Y E) → Gives view result defined → GivesOr no_memory view result defined
-gives_or no_memory view (Ok x) defined given = given
-gives_or no_memory view (Err e) defined given = inr given
