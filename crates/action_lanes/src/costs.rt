@@ -9,7 +9,7 @@ ghost use Rattle.action_lanes.specs.Costs.{cost_at, sum_costs, AreCosts, AreBits
 ghost use Rattle.action_lanes.specs.Cheapest.{IsLeastIn, AreCheapest};
 
 use brake_base::{Action, Back, Mask};
-use stage_lanes::{ActionSet, BLOCKED, StageCosts, StageSet};
+use stage_lanes::{ActionSet, BLOCKED, StageCosts, StageSet, side};
 
 /// A cost for each action of the bends 1 to 12 at the stages 0 to 7, in tenths of a second. The
 /// actions of a bend with one side at the back stand together, a lane for each stage; an action's
@@ -269,18 +269,4 @@ fn with_eighth(bits: u64, eighth: u8, stages: StageSet) -> u64
         || (bit / 8 == eighth && Stages.has stages (bit % 8))) }
 {
     bits | (u64::from(stages.0) << (8 * eighth))
-}
-
-/// Where a bend with this side at the back stands among the 24.
-fn side(bend: u8, back: Back) -> u8
-    requires first { 1 ≤ bend }
-    requires last { bend ≤ 12 }
-    ensures value { result ≡ side_of bend back }
-    ensures below { result < 24 }
-{
-    let back = match back {
-        Back::Parent => 0,
-        Back::Child => 1,
-    };
-    (bend - 1) * 2 + back
 }

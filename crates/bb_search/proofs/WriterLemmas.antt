@@ -17,10 +17,10 @@ use Rattle.cert_lines.specs.Lines.{CertLine, lines_text, row_line}
 use Rattle.plan_cert.specs.CertText.{line_of_note}
 use Rattle.row_pool.specs.Index.{HasPlace}
 use Rattle.row_pool.specs.Rows.{Pool, PoolRow, keys, reason_at, common_at}
-use Rattle.row_text.specs.Notes.{SetNotes, IsAmong, number_at, note_at, notes_of}
+use Rattle.plan_lines.specs.NoteLines.{number_at}
+use Rattle.row_text.specs.Notes.{SetNotes, IsAmong, note_at, notes_of}
 use Rattle.row_text.specs.Notes.{reason_at as reason_of}
-use Rattle.row_text.proofs.ActionPlaces.{number_of_place}
-use Rattle.plan_lines.proofs.NoteSets.{one_more, skip, keep}
+use Rattle.plan_lines.proofs.NoteSets.{one_more, skip, keep, number_of_place}
 use Rattle.bb_search.specs.CertRows.{IsHeadOf}
 use Rattle.bb_search.specs.WrittenRows.{AreWritable, IsWriterOf, is_noted, noted_places, known, row_note, row_notes, row_text}
 use Rattle.bb_search.proofs.CertLemmas.{mapped}

@@ -7,7 +7,7 @@ use Rattle.brake_base.specs.declared.reason.Reason.{Reason}
 use Rattle.stage_lanes.specs.ActionSets.{numbers_below}
 use Rattle.row_pool.specs.Rows.{Pool, IsPool, reason_at}
 use Rattle.plan_lines.specs.declared.note.Note.{Note}
-use Rattle.row_text.specs.Notes.{number_at}
+use Rattle.plan_lines.specs.NoteLines.{number_at}
 use Rattle.row_text.proofs.ActionPlaces.{number_at_below}
 use Rattle.plan_lines.proofs.NoteSets.{one_more, skip, keep}
 use Rattle.std.proofs.lemmas.Bool.{and_parts}

@@ -22,7 +22,8 @@ use Rattle.cert_lines.specs.JobText.{job_lines}
 use Rattle.cert_lines.specs.Lines.{CertLine, lines_text, format_line, claim_line, step_line, row_line}
 use Rattle.plan_cert.specs.CertText.{line_of_note, rows_lines}
 use Rattle.cert_lines.specs.Lines.{IsWorth}
-use Rattle.row_text.specs.Notes.{SetNotes, number_at}
+use Rattle.plan_lines.specs.NoteLines.{number_at}
+use Rattle.row_text.specs.Notes.{SetNotes}
 use Rattle.row_text.specs.Notes.{reason_at as reason_of}
 use Rattle.bb_search.specs.CertRows.{row_order, row_of_order, AreSortedRows, AreHeads, note_order}
 use Rattle.bb_search.specs.CertRows.{AreNotes}

@@ -3,7 +3,8 @@ ghost use Rattle.std.specs.Prelude.{◌≡◌, ◌≢◌, ◌<◌, ◌++◌, Non
 ghost use Rattle.stage_lanes.specs.ActionSets.{has_place};
 ghost use Rattle.row_pool.specs.Rows.{Pool, reason_at, common_at};
 ghost use Rattle.plan_cert.specs.WellFormed.{IsWellFormed};
-ghost use Rattle.row_text.specs.Notes.{IsAmong, AreOfStages, number_at};
+ghost use Rattle.plan_lines.specs.NoteLines.{number_at};
+ghost use Rattle.row_text.specs.Notes.{IsAmong, AreOfStages};
 ghost use Rattle.bb_search.specs.WrittenRows.{beginning_text, without_rows, AreWritable, IsWriterOf, row_text};
 
 use crate::certificate::row_head;

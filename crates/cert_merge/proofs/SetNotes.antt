@@ -32,9 +32,10 @@ use Rattle.cert_lines.specs.Lines.{IsWorth}
 use Rattle.plan_lines.proofs.Actions.{few_actions}
 use Rattle.plan_cert.proofs.ReasonRanges.{reason_ranged}
 use Rattle.plan_cert.proofs.RowOrder.{few_stages}
-use Rattle.row_text.specs.Notes.{SetNotes, IsAmong, number_at, reason_at, note_at, notes_of, GoOnAs}
-use Rattle.row_text.proofs.ActionPlaces.{number_of_place, stage_of_place, same_place}
-use Rattle.plan_lines.proofs.NoteSets.{one_more, keep, skip}
+use Rattle.plan_lines.specs.NoteLines.{number_at}
+use Rattle.row_text.specs.Notes.{SetNotes, IsAmong, reason_at, note_at, notes_of, GoOnAs}
+use Rattle.row_text.proofs.ActionPlaces.{same_place}
+use Rattle.plan_lines.proofs.NoteSets.{one_more, keep, skip, number_of_place, stage_of_place}
 use Rattle.cert_merge.specs.declared.set_writer.SetWriter.{SetWriter}
 use Rattle.cert_merge.specs.declared.settled_sets.SettledSet.{SettledSet}
 use Rattle.cert_merge.specs.declared.settled_sets.SettledSets.{SettledSets}

@@ -9,7 +9,8 @@ use Rattle.stage_lanes.specs.ActionSets.{has_place}
 use Rattle.stage_lanes.specs.Codes.{IsCoded}
 use Rattle.cert_lines.specs.Lines.{lines_text}
 use Rattle.plan_cert.specs.CertText.{rows_lines}
-use Rattle.row_text.specs.Notes.{SetNotes, IsAmong, number_at, reason_at}
+use Rattle.plan_lines.specs.NoteLines.{number_at}
+use Rattle.row_text.specs.Notes.{SetNotes, IsAmong, reason_at}
 use Rattle.cert_merge.specs.declared.noted_row.NotedRow.{NotedRow}
 use Rattle.cert_merge.specs.declared.set_writer.SetWriter.{SetWriter}
 use Rattle.cert_merge.specs.declared.settled_sets.SettledSet.{SettledSet}

@@ -1,5 +1,5 @@
 -- Notes that are held and forgotten, and many answers of a reader at once.
-use Rattle.std.proofs.Common.{◌≡◌, ℕ, zero, suc, Bool, true, false, ◌&&◌, ◌==◌, eqb-true, List, [], ◌∷◌, ◌++◌, length, map, replicate, set, get_or, Option, Some, None, Result, Ok, refl, ap, sym, subst, ◌∙◌, arith, inl, inr, All}
+use Rattle.std.proofs.Common.{◌≡◌, ℕ, zero, suc, ◌+◌, Bool, true, false, ◌&&◌, ◌==◌, eqb-true, List, [], ◌∷◌, ◌++◌, length, map, replicate, set, get_or, Option, Some, None, Result, Ok, refl, ap, sym, subst, ◌∙◌, arith, inl, inr, All}
 use lib.Pointwise.{pointwise}
 use Rattle.std.proofs.lemmas.Bool.Decides.{eqb_tells}
 use Rattle.std.proofs.lemmas.List.{get_or-set_other}
@@ -19,10 +19,12 @@ use Rattle.plan_lines.specs.declared.line_place.LinePlace.{LinePlace}
 use Rattle.plan_lines.specs.declared.job_facts.JobFacts.{JobFacts}
 use Rattle.plan_lines.specs.declared.known_note.KnownNote.{KnownNote}
 use Rattle.plan_lines.specs.declared.note_run.NoteRun.{NoteRun}
+use Rattle.plan_lines.specs.declared.note_run.NoteBlock.{NoteBlock}
+use Rattle.brake_base.specs.Actions.{number_of_action}
 use Rattle.cert_lines.specs.LineReading.{lines_in}
 use Rattle.plan_lines.specs.Items.{plan_items}
 use Rattle.plan_lines.specs.Reading.{LeavesPlan, LeavesIn, LeavesAt}
-use Rattle.plan_lines.specs.NoteLines.{KnownReasons, note_told, notes_told, IsKnownAt, AreKnownAll, KnowsNoMore, KnowsAtMost, LearnsFrom, reason_of, known_reasons, IsHeld, AreHeld, numbers_on, IsTaken, GivesAll}
+use Rattle.plan_lines.specs.NoteLines.{KnownReasons, note_told, notes_told, IsKnownAt, AreKnownAll, KnowsNoMore, KnowsAtMost, LearnsFrom, reason_of, known_reasons, IsHeld, AreHeld, MayStand, MayFollow, IsBlock, numbers_on, IsTaken, GivesAll}
 use Rattle.plan_lines.proofs.Kept.{none_kept, one_kept}
 use Rattle.plan_lines.proofs.NoteSets.{no_places}
 use Rattle.plan_lines.proofs.NoteRuns.{reason_is}
@@ -40,6 +42,35 @@ none_by (suc n) (suc number) = none_by n number
 
 pub held_more : (facts : JobFacts) (held : List (Option KnownNote)) (number : ℕ) (note : KnownNote) → IsHeld facts number note → AreHeld facts held → AreHeld facts (set held number (Some note))
 held_more facts held number note is are = one_kept (IsHeld facts) held number note is are
+
+-- ---- blocks of notes that are held, where one is held more
+stands_still : (facts : JobFacts) (held : List (Option KnownNote)) (leads : Mask) (least number : ℕ) (note new : KnownNote) → get_or held number None ≡ None → MayStand facts held leads least note → MayStand facts (set held number (Some new)) leads least note
+stands_still facts held leads least number note new free stands = record {
+  is_held = elim (eqb_tells (number_of_action facts.stages note.action) number) [
+    | inl here ↦ absurd (none-some note (sym free ∙ ap (λ (n : ℕ). get_or held n None) (sym here.1) ∙ stands.is_held))
+    | inr there ↦ get_or-set_other held number (number_of_action facts.stages note.action) (Some new) None there.1 ∙ stands.is_held
+  ];
+  from_least = stands.from_least;
+  is_lead = stands.is_lead;
+}
+
+follow_still : (facts : JobFacts) (held : List (Option KnownNote)) (leads : Mask) (least number next : ℕ) (new : KnownNote) (notes : List KnownNote) → get_or held number None ≡ None → MayFollow facts held leads least notes next
+    → MayFollow facts (set held number (Some new)) leads least notes next
+follow_still facts held leads least number next new [] free same = same
+follow_still facts held leads least number next new (note ∷ notes) free follow =
+    (stands_still facts held leads least number note new free follow.0, follow_still facts held leads (number_of_action facts.stages note.action + 1) number next new notes free follow.1)
+
+pub blocks_still : (facts : JobFacts) (held : List (Option KnownNote)) (number : ℕ) (new : KnownNote) (blocks : List NoteBlock) → get_or held number None ≡ None → All (IsBlock facts held) blocks → All (IsBlock facts (set held number (Some new))) blocks
+blocks_still facts held number new blocks free are = λ k d within.
+    let block = get_or blocks k d in
+    let is = are k d within in
+    record {
+      taken = is.taken;
+      follow = follow_still facts held block.leads 0 number block.least new is.taken free is.follow;
+      is_text = is.is_text;
+      are = is.are;
+      few = is.few;
+    }
 
 got : (held : List (Option KnownNote)) (number : ℕ) (note : KnownNote) (known : Reason) → reason_of (get_or (set held number (Some note)) number None) ≡ Some known → Some note.reason ≡ Some known
 got [] zero note known is = absurd (none-some known is)

@@ -158,13 +158,14 @@ pub record IsBlock (facts : JobFacts) (held : List (Option KnownNote)) (block : 
   pub are : AreOf facts block.notes block.count block.least taken
   pub few : block.count ≤ block.least
 
--- what lines of notes are kept, and for which job
-pub record AreNoteLines (facts : JobFacts) (held : List (Option KnownNote)) (leads : SetLeads)
-    (block : NoteBlock) : Type 0 where
+-- what lines of notes are kept and which were read, and for which job
+pub record AreNoteLines (facts : JobFacts) (held read : List (Option KnownNote)) (leads : SetLeads)
+    (blocks : List NoteBlock) : Type 0 where
   pub few : HasFew facts
   pub are_held : AreHeld facts held
+  pub are_read : AreHeld facts read
   pub are_leads : AreLeads facts leads
-  pub is_block : IsBlock facts held block
+  pub are_blocks : All (IsBlock facts held) blocks
 
 -- the number of the line behind so many lines
 abbrev pub numbers_on : ℕ → ℕ → ℕ

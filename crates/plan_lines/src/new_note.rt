@@ -12,6 +12,7 @@ ghost use Rattle.plan_lines.specs.PlanItem.{item_of};
 ghost use Rattle.plan_lines.specs.Reading.{IsNextLine, LeavesAt, GivesNext};
 
 use crate::item::PlanItem;
+use crate::job_facts::JobFacts;
 use crate::known_note::{KnownNote, note_of};
 use crate::line_place::{LinePlace, next_number};
 use crate::note_lines::NoteLines;
@@ -32,9 +33,26 @@ fn first_note<'a>(text: &'a [u8], bends: u8, stages: u8) -> Option<(KnownNote<'a
     Some((note, rest))
 }
 
+/// The same, where the line was read before without reading its words.
+fn front_note<'a>(
+    known: &NoteLines<'a>,
+    facts: &JobFacts,
+    text: &'a [u8],
+) -> Option<(KnownNote<'a>, &'a [u8])>
+    requires { facts.now.bends ≤ 12 }
+    ensures known { IfSome result (λ x. IsKnown facts.now.bends facts.now.stages x.0) }
+    ensures cut { IfSome result (λ x. IsCut text.now x.0.line.now x.1.now) }
+{
+    match known.read_before(facts, text) {
+        Some(read) => Some(read),
+        None => first_note(text, facts.bends, facts.stages),
+    }
+}
+
 /// The note whose line stands at the front of the text, where it may stand there, with its item; and
 /// where the next line stands, and the text behind the line.
 fn next_noted<'a>(
+    known: &NoteLines<'a>,
     place: &LinePlace,
     text: &'a [u8],
 ) -> Option<(KnownNote<'a>, PlanItem, Section, &'a [u8])>
@@ -49,7 +67,7 @@ fn next_noted<'a>(
     let facts = &place.facts;
     match &place.section {
         Section::Notes(key, least) => {
-            let (note, rest) = first_note(text, facts.bends, facts.stages)?;
+            let (note, rest) = front_note(known, facts, text)?;
             let (item, section) = noted(facts, key, *least, note.action, note.reason)?;
             Some((note, item, section, rest))
         }
@@ -78,7 +96,7 @@ pub fn note_behind_job<'a>(
     ensures place { IsNone result → reader.new.place ≡ reader.old.place }
     ensures unread { IsNone result → reader.new.rest.now ≡ reader.old.rest.now }
 {
-    match next_noted(&reader.place, reader.rest) {
+    match next_noted(known, &reader.place, reader.rest) {
         Some((note, item, section, rest)) => {
             known.keep(&reader.place.facts, &note);
             reader.rest = rest;

@@ -1,6 +1,7 @@
-//! The lines of notes that are known by their actions, and those of the last row as one text. Rows of
-//! a set have mostly the same notes, and notes that are known needn't be read one by one.
-ghost use Rattle.std.specs.Prelude.{◌≡◌, ℕ, ◌+◌, ◌≤◌, ◌++◌, List, length, Option, Result, None, true, IsTrue};
+//! The lines of notes that are known by their actions, and those of the last row at each stage as one
+//! text. Rows of a set have mostly the notes of the row before, or of the last one at their stage, and
+//! notes that are known needn't be read one by one.
+ghost use Rattle.std.specs.Prelude.{◌≡◌, ℕ, ◌+◌, ◌≤◌, ◌++◌, All, List, length, Option, Result, None, true, IsTrue, IfSome};
 ghost use Rattle.brake_base.specs.declared.mask.Mask.{Mask};
 ghost use Rattle.brake_base.specs.Actions.{number_of_action};
 ghost use Rattle.job_setup.specs.Setup.{JobData};
@@ -12,12 +13,14 @@ ghost use Rattle.stage_lanes.specs.ActionSets.{places_of};
 ghost use Rattle.plan_lines.specs.Facts.{HasFew, KeepsFacts};
 ghost use Rattle.plan_lines.specs.KnownNote.{IsKnown};
 ghost use Rattle.plan_lines.specs.Reading.{LeavesAt};
-ghost use Rattle.cert_lines.specs.LineReading.{IsBehind};
+ghost use Rattle.cert_lines.specs.LineReading.{IsBehind, IsCut};
 ghost use Rattle.plan_lines.specs.NoteLines.{KnownReasons, reason_by, KnowsNoMore, KnowsAtMost, IsRun, IsBlock, IsTaken, notes_told, AreKnownAll, GivesAll, numbers_on};
 
 use crate::job_facts::JobFacts;
 use crate::known_note::{KnownNote, is_of};
-use crate::note_run::{NoteBlock, NoteRun, take_lines};
+use crate::note_run::{
+    NoteBlock, NoteRun, behind_note, held_at, is_free, likely_number, take_lines,
+};
 use crate::plan_reader::PlanReader;
 use crate::section::Section;
 use crate::set_leads::SetLeads;
@@ -27,13 +30,18 @@ use stage_lanes::ActionSet;
 use std::marker::Model;
 
 /// Notes of which the lines are known, one for each action at most, from the texts of one kind of
-/// job. They are seen as the number of stages and the reasons by the numbers of the actions.
+/// job. They are seen as the number of stages and the reasons by the numbers of the actions. The
+/// lines that were read stay when the notes are forgotten, so that none is read word by word twice.
 #[derive(Drop)]
 pub struct NoteLines<'a> {
     facts: JobFacts,
     notes: [Option<KnownNote<'a>>; 144],
+    read: [Option<KnownNote<'a>>; 144],
     leads: SetLeads,
-    block: NoteBlock<'a>,
+    /// The notes of the last row at each stage that hadn't those of the row before it, and the stage
+    /// at which those of the last row stand.
+    blocks: [NoteBlock<'a>; 8],
+    last: u8,
 }
 
 impl<'a> Model for NoteLines<'a> {
@@ -43,7 +51,7 @@ impl<'a> Model for NoteLines<'a> {
 
     ghost view = { λ t. known_reasons t.facts.stages t.notes };
 
-    ghost invariant = { λ t. AreNoteLines t.facts t.notes t.leads t.block };
+    ghost invariant = { λ t. AreNoteLines t.facts t.notes t.read t.leads t.blocks };
 }
 
 /// Whether the masks are the same.
@@ -94,7 +102,7 @@ fn no_run<'a>(least: u8, text: &'a [u8]) -> NoteRun<'a>
 }
 
 /// The notes of the block, where the text behind a row goes on with them, or else none.
-fn first_run<'a>(block: &NoteBlock, leads: Mask, least: u8, text: &'a [u8]) -> NoteRun<'a>
+fn run_of<'a>(block: &NoteBlock, leads: Mask, least: u8, text: &'a [u8]) -> NoteRun<'a>
     ensures run { (facts : JobFacts) (held : List (Option KnownNote)) → IsBlock facts held block.now
         → (result.count ≤ result.least) × IsRun facts held leads least text.now result }
 {
@@ -109,6 +117,35 @@ fn first_run<'a>(block: &NoteBlock, leads: Mask, least: u8, text: &'a [u8]) -> N
             rest,
         },
         None => no_run(least, text),
+    }
+}
+
+/// The notes of a stage's block, where the text behind a row goes on with them, or else none.
+fn run_at<'a>(
+    blocks: &[NoteBlock; 8],
+    stage: u8,
+    leads: Mask,
+    least: u8,
+    text: &'a [u8],
+) -> NoteRun<'a>
+    ensures run { (facts : JobFacts) (held : List (Option KnownNote))
+        → All (IsBlock facts held) blocks.now
+        → (result.count ≤ result.least) × IsRun facts held leads least text.now result }
+{
+    run_of(&blocks[usize::from(stage % 8)], leads, least, text)
+}
+
+/// That of two runs which has more notes.
+fn longer<'a>(run: &NoteRun<'a>, other: &NoteRun<'a>) -> NoteRun<'a>
+    ensures { (facts : JobFacts) (held : List (Option KnownNote)) (leads : Mask) (least : ℕ)
+        (text : List ℕ) → (run.now.count ≤ run.now.least) × IsRun facts held leads least text run.now
+        → (other.now.count ≤ other.now.least) × IsRun facts held leads least text other.now
+        → (result.count ≤ result.least) × IsRun facts held leads least text result }
+{
+    if run.count < other.count {
+        *other
+    } else {
+        *run
     }
 }
 
@@ -152,8 +189,10 @@ impl<'a> NoteLines<'a> {
         NoteLines {
             facts,
             notes: [None; 144],
+            read: [None; 144],
             leads: SetLeads::none(),
-            block: no_block(),
+            blocks: [no_block(); 8],
+            last: 0,
         }
     }
 
@@ -163,7 +202,7 @@ impl<'a> NoteLines<'a> {
         ensures none { (number : ℕ) → reason_by self.new number ≡ None }
     {
         self.notes = [None; 144];
-        self.block = no_block();
+        self.blocks = [no_block(); 8];
     }
 
     /// Turns to texts of a job of which this is kept, and forgets all notes where the job is another.
@@ -177,11 +216,6 @@ impl<'a> NoteLines<'a> {
         }
     }
 
-    /// Whether no note is known at a number.
-    fn is_free(&self, number: u8) -> bool {
-        matches!(self.notes.get(usize::from(number)), Some(None))
-    }
-
     /// Keeps a note of a job of so many bends and stages, where none is known of its action. A second
     /// reason of an action isn't worth it: in a text that alternates between two, each row would
     /// forget the notes of the row before.
@@ -193,9 +227,10 @@ impl<'a> NoteLines<'a> {
     {
         if is_of(facts.bends, facts.stages, &self.facts) {
             let number = action_number(note.action, facts.stages);
-            if self.is_free(number) {
-                self.notes[usize::from(number)] = Some(*note);
-                self.block = no_block();
+            if is_free(&self.notes, number) {
+                let index = usize::from(number);
+                self.notes[index] = Some(*note);
+                self.read[index] = Some(*note);
             }
         }
     }
@@ -213,9 +248,35 @@ impl<'a> NoteLines<'a> {
         }
     }
 
-    /// Takes the known notes with whose lines the text goes on, where these bends are folded and a
-    /// note's action has at least this number.
-    pub fn take(&mut self, facts: &JobFacts, folded: Mask, least: u8, text: &'a [u8]) -> NoteRun<'a>
+    /// The note whose line stands at the front of a text of a job, and the text behind the line, where
+    /// such a line was read before.
+    pub fn read_before<'b>(
+        &self,
+        facts: &JobFacts,
+        text: &'b [u8],
+    ) -> Option<(KnownNote<'a>, &'b [u8])>
+        ensures known { IfSome result (λ x. IsKnown facts.now.bends facts.now.stages x.0) }
+        ensures cut { IfSome result (λ x. IsCut text.now x.0.line.now x.1.now) }
+    {
+        if !is_of(facts.bends, facts.stages, &self.facts) {
+            return None;
+        }
+        let number = likely_number(text, self.facts.stages)?;
+        let note = held_at(&self.read, number)?;
+        let rest = behind_note(text, &note)?;
+        Some((note, rest))
+    }
+
+    /// Takes the known notes with whose lines the text goes on behind a row at this stage, where these
+    /// bends are folded and a note's action has at least this number.
+    pub fn take(
+        &mut self,
+        facts: &JobFacts,
+        folded: Mask,
+        stage: u8,
+        least: u8,
+        text: &'a [u8],
+    ) -> NoteRun<'a>
         requires { HasFew facts.now }
         ensures same { self.new ≡ self.old }
         ensures taken { IsTaken facts.now self.old folded least text.now result }
@@ -226,12 +287,17 @@ impl<'a> NoteLines<'a> {
         let own = self.facts;
         let turned = self.leads.turned_to(&own, folded);
         let leads = turned.leads;
-        let block = self.block;
-        let mut run = first_run(&block, leads, least, text);
-        take_lines(&self.notes, &own, leads, &mut run);
         self.leads = turned;
+        let last = run_at(&self.blocks, self.last, leads, least, text);
+        if !begins_with_note(last.rest) {
+            return last;
+        }
+        let other = run_at(&self.blocks, stage, leads, least, text);
+        let mut run = longer(&last, &other);
+        take_lines(&self.notes, &own, leads, &mut run);
         if least == 0 {
-            self.block = block_of(leads, text, &run);
+            self.blocks[usize::from(stage % 8)] = block_of(leads, text, &run);
+            self.last = stage;
         }
         run
     }
@@ -265,7 +331,7 @@ pub fn take_notes<'a>(reader: &mut PlanReader<'a>, known: &mut NoteLines<'a>) ->
 {
     match reader.place.section {
         Section::Notes(key, least) if begins_with_note(reader.rest) => {
-            let run = known.take(&reader.place.facts, key.mask, least, reader.rest);
+            let run = known.take(&reader.place.facts, key.mask, key.stage, least, reader.rest);
             reader.rest = run.rest;
             reader.place.number = number_behind(reader.place.number, run.count);
             reader.place.section = Section::Notes(key, run.least);

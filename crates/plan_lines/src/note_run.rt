@@ -1,5 +1,5 @@
 //! Notes that stand behind one another at the front of a text, each with a line that is known.
-ghost use Rattle.std.specs.Prelude.{◌≡◌, ◌++◌, ℕ, ◌≤◌, ◌<◌, List, slice_index_or, None, IfSome};
+ghost use Rattle.std.specs.Prelude.{◌≡◌, ◌++◌, ℕ, ◌≤◌, ◌<◌, List, slice_index_or, None, IfSome, IsTrue};
 ghost use Rattle.brake_base.specs.declared.mask.Mask.{Mask};
 ghost use Rattle.plan_lines.specs.Facts.{HasFew};
 ghost use Rattle.plan_lines.specs.NoteLines.{AreHeld, MayStand, IsRun, IsBlock, line_of};
@@ -42,7 +42,7 @@ fn number_at(side: u8, stages: u8, stage: u8) -> u8
 
 /// The number of the action whose note's line may begin the text. It is a guess: the line itself
 /// must be compared.
-fn likely_number(text: &[u8], stages: u8) -> Option<u8>
+pub fn likely_number(text: &[u8], stages: u8) -> Option<u8>
     requires { stages ≤ 6 }
     ensures { IfSome result (λ number. number < 144) }
 {
@@ -58,15 +58,23 @@ fn likely_number(text: &[u8], stages: u8) -> Option<u8>
 }
 
 /// The note that is held at a number.
-fn held_at<'a>(notes: &[Option<KnownNote<'a>>; 144], number: u8) -> Option<KnownNote<'a>>
+pub fn held_at<'a>(notes: &[Option<KnownNote<'a>>; 144], number: u8) -> Option<KnownNote<'a>>
     requires { number < 144 }
     ensures { result ≡ slice_index_or notes.now number None }
 {
     notes[usize::from(number)]
 }
 
+/// Whether no note is held at a number.
+pub fn is_free(notes: &[Option<KnownNote>; 144], number: u8) -> bool
+    requires { number < 144 }
+    ensures { IsTrue result → slice_index_or notes.now number None ≡ None }
+{
+    held_at(notes, number).is_none()
+}
+
 /// What stands behind the note's line, where the text begins with it.
-fn behind_note<'a>(text: &'a [u8], note: &KnownNote) -> Option<&'a [u8]>
+pub fn behind_note<'a>(text: &'a [u8], note: &KnownNote) -> Option<&'a [u8]>
     ensures { IfSome result (λ rest. text.now ≡ line_of note.now ++ rest.now) }
 {
     let behind = text.strip_prefix(note.line)?;

@@ -1,39 +1,23 @@
 -- The action that has a place in sets, and its number.
-use Rattle.std.proofs.Common.{◌≡◌, ℕ, ◌+◌, ◌-◌, ◌*◌, ◌/◌, ◌%◌, ◌<◌, ◌≤◌, ◌==◌, if◌then◌else◌, arith, refl}
+use Rattle.std.proofs.Common.{◌≡◌, ℕ, ◌+◌, ◌-◌, ◌*◌, ◌/◌, ◌%◌, ◌<◌, ◌≤◌, ◌==◌, if◌then◌else◌, arith}
 use Rattle.std.proofs.lemmas.Nat.{div-mul-add, mod-mul-add, same_from_place}
 use Rattle.std.proofs.lemmas.Grind.{common_steps}
 use Rattle.brake_base.specs.declared.stroke.Back.TheVariants.{Parent, Child}
 use Rattle.brake_base.specs.declared.stroke.Action.{Action}
-use Rattle.brake_base.specs.Actions.{IsActionAmong, back_number, number_of_action}
+use Rattle.brake_base.specs.Actions.{IsActionAmong}
 use Rattle.stage_lanes.specs.ActionSets.{place_of}
 use Rattle.cert_lines.specs.Lines.{action_at}
-use Rattle.plan_lines.proofs.ActionNumbers.{action_of_number, number_below}
-use Rattle.row_text.specs.Notes.{number_at}
+use Rattle.plan_lines.specs.NoteLines.{number_at}
+use Rattle.plan_lines.proofs.ActionNumbers.{action_of_number}
+use Rattle.plan_lines.proofs.NoteSets.{place_below}
 
 -- an action of a machine with fewer stages is one of a machine with eight
 pub among_eight : (stages : ℕ) (action : Action) → stages ≤ 8 → IsActionAmong 12 stages action → IsActionAmong 12 8 action
 among_eight stages action few among = let s = among.stage in record { first = among.first; last = among.last; stage = omega (arith, s, few) }
 
-pub place_below : (action : Action) → IsActionAmong 12 8 action → place_of action < 192
-place_below action among = number_below 12 8 action among.first among.last among.stage
-
 -- the action at an action's place is that action
 pub action_of_place : (action : Action) → IsActionAmong 12 8 action → action ≡ action_at 8 (place_of action)
 action_of_place action among = action_of_number 8 action among (place_below action among)
-
--- a stage is the rest of the place by eight
-pub stage_of_place : (action : Action) → action.stage < 8 → place_of action % 8 ≡ action.stage
-unfolding number_of_action
-stage_of_place action stage = omega (arith, stage)
-
--- an action's number by its place
-pub number_of_place : (stages : ℕ) (action : Action) → action.stage < 8 → number_at stages (place_of action) ≡ number_of_action stages action
-unfolding number_of_action
-number_of_place stages action stage =
-    let side : ((action.bend - 1) * 2 + back_number action.back) * 8 + action.stage ≡ ((action.bend - 1) * 2 + back_number action.back) * 8 + action.stage = refl in
-    let quotient : (((action.bend - 1) * 2 + back_number action.back) * 8 + action.stage) / 8 ≡ (action.bend - 1) * 2 + back_number action.back = omega (arith, stage) in
-    let rest : (((action.bend - 1) * 2 + back_number action.back) * 8 + action.stage) % 8 ≡ action.stage = omega (arith, stage) in
-    λ i. quotient i * stages + rest i
 
 -- the action of the number of a place is that of the place
 pub action_at_number : (stages place : ℕ) → place % 8 < stages → action_at stages (number_at stages place) ≡ action_at 8 place

@@ -12,11 +12,12 @@ use Rattle.stage_lanes.specs.declared.actions.ActionSet.{ActionSet}
 use Rattle.stage_lanes.specs.ActionSets.{has_place, place_of, places_of, ArePlaces, IsNone, IsFirst}
 use Rattle.cert_lines.specs.Lines.{line_text, lines_text, note_line, action_at}
 use Rattle.plan_cert.specs.CertText.{line_of_note}
-use Rattle.row_text.specs.Notes.{SetNotes, IsAmong, AreOfStages, number_at, note_at, notes_of}
-use Rattle.row_text.specs.Blocks.{block_text, IsSplit}
+use Rattle.plan_lines.specs.NoteLines.{number_at}
+use Rattle.row_text.specs.Notes.{SetNotes, IsAmong, AreOfStages, note_at, notes_of}
+use Rattle.row_text.specs.Blocks.{block_text, IsFirstSplit}
 use Rattle.row_text.specs.Writer.{AreLines}
-use Rattle.row_text.proofs.ActionPlaces.{among_eight, place_below, action_of_place, number_of_place, stage_of_place, action_at_number, same_place}
-use Rattle.plan_lines.proofs.NoteSets.{first_place, no_places}
+use Rattle.row_text.proofs.ActionPlaces.{among_eight, action_of_place, action_at_number, same_place}
+use Rattle.plan_lines.proofs.NoteSets.{first_place, no_places, number_of_place, stage_of_place, place_below}
 use Rattle.row_text.proofs.SetLists.{same_texts}
 
 pub stages_of_some : (stages : ℕ) (set other : ActionSet) → IsAmong set other → AreOfStages stages other → AreOfStages stages set
@@ -108,7 +109,7 @@ fewer set rest action first left =
     omega (arith, count)
 
 -- a set's first action and what is left without it
-pub split : (set rest : ActionSet) (action : Action) (place : ℕ) → IsFirst set action → place ≡ place_of action → ArePlaces rest (λ other. has_place set other && not (other == place_of action)) → IsSplit set place rest
+pub split : (set rest : ActionSet) (action : Action) (place : ℕ) → IsFirst set action → place ≡ place_of action → ArePlaces rest (λ other. has_place set other && not (other == place_of action)) → IsFirstSplit set place rest
 split set rest action place first is left = rw is (record {
   within = place_below action first.among;
   member = first.member;
@@ -117,13 +118,13 @@ split set rest action place first is left = rw is (record {
 })
 
 -- what is left has a line less
-pub fewer_split : (set rest : ActionSet) (place : ℕ) → IsSplit set place rest → length (places_of rest) < length (places_of set)
+pub fewer_split : (set rest : ActionSet) (place : ℕ) → IsFirstSplit set place rest → length (places_of rest) < length (places_of set)
 fewer_split set rest place s =
     let count : length (places_of set) ≡ suc (length (places_of rest)) = ap (λ (ps : List ℕ). length ps) (first_place set rest place s.within s.member s.none_before s.without) in
     omega (arith, count)
 
 -- one line more
-pub block_more : (lines : List (List ℕ)) (set rest : ActionSet) (place : ℕ) (line before after whole : List ℕ) → IsSplit set place rest
+pub block_more : (lines : List (List ℕ)) (set rest : ActionSet) (place : ℕ) (line before after whole : List ℕ) → IsFirstSplit set place rest
     → line ≡ get_or lines place [] → before ++ block_text lines set ≡ whole → after ≡ before ++ line → after ++ block_text lines rest ≡ whole
 block_more lines set rest place line before after whole s is told put =
     let all : block_text lines set ≡ get_or lines place [] ++ block_text lines rest =

@@ -14,7 +14,7 @@ abbrev pub IsBlock : List (List ℕ) → NoteBlock → Type 0
 IsBlock lines block = block.text.items ≡ block_text lines block.notes
 
 -- the place is that of a set's first action, and the rest is the set without it
-pub record IsSplit (set : ActionSet) (place : ℕ) (rest : ActionSet) : Type 0 where
+pub record IsFirstSplit (set : ActionSet) (place : ℕ) (rest : ActionSet) : Type 0 where
   pub within : place < 192
   pub member : IsTrue (has_place set place)
   pub none_before : (other : ℕ) → other < place → has_place set other ≡ false

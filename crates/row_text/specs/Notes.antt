@@ -1,5 +1,5 @@
 -- The notes of a row by the set of their actions.
-use Rattle.std.specs.Prelude.{◌≡◌, ℕ, ◌+◌, ◌*◌, ◌/◌, ◌%◌, ◌<◌, IsTrue, List, [], ◌∷◌, ◌++◌, All}
+use Rattle.std.specs.Prelude.{◌≡◌, ℕ, ◌%◌, ◌<◌, IsTrue, List, [], ◌∷◌, ◌++◌, All}
 use Rattle.std.specs.Prelude.{length, map, slice_index_or}
 use Rattle.brake_base.specs.declared.mask.Mask.{Mask}
 use Rattle.brake_base.specs.declared.reason.Reason.{Reason}
@@ -8,6 +8,7 @@ use Rattle.stage_lanes.specs.declared.actions.ActionSet.{ActionSet}
 use Rattle.stage_lanes.specs.ActionSets.{has_place, places_of}
 use Rattle.cert_lines.specs.declared.row_head.RowHead.{RowHead}
 use Rattle.plan_lines.specs.declared.note.Note.{Note}
+use Rattle.plan_lines.specs.NoteLines.{number_at}
 use Rattle.cert_lines.specs.Lines.{lines_text}
 use Rattle.plan_cert.specs.CertText.{rows_lines}
 
@@ -37,10 +38,6 @@ IsAmong set other = (place : ℕ) → place < 192 → IsTrue (has_place set plac
 abbrev pub AreOfStages : ℕ → ActionSet → Type 0
 AreOfStages stages set = (place : ℕ) → place < 192 → IsTrue (has_place set place)
     → place % 8 < stages
-
--- the number, on a machine of so many stages, of the action that has a place in sets
-abbrev pub number_at : ℕ → ℕ → ℕ
-number_at stages place = place / 8 * stages + place % 8
 
 -- the reason against the action of a number
 abbrev pub reason_at : SetNotes → ℕ → Reason

@@ -4,7 +4,8 @@ use Rattle.stage_lanes.specs.ActionSets.{has_place}
 use Rattle.cert_lines.specs.Lines.{line_text, note_line, action_at}
 use Rattle.row_text.specs.declared.block.NoteBlock.{NoteBlock}
 use Rattle.row_text.specs.RowWords.{row_start, key_words}
-use Rattle.row_text.specs.Notes.{SetNotes, AreOfStages, number_at, reason_at}
+use Rattle.plan_lines.specs.NoteLines.{number_at}
+use Rattle.row_text.specs.Notes.{SetNotes, AreOfStages, reason_at}
 use Rattle.row_text.specs.Blocks.{IsBlock}
 
 -- the words of each attitude and each of six stages, by the attitude and then by the stage

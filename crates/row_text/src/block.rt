@@ -1,12 +1,10 @@
 //! The notes of a row as one block of text.
 ghost use Rattle.std.specs.Prelude.{◌≡◌, ◌<◌, ◌++◌, [], length, OnOk, IfSome, IfNone};
-ghost use Rattle.brake_base.specs.Actions.{IsActionAmong};
-ghost use Rattle.stage_lanes.specs.ActionSets.{IsNone, place_of};
-ghost use Rattle.row_text.specs.Blocks.{block_text, IsBlock, IsSplit};
+ghost use Rattle.stage_lanes.specs.ActionSets.{IsNone};
+ghost use Rattle.row_text.specs.Blocks.{block_text, IsBlock, IsFirstSplit};
 
 use crate::short_text::ShortText;
-use brake_base::{Action, Back};
-use stage_lanes::ActionSet;
+use stage_lanes::{ActionSet, place};
 use std::alloc::AllocError;
 
 /// A set of actions, and the lines of their notes.
@@ -16,26 +14,13 @@ pub(crate) struct NoteBlock {
     pub text: Vec<u8>,
 }
 
-/// The place of an action in sets.
-pub(crate) fn action_place(action: Action) -> u8
-    requires { IsActionAmong 12 8 action }
-    ensures value { result ≡ place_of action }
-    ensures below { result < 192 }
-{
-    let back = match action.back {
-        Back::Parent => 0,
-        Back::Child => 1,
-    };
-    ((action.bend - 1) * 2 + back) * 8 + action.stage
-}
-
 /// The place of the set's first action, and the set without it.
 fn split_first(set: ActionSet) -> Option<(u8, ActionSet)>
-    ensures some { IfSome result (λ split. IsSplit set split.0 split.1) }
+    ensures some { IfSome result (λ split. IsFirstSplit set split.0 split.1) }
     ensures none { IfNone result (IsNone set) }
 {
     let action = set.first()?;
-    Some((action_place(action), set.except(action)))
+    Some((place(action), set.except(action)))
 }
 
 /// Appends the line of each action of the set, in the order of their numbers.

@@ -10,14 +10,14 @@ ghost use Rattle.row_text.specs.Notes.{IsAmong, reason_at, notes_of, GoOnAs};
 ghost use Rattle.row_text.specs.RowWords.{row_start, key_words};
 ghost use Rattle.row_text.specs.Writer.{AreKeyWords};
 
-use crate::block::{NoteBlock, action_place};
+use crate::block::NoteBlock;
 use crate::row_end::RowEnd;
 use crate::row_words::{key_words, note_line, row_start};
 use crate::short_text::ShortText;
 use brake_base::{Action, Key, Mask, Reason, action_number};
 use brake_text::put_word;
 use plan_cert::RowHead;
-use stage_lanes::ActionSet;
+use stage_lanes::{ActionSet, place};
 use std::alloc::{AllocError, Global};
 use std::marker::Model;
 
@@ -179,7 +179,7 @@ impl RowWriter {
     {
         let line = note_line(&mut self.line, action, reason)?;
         let number = usize::from(action_number(action, self.stages));
-        self.lines[usize::from(action_place(action))] = line;
+        self.lines[usize::from(place(action))] = line;
         self.reasons[number] = reason;
         self.known = self.known.with(action);
         self.block.clear();

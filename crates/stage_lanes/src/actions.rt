@@ -206,8 +206,8 @@ impl ActionSet {
     }
 }
 
-/// The place of the bits of a bend with this side at the back, in eights.
-fn side(bend: u8, back: Back) -> u8
+/// The place of a bend with this side at the back among the 24, that of its actions in eights.
+pub fn side(bend: u8, back: Back) -> u8
     requires first { 1 ≤ bend }
     requires last { bend ≤ 12 }
     ensures value { result ≡ side_of bend back }
@@ -220,8 +220,8 @@ fn side(bend: u8, back: Back) -> u8
     (bend - 1) * 2 + back
 }
 
-/// The place of an action.
-fn place(action: Action) -> u8
+/// The place of an action in sets.
+pub fn place(action: Action) -> u8
     requires { IsActionAmong 12 8 action }
     ensures value { result ≡ place_of action }
     ensures below { result < 192 }

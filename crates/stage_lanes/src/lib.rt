@@ -8,7 +8,7 @@ mod costs;
 mod reasons;
 mod stages;
 
-pub use actions::ActionSet;
+pub use actions::{ActionSet, place, side};
 pub use codes::StageCodes;
 pub use costs::{BLOCKED, StageCosts};
 pub use reasons::{FREE, code_of, reason_of};

@@ -3,7 +3,7 @@ use Rattle.brake_base.specs.declared.mask.Mask.{Mask}
 use Rattle.brake_base.specs.Actions.{IsActionAmong, number_of_action}
 use Rattle.stage_lanes.specs.ActionSets.{place_of}
 use Rattle.row_pool.specs.Rows.{reason_at, common_at}
-use Rattle.row_text.proofs.ActionPlaces.{number_of_place, place_below}
+use Rattle.plan_lines.proofs.NoteSets.{number_of_place, place_below}
 use Rattle.row_text.proofs.BlockTexts.{stages_of_some, first_among, fewer}
 use Rattle.bb_search.specs.WrittenRows.{IsWriterOf}
 use Rattle.bb_search.proofs.WriterLemmas.{reason_more, waiting_less, none_waits, known_stays, left_among}

@@ -1,13 +1,13 @@
 use Rattle.std.proofs.Common.{◌≡◌, ℕ, ◌<◌, List, [], ◌++◌, length, get_or, ap, sym, ◌∙◌, arith}
 use Rattle.std.proofs.lemmas.List.{append-nil, get_or_default}
-use Rattle.row_text.specs.Blocks.{IsSplit}
+use Rattle.row_text.specs.Blocks.{IsFirstSplit}
 use Rattle.row_text.proofs.BlockTexts.{fewer_split, block_more, block_done}
 use Rattle.row_text.proofs.block.put_lines.Goals as goal
 
 pub loop-place-preserved : goal.loop-place-preserved
 loop-place-preserved c =
     let lines = c.args.lines.now in
-    let split : IsSplit c.loop-place.rest c.in-Some.place c.in-Some.others = c.in-Some.ensures.some in
+    let split : IsFirstSplit c.loop-place.rest c.in-Some.place c.in-Some.others = c.in-Some.ensures.some in
     let few : c.in-Some.place < 192 = split.within in
     let within : c.from.result < length lines = omega (arith, c.from.ensures, few, c.requires) in
     let line : c.index-lines-from.result ≡ get_or lines c.in-Some.place [] =

@@ -1,3 +1,5 @@
+use Rattle.std.proofs.lemmas.List.Elements.{All-replicate}
+use Rattle.plan_lines.specs.NoteLines.{IsBlock}
 use Rattle.plan_lines.proofs.NoteAnswers.{none_held, none_by}
 use Rattle.plan_lines.proofs.note_lines.NoteLines.of.Goals as goal
 
@@ -5,8 +7,9 @@ pub invariant_of-result : goal.invariant_of-result
 invariant_of-result c = record {
   few = c.requires;
   are_held = none_held c.args.facts 144;
+  are_read = none_held c.args.facts 144;
   are_leads = c.none.ensures c.args.facts;
-  is_block = c.no_block.ensures c.args.facts _;
+  are_blocks = All-replicate (IsBlock c.args.facts _) 8 c.no_block.result (c.no_block.ensures c.args.facts _);
 }
 
 pub returns-clause-none : goal.returns-clause-none

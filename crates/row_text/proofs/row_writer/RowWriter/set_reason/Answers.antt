@@ -9,8 +9,8 @@ use Rattle.row_text.proofs.row_writer.RowWriter.set_reason.Goals as goal
 pub action_number-requires-clause-action : goal.action_number-requires-clause-action
 action_number-requires-clause-action c = subst (λ (s : SetNotes). IsActionAmong 12 s.stages c.args.action) (sym c.self.view_is) c.requires.action
 
-pub action_place-requires : goal.action_place-requires
-action_place-requires c =
+pub place-requires : goal.place-requires
+place-requires c =
     among_eight c.self.inside.stages c.args.action (omega (arith, c.self.invariant.few)) (subst (λ (s : SetNotes). IsActionAmong 12 s.stages c.args.action) (sym c.self.view_is) c.requires.action)
 
 pub invariant_of-self-2 : goal.invariant_of-self-2
@@ -21,7 +21,7 @@ invariant_of-self-2 c =
     let below : c.from-number.result < 24 * w.stages = omega (arith, c.from-number.ensures, c.action_number.ensures.below) in
     let long : length w.reasons ≡ 144 = search rules in
     with_reason said w.start w.keys.items w.lines.items w.block c.clear.new.self c.with-self-inside.result c.args.action c.args.reason c.in_ok-line.line c.from-number.result c.from.result c.self.invariant among
-    (c.from-number.ensures ∙ c.action_number.ensures.value) below (c.from.ensures ∙ c.action_place.ensures.value) (omega (arith, c.from.ensures, c.action_place.ensures.below)) long c.with-self-inside.ensures.places c.in_ok-line.ensures c.clear.ensures.notes c.clear.ensures.text
+    (c.from-number.ensures ∙ c.action_number.ensures.value) below (c.from.ensures ∙ c.place.ensures.value) (omega (arith, c.from.ensures, c.place.ensures.below)) long c.with-self-inside.ensures.places c.in_ok-line.ensures c.clear.ensures.notes c.clear.ensures.text
 
 pub returns-clause-reasons : goal.returns-clause-reasons
 returns-clause-reasons c =

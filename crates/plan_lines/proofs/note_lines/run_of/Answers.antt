@@ -3,7 +3,7 @@ use Rattle.std.proofs.lemmas.Bool.Decides.{Decides-eqb}
 use Rattle.std.proofs.lemmas.Slice.Eq.{strip_prefix_is}
 use Rattle.plan_lines.specs.NoteLines.{IsRun}
 use Rattle.plan_lines.proofs.NoteRuns.{block_run}
-use Rattle.plan_lines.proofs.note_lines.first_run.Goals as goal
+use Rattle.plan_lines.proofs.note_lines.run_of.Goals as goal
 
 pub returns-in-Some : goal.returns-in-Some
 returns-in-Some c = record {
