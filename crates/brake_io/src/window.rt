@@ -3,7 +3,7 @@ ghost use Rattle.std.specs.Prelude.{◌≡◌, ◌⊎◌, ◌↔◌, ◌+◌, �
 ghost use Rattle.std.specs.Io.KnownBytes.{IsAtEnd};
 ghost use Rattle.brake_io.specs.Rose.{raised, Rose};
 ghost use Rattle.brake_io.specs.Meanings.{NoCountFalls, IsLonger, MayFailAt};
-ghost use Rattle.brake_io.specs.declared.progress.Progress.TheVariants.{Reading};
+ghost use Rattle.brake_io.specs.declared.progress.Progress.TheVariants.{Reading, Failed, TooLong};
 ghost use Rattle.brake_io.specs.Pieces.{WindowState, opened, IsOpened, IsOver, HasEnough, HasLine, HasMore, GoesOn, IsWhole, IsTooLong, IsReadSoFar, reads_left};
 
 use crate::buffer::{Buffer, CAPACITY};
@@ -248,6 +248,8 @@ impl<R: Reader + Drop> Window<R> {
         ensures failed { IsErrOf result FetchFault.Failed → self.old.left ≡ None }
         ensures longer { IsErrOf result FetchFault.TooLong → IsTooLong self.old }
         ensures no_memory { ¬ IsErrOf result FetchFault.NoMemory }
+        ensures told_failed { IsErrOf result FetchFault.Failed → self.new.progress ≡ Failed }
+        ensures told_longer { IsErrOf result FetchFault.TooLong → self.new.progress ≡ TooLong }
     {
         loop {
             match self.progress() {

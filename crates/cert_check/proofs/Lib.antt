@@ -9,6 +9,7 @@ pub mod ItemLemmas
 pub mod GrowLemmas
 pub mod NoteLemmas
 pub mod KnownLemmas
+pub mod RecallLemmas
 pub mod ReadLemmas
 pub mod CertTexts
 pub mod WindowLemmas

@@ -3,13 +3,15 @@ ghost use Rattle.std.specs.Prelude.{false, ◌≡◌, ◌↔◌, ◌<◌, ◌≤
 ghost use Rattle.brake_base.specs.Masks.{has};
 ghost use Rattle.job_setup.specs.Setup.{bend_count, stage_count};
 ghost use Rattle.handling_cost.specs.Plan.{IsReasonFor};
+ghost use Rattle.stroke_table.specs.Codes.{AreCodesOf};
 ghost use Rattle.cert_check.specs.Standing.{IsStanding};
 
 use arrayvec::ArrayVec;
-use brake_base::{Action, Mask, Place, Reason};
+use brake_base::{Action, Back, Mask, Place, Reason};
 use fold_boxes::place;
 use job_setup::Job;
 use set_facts::LaneFacts;
+use stage_lanes::StageCodes;
 use std::alloc::{AllocError, Global};
 use std::marker::Model;
 use stroke_table::StrokeTable;
@@ -85,6 +87,22 @@ impl CheckTable {
         ensures { result.now ≡ self.now }
     {
         &self.facts
+    }
+
+    /// The codes of the first reasons against a stroke at all stages, where the bends of the mask are
+    /// folded.
+    pub fn codes(&mut self, job: &Job, mask: Mask, lead: u8, back: Back) -> StageCodes
+        requires job { job.now ≡ self.old }
+        requires mask { mask.0 < 2 ^ bend_count job.now }
+        requires first { 1 ≤ lead }
+        requires last { lead ≤ bend_count job.now }
+        requires flat { has mask lead ≡ false }
+        ensures codes { AreCodesOf job.now mask lead back result.0 }
+        ensures table { self.new ≡ self.old }
+    {
+        stand(&mut self.part, job, mask);
+        self.strokes
+            .codes(job, self.part.places.as_slice(), mask, lead, back)
     }
 
     /// Whether the reason holds against the action where the bends of the mask are folded.

@@ -23,6 +23,6 @@ pub use fault::{CheckFault, StepFault};
 pub use read_cert::{ReadCert, read_text};
 pub use read_window::read_text_from;
 pub use row_notes::RowNotes;
-pub use row_table::RowTable;
+pub use row_table::{RowTable, key_count};
 pub use rows::check_rows;
 pub use verdict::{Checked, Verdict, check, check_from};

@@ -22,8 +22,9 @@ ghost use Rattle.cert_check.specs.ReadCert.{ReadAnswer, HasParts, IsUnderway, Is
 
 use crate::fault::CheckFault;
 use crate::row_notes::RowNotes;
+use crate::row_table::key_count;
 use arrayvec::ArrayVec;
-use brake_base::{Step, Worth};
+use brake_base::{Reason, Step, Worth};
 use job_setup::Job;
 use plan_cert::{CertFault, NoteLines, PlanItem, PlanReader, RowHead, TextKind};
 use std::alloc::{AllocError, Global};
@@ -56,12 +57,13 @@ fn begun(alloc: Global, job: Job) -> Result<ReadCert, AllocError>
     ensures parts { IfOk result (λ read. HasParts read no_cert) }
     ensures none { IfOk result (λ read. HasNoNotes read.notes) }
 {
+    let rows = Vec::with_capacity(alloc, key_count(&job))?;
     let notes = RowNotes::open(alloc, &job)?;
     Ok(ReadCert {
         job,
         claim: Worth::Blocked,
         steps: ArrayVec::new(),
-        rows: Vec::new(alloc),
+        rows,
         notes,
     })
 }
@@ -205,7 +207,7 @@ fn keep(read: &mut ReadCert, lines: &mut NoteLines, item: PlanItem) -> Result<bo
         }
         PlanItem::Row(row) => keep_row(read, lines, row),
         PlanItem::Note { action, reason } => {
-            read.notes.add_note(&read.job, action, reason);
+            keep_note(read, lines, action, reason);
             Ok(true)
         }
         PlanItem::End => Ok(false),
@@ -233,6 +235,29 @@ fn keep_row(read: &mut ReadCert, lines: &mut NoteLines, row: RowHead) -> Result<
     read.rows.push(row)?;
     read.notes.add_row(&read.job, mask)?;
     Ok(true)
+}
+
+/// Keeps a note. Where it is the first of its stroke at its row, the lines of the stroke's other
+/// actions are known again that were read before and give the first reasons that hold there: the rows
+/// of a set mostly note a stroke at all stages, for the reasons for which it was noted before.
+fn keep_note(read: &mut ReadCert, lines: &mut NoteLines, action: u8, reason: Reason)
+    requires testing { IsTesting read.old.job read.old.notes }
+    requires lines { KnowsSoundBut read.old.job read.old.notes (given.Note action reason) lines.old }
+    ensures job { read.new.job ≡ read.old.job }
+    ensures testing { IsTesting read.new.job read.new.notes }
+    ensures lines { KnowsSound read.new.job read.new.notes lines.new }
+    ensures kept { (before : CertData) → HasParts read.old before
+        → HasParts read.new (with_item before (given.Note action reason)) }
+    ensures notes { (cert before : CertData) (left : List (Result Item CertFault))
+        → IsUnderway read.old.job cert before (Ok (given.Note action reason) ∷ left) read.old.notes
+        → IsUnderway read.old.job cert (with_item before (given.Note action reason)) left
+        read.new.notes }
+{
+    let is_first = read.notes.is_first_of_stroke(&read.job, action);
+    read.notes.add_note(&read.job, action, reason);
+    if is_first {
+        read.notes.recall_stroke(&read.job, lines, action);
+    }
 }
 
 /// Adds a step, of which a certificate has at most 12.

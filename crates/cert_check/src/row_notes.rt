@@ -1,20 +1,24 @@
 //! The notes of a certificate's rows: of each row the actions that are noted, and the first note
 //! whose reason doesn't hold. Each reason is tested where its note is read.
-ghost use Rattle.std.specs.Prelude.{◌≡◌, ◌-◌, ◌*◌, ◌<◌, ◌++◌, ◌∷◌, [], IfOk, IsTrue, OnOk, List, None, length};
+ghost use Rattle.std.specs.Prelude.{◌≡◌, ◌-◌, ◌*◌, ◌<◌, ◌≤◌, ◌++◌, ◌∷◌, [], IfOk, IsTrue, OnOk, List, None, length};
 ghost use Rattle.job_setup.specs.Setup.{JobData, bend_count, stage_count};
 ghost use Rattle.handling_cost.specs.Plan.{IsReasonFor};
 ghost use Rattle.cert_lines.specs.declared.row_head.RowHead.{RowHead};
 ghost use Rattle.plan_lines.specs.declared.note.Note.{Note};
 ghost use Rattle.cert_lines.specs.Lines.{action_at};
+ghost use Rattle.stroke_table.specs.Codes.{AreCodesOf};
+ghost use Rattle.cert_check.specs.KnownNotes.{KnowsSound};
 ghost use Rattle.cert_check.specs.RowNotes.{AreNoted, HasNoNotes, IsActionPut, IsAtRow, IsFirstUnsound, IsTesting, IsUnionPut, last_note, note_at};
 
 use crate::check_table::CheckTable;
 use crate::row_set::RowSet;
+use crate::row_table::key_count;
 use crate::rows::{action_at, action_count};
-use brake_base::{Mask, Reason};
+use brake_base::{Action, Mask, Reason, action_number};
 use job_setup::Job;
+use plan_cert::NoteLines;
 use set_facts::LaneFacts;
-use stage_lanes::ActionSet;
+use stage_lanes::{ActionSet, StageCodes};
 use std::alloc::{AllocError, Global};
 
 /// The place of a note: the number of its row, and that of its action.
@@ -45,10 +49,11 @@ impl RowNotes {
     {
         let table = CheckTable::open(alloc, job)?;
         let folded = RowSet::of(job, table.facts(), Mask::empty());
+        let sets = Vec::with_capacity(alloc, key_count(job))?;
         Ok(RowNotes {
             table,
             folded,
-            sets: Vec::new(alloc),
+            sets,
             unsound: None,
         })
     }
@@ -117,6 +122,59 @@ impl RowNotes {
         if !self.sets.is_empty() {
             let row = self.last_row();
             put_union(self.sets.as_mut_slice(), row, known);
+        }
+    }
+
+    /// Whether the number is one of an action, and no action of the same stroke is noted at the last
+    /// row.
+    pub(crate) fn is_first_of_stroke(&self, job: &Job, number: u8) -> bool
+        ensures { IsTrue result → number < 2 * bend_count job.now * stage_count job.now }
+    {
+        if !self.is_notable(job, number) {
+            return false;
+        }
+        job.recall_valid();
+        let action = action_at(job, number);
+        let noted = self.sets[self.last_row()];
+        noted.stages(action.bend, action.back).is_empty()
+    }
+
+    /// Knows the notes of the other actions of a stroke again whose lines were read before and give the
+    /// first reasons that hold. Behind a note that doesn't hold no reason is tested, and none is known
+    /// again.
+    pub(crate) fn recall_stroke(&mut self, job: &Job, lines: &mut NoteLines, number: u8)
+        requires testing { IsTesting job.now self.old }
+        requires number { number < 2 * bend_count job.now * stage_count job.now }
+        requires lines { KnowsSound job.now self.old lines.old }
+        ensures testing { IsTesting job.now self.new }
+        ensures mask { self.new.folded.mask ≡ self.old.folded.mask }
+        ensures sets { self.new.sets.items ≡ self.old.sets.items }
+        ensures unsound { self.new.unsound ≡ self.old.unsound }
+        ensures lines { KnowsSound job.now self.new lines.new }
+    {
+        if self.unsound.is_some() {
+            return;
+        }
+        let action = action_at(job, number);
+        if let Some(codes) = self.folded.codes(job, &mut self.table, action) {
+            self.recall_lines(job, lines, action, codes);
+        }
+    }
+
+    /// Knows the notes of a stroke's actions again whose lines were read before and give the reasons of
+    /// these codes, which are those of the first reasons that hold.
+    fn recall_lines(&self, job: &Job, lines: &mut NoteLines, action: Action, codes: StageCodes)
+        requires codes { AreCodesOf job.now self.now.folded.mask action.bend action.back codes.0 }
+        requires first { 1 ≤ action.bend }
+        requires last { action.bend ≤ bend_count job.now }
+        requires lines { KnowsSound job.now self.now lines.old }
+        ensures lines { KnowsSound job.now self.now lines.new }
+    {
+        job.recall_valid();
+        let stages = job.stages();
+        for stage in 0..stages {
+            let number = action_number(Action { stage, ..action }, stages);
+            lines.recall(number, codes.code(stage));
         }
     }
 

@@ -1,16 +1,18 @@
 //! The bends that are folded at the row whose notes are read, and whether a reason holds there.
-ghost use Rattle.std.specs.Prelude.{◌≡◌, ◌↔◌, ◌*◌, ◌^◌, ◌<◌, IsTrue};
+ghost use Rattle.std.specs.Prelude.{◌≡◌, ◌↔◌, ◌*◌, ◌^◌, ◌<◌, ◌≤◌, IfSome, IsTrue};
 ghost use Rattle.job_setup.specs.Setup.{bend_count, stage_count};
 ghost use Rattle.job_setup.specs.StrokeGroup.{is_lead};
 ghost use Rattle.handling_cost.specs.Plan.{IsReasonFor};
 ghost use Rattle.cert_lines.specs.Lines.{action_at};
+ghost use Rattle.stroke_table.specs.Codes.{AreCodesOf};
 ghost use Rattle.cert_check.specs.RowSet.{AreLeadsWithin};
 
 use crate::check_table::CheckTable;
 use crate::rows::action_at;
-use brake_base::{Mask, Reason};
+use brake_base::{Action, Mask, Reason};
 use job_setup::Job;
 use set_facts::LaneFacts;
+use stage_lanes::StageCodes;
 
 /// The bends that are folded at a row.
 #[derive(Clone, Copy, Debug)]
@@ -59,6 +61,25 @@ impl RowSet {
     {
         if self.mask != mask {
             *self = RowSet::of(job, facts, mask);
+        }
+    }
+
+    /// The codes of the first reasons against the stroke of an action at all stages. None where the
+    /// action's bend is no lead.
+    pub fn codes(&self, job: &Job, sets: &mut CheckTable, action: Action) -> Option<StageCodes>
+        requires leads { AreLeadsWithin job.now self.now.mask self.now.leads }
+        requires sets { sets.old ≡ job.now }
+        requires first { 1 ≤ action.bend }
+        requires last { action.bend ≤ bend_count job.now }
+        ensures codes { IfSome result
+            (λ codes. AreCodesOf job.now self.now.mask action.bend action.back codes.0) }
+        ensures sets { sets.new ≡ sets.old }
+    {
+        job.recall_valid();
+        if self.leads.contains(action.bend) {
+            Some(sets.codes(job, self.mask, action.bend, action.back))
+        } else {
+            None
         }
     }
 

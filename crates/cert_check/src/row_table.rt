@@ -82,8 +82,8 @@ fn key_place(key: &Key) -> u32
     (u32::from(mask) * 24 + u32::from(attitude)) * 6 + u32::from(stage)
 }
 
-/// The number of the keys of a job.
-fn key_count(job: &Job) -> usize
+/// The number of the keys of a job with six stages; one with fewer stages has fewer.
+pub fn key_count(job: &Job) -> usize
     ensures { result ≡ key_count job.now }
 {
     144 << job.bends()

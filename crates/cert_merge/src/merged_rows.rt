@@ -16,6 +16,7 @@ use crate::beginning::beginning;
 use crate::merged::{Next, next_of};
 use crate::row_texts::{RowText, RowTexts, Side};
 use crate::united_rows::put_united;
+use cert_check::key_count;
 use job_setup::Job;
 use plan_cert::RowHead;
 use std::alloc::{AllocError, Global};
@@ -216,9 +217,11 @@ pub(crate) fn merged_rows<'a>(
     let beginning = beginning(alloc, job)?;
     let rows = rows_behind(job, beginning.as_slice(), first);
     let others = rows_behind(job, beginning.as_slice(), second);
+    let heads = Vec::with_capacity(alloc, key_count(job))?;
+    let parts = Vec::with_capacity(alloc, key_count(job))?;
     let mut merged = MergedRows {
-        heads: Vec::new(alloc),
-        parts: Vec::new(alloc),
+        heads,
+        parts,
         joined: Vec::new(alloc),
     };
     put_all(alloc, &mut merged, rows, others)?;

@@ -1,8 +1,9 @@
 //! The lines of notes that are known by their actions, and those of the last row at each stage as one
 //! text. Rows of a set have mostly the notes of the row before, or of the last one at their stage, and
 //! notes that are known needn't be read one by one.
-ghost use Rattle.std.specs.Prelude.{◌≡◌, ℕ, ◌+◌, ◌≤◌, ◌++◌, All, List, length, Option, Result, None, true, IsTrue, IfSome};
+ghost use Rattle.std.specs.Prelude.{◌≡◌, ◌≢◌, ℕ, ◌+◌, ◌<◌, ◌≤◌, ◌++◌, All, List, length, Option, Result, None, true, IsTrue, IfSome};
 ghost use Rattle.brake_base.specs.declared.mask.Mask.{Mask};
+ghost use Rattle.brake_base.specs.declared.reason.Reason.{Reason};
 ghost use Rattle.brake_base.specs.Actions.{number_of_action};
 ghost use Rattle.job_setup.specs.Setup.{JobData};
 ghost use Rattle.plan_lines.specs.declared.item.Item.{Item};
@@ -10,6 +11,7 @@ ghost use Rattle.plan_lines.specs.declared.item.CertFault.{CertFault};
 ghost use Rattle.plan_lines.specs.declared.job_facts.JobFacts.{JobFacts};
 ghost use Rattle.plan_lines.specs.declared.known_note.KnownNote.{KnownNote};
 ghost use Rattle.stage_lanes.specs.ActionSets.{places_of};
+ghost use Rattle.stage_lanes.specs.Codes.{code_of, IsCode, IsCoded};
 ghost use Rattle.plan_lines.specs.Facts.{HasFew, KeepsFacts};
 ghost use Rattle.plan_lines.specs.KnownNote.{IsKnown};
 ghost use Rattle.plan_lines.specs.Reading.{LeavesAt};
@@ -24,9 +26,9 @@ use crate::note_run::{
 use crate::plan_reader::PlanReader;
 use crate::section::Section;
 use crate::set_leads::SetLeads;
-use brake_base::{Mask, action_number};
+use brake_base::{Mask, Reason, action_number};
 use cert_lines::Format;
-use stage_lanes::ActionSet;
+use stage_lanes::{ActionSet, reason_of};
 use std::marker::Model;
 
 /// Notes of which the lines are known, one for each action at most, from the texts of one kind of
@@ -205,13 +207,14 @@ impl<'a> NoteLines<'a> {
         self.blocks = [no_block(); 8];
     }
 
-    /// Turns to texts of a job of which this is kept, and forgets all notes where the job is another.
+    /// Turns to texts of a job of which this is kept, and forgets all notes where the job has another
+    /// number of bends or stages.
     fn turn_to(&mut self, facts: &JobFacts)
         requires few { HasFew facts.now }
         requires stages { facts.now.stages ≡ self.old.stages }
         ensures { KnowsNoMore self.old self.new }
     {
-        if !are_same(facts, &self.facts) {
+        if !is_of(facts.bends, facts.stages, &self.facts) {
             *self = NoteLines::of(*facts);
         }
     }
@@ -231,6 +234,26 @@ impl<'a> NoteLines<'a> {
                 let index = usize::from(number);
                 self.notes[index] = Some(*note);
                 self.read[index] = Some(*note);
+            }
+        }
+    }
+
+    /// Knows the note of the action of a number again, where none is known of it, its line was read
+    /// before and its reason has this code.
+    pub fn recall(&mut self, number: u8, code: u16)
+        requires number { number < 144 }
+        requires code { IsCode code }
+        ensures some { (reason : Reason) → IsCoded reason → code_of reason ≡ code
+            → KnowsAtMost self.old number reason self.new }
+        ensures none { code ≡ 65535 → KnowsNoMore self.old self.new }
+    {
+        if !is_free(&self.notes, number) {
+            return;
+        }
+        if let Some(note) = held_at(&self.read, number) {
+            if has_code(note.reason, code) {
+                let own = self.facts;
+                self.hold(&own, &note);
             }
         }
     }
@@ -301,6 +324,26 @@ impl<'a> NoteLines<'a> {
         }
         run
     }
+}
+
+/// Whether a reason has this code.
+fn has_code(reason: Reason, code: u16) -> bool
+    requires { IsCode code }
+    ensures some { IsTrue result → (other : Reason) → IsCoded other → code_of other ≡ code
+        → reason ≡ other }
+    ensures none { IsTrue result → code ≢ 65535 }
+{
+    match reason_of(code) {
+        Some(other) => is_same(reason, other),
+        None => false,
+    }
+}
+
+/// Whether both reasons are one.
+fn is_same(reason: Reason, other: Reason) -> bool
+    ensures { IsTrue result → reason ≡ other }
+{
+    reason == other
 }
 
 /// The number of the line behind so many lines.

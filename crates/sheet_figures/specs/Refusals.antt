@@ -22,6 +22,7 @@ use Rattle.sheet_views.specs.SideArea.{shown_points, IsLeastRect}
 use Rattle.sheet_words.specs.Reasons.{reason_words}
 use Rattle.sheet_figures.specs.declared.parts.Shown.TheVariants.{Whole}
 use Rattle.sheet_figures.specs.declared.refusal.Refused.{Refused}
+use Rattle.sheet_figures.specs.declared.refusal.RefusalWindows.{RefusalWindows}
 use Rattle.sheet_figures.specs.declared.sweep.Radii.{Radii}
 use Rattle.sheet_figures.specs.declared.titles.TheConstants.{PARENT_AT_BACK, FLANGE_AT_BACK, BY_THE_TOOLS}
 use Rattle.sheet_figures.specs.BendWords.{bend_words}
@@ -82,28 +83,33 @@ shows_more v scale near_scale cover =
     int_lt v (pos 25 *ℤ scale)
     && int_lt cover.near2 ((pos 200 *ℤ near_scale) *ℤ (pos 200 *ℤ near_scale))
 
--- The text goes on with so many pictures: one around what the side views of the stroke show without
--- fingers, and where that shows more a second at the tools.
-pub record ArePictures (job : JobData) (drawing : DrawingData) (refused : Refused)
-    (number count : ℤ) (before after : List ℕ) : Type 0 where
+-- The windows of the pictures: one around what the side views of the stroke show without fingers,
+-- and one at the tools.
+pub record AreRefusalWindows (job : JobData) (drawing : DrawingData) (refused : Refused)
+    (number : ℤ) (windows : RefusalWindows) : Type 0 where
   pub shown : Rect
   pub least :
       IsLeastRect (shown_points job refused.action.stage drawing.pose.boxes None) shown
-  pub window : Window
-  pub window_is : IsWindowFor refusal_paper (across_bed shown) number window
-  pub near : Window
-  pub near_is :
-      IsToolsWindow refusal_paper (pos 80) job refused.action.stage (number +ℤ pos 1) near
-  pub more : Bool
-  pub more_is :
-      more
-      ≡ shows_more (stage_of job refused.action.stage).die.v window.scale near.scale
-      refused.swept.cover
+  pub around : IsWindowFor refusal_paper (across_bed shown) number windows.around
+  pub near :
+      IsToolsWindow refusal_paper (pos 80) job refused.action.stage (number +ℤ pos 1)
+      windows.near
+  pub more :
+      windows.shows_more
+      ≡ shows_more (stage_of job refused.action.stage).die.v windows.around.scale
+      windows.near.scale refused.swept.cover
+
+-- The text goes on with so many pictures: one, and where that shows more a second at the tools.
+pub record ArePictures (job : JobData) (drawing : DrawingData) (refused : Refused)
+    (number count : ℤ) (before after : List ℕ) : Type 0 where
+  pub windows : RefusalWindows
+  pub windows_are : AreRefusalWindows job drawing refused number windows
   pub first : List ℕ
-  pub picture : IsPicture window job drawing refused false before first
+  pub picture : IsPicture windows.around job drawing refused false before first
   pub rest :
-      ((more ≡ false) × (count ≡ pos 1) × (after ≡ first))
-      ⊎ ((more ≡ true) × (count ≡ pos 2) × IsPicture near job drawing refused true first after)
+      ((windows.shows_more ≡ false) × (count ≡ pos 1) × (after ≡ first))
+      ⊎ ((windows.shows_more ≡ true) × (count ≡ pos 2)
+      × IsPicture windows.near job drawing refused true first after)
 
 -- The text goes on with the pictures of a refused stroke: none where the reason's box sweeps
 -- nothing.

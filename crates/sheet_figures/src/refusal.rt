@@ -9,7 +9,7 @@ ghost use Rattle.sheet_views.specs.SideArea.{shown_points, IsLeastRect};
 ghost use Rattle.sheet_views.specs.Swept.{swept_by};
 ghost use Rattle.sheet_words.specs.Reasons.{reason_words};
 ghost use Rattle.sheet_figures.specs.Extending.{Extends};
-ghost use Rattle.sheet_figures.specs.Refusals.{back_words, near_words, title_words, caption_words, before_stroke, IsPicture, shows_more, refusal_paper, ArePictures, IsRefusal};
+ghost use Rattle.sheet_figures.specs.Refusals.{back_words, near_words, title_words, caption_words, before_stroke, IsPicture, shows_more, refusal_paper, AreRefusalWindows, ArePictures, IsRefusal};
 
 use crate::after::opening;
 use crate::bend_words::put_bends;
@@ -207,6 +207,37 @@ fn refusal_area(job: &Job, stage: u8, drawing: &Drawing) -> Rect
     side_area(job, stage, &drawing.pose, None)
 }
 
+/// The windows of the pictures of a refused stroke: one around what the side views show, and one at
+/// the tools, and whether the second shows more.
+#[derive(Clone, Copy)]
+struct RefusalWindows {
+    around: Window,
+    near: Window,
+    shows_more: bool,
+}
+
+/// The windows of the pictures of a refused stroke that are numbered from `number`.
+fn refusal_windows(job: &Job, drawing: &Drawing, refused: &Refused, number: i64) -> RefusalWindows
+    requires action { IsActionAmong (bend_count job.now) (stage_count job.now) refused.now.action }
+    requires drawing { IsNearDrawing (drawing_data drawing.now) }
+    requires number { unsigned_abs number ≤ 2 ^ 20 }
+    ensures value { AreRefusalWindows job.now (drawing_data drawing.now) refused.now number result }
+    ensures around { IsWindow result.around }
+    ensures near { IsWindow result.near }
+{
+    let stage = refused.action.stage;
+    let shown = refusal_area(job, stage, drawing);
+    let around = window_for(refusal_paper(), &near_area(&shown), number);
+    let near = tools_window(refusal_paper(), 80, job, stage, number + 1);
+    let v = opening(job, stage);
+    let shows_more = shows_more(v, around.scale, near.scale, &refused.swept.cover);
+    RefusalWindows {
+        around,
+        near,
+        shows_more,
+    }
+}
+
 /// The pictures of a refused stroke, numbered from `number`, and how many: one, or a second at the
 /// tools.
 fn put_pictures(
@@ -226,16 +257,12 @@ fn put_pictures(
     ensures grows { OnOk result (Extends out.old.items out.new.items) }
     ensures count { IfOk result (λ count. (pos 0 ≤ℤ count) × (count ≤ℤ pos 2)) }
 {
-    let stage = refused.action.stage;
-    let shown = refusal_area(job, stage, drawing);
-    let window = window_for(refusal_paper(), &near_area(&shown), number);
-    put_picture(out, &window, job, drawing, refused, false)?;
-    let near = tools_window(refusal_paper(), 80, job, stage, number + 1);
-    let v = opening(job, stage);
-    if !shows_more(v, window.scale, near.scale, &refused.swept.cover) {
+    let windows = refusal_windows(job, drawing, refused, number);
+    put_picture(out, &windows.around, job, drawing, refused, false)?;
+    if !windows.shows_more {
         return Ok(1);
     }
-    put_picture(out, &near, job, drawing, refused, true)?;
+    put_picture(out, &windows.near, job, drawing, refused, true)?;
     Ok(2)
 }
 

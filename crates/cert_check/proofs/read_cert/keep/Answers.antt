@@ -5,11 +5,12 @@ use Rattle.plan_lines.specs.declared.item.CertFault.{CertFault}
 use Rattle.plan_lines.specs.PlanItem.{item_of}
 use Rattle.job_setup.specs.Setup.{JobData}
 use Rattle.plan_cert.specs.Cert.{CertData}
+use Rattle.plan_cert.specs.CertReading.{with_item}
 use Rattle.cert_check.specs.declared.row_notes.RowNotes.{RowNotes}
 use Rattle.cert_check.specs.KnownNotes.{KnowsSoundBut}
-use Rattle.cert_check.specs.ReadCert.{IsUnderway, IsKept}
-use Rattle.cert_check.proofs.ReadLemmas.{underway_claim, underway_step, underway_note}
-use Rattle.cert_check.proofs.KnownLemmas.{is_note, learned_none, learned_note}
+use Rattle.cert_check.specs.ReadCert.{HasParts, IsUnderway, IsKept}
+use Rattle.cert_check.proofs.ReadLemmas.{underway_claim, underway_step}
+use Rattle.cert_check.proofs.KnownLemmas.{is_note, learned_none}
 use Rattle.cert_check.proofs.read_cert.keep.Goals as goal
 
 -- what an item keeps underway
@@ -29,20 +30,17 @@ returns-in-Step-clause-notes c = λ cert before left.
 pub returns-in-Note-clause-notes : goal.returns-in-Note-clause-notes
 returns-in-Note-clause-notes c = λ cert before left.
     let read = c.args.read.now in
-    subst (Goes read.job cert before left read.notes c.add_note.new.self) (sym c.in-Note.is) (λ under.
-    underway_note read.job cert before left c.in-Note.action c.in-Note.reason read.notes c.add_note.new.self under c.add_note.ensures.mask
-    (c.add_note.ensures.sets before.rows before.notes) (c.add_note.ensures.unsound cert.rows before.notes))
+    subst (Goes read.job cert before left read.notes c.keep_note.new.read.notes) (sym c.in-Note.is) (c.keep_note.ensures.notes cert before left)
 
 pub returns-in-End-clause-notes : goal.returns-in-End-clause-notes
 returns-in-End-clause-notes c = λ cert before left.
     let read = c.args.read.now in
     subst (Goes read.job cert before left read.notes read.notes) (sym c.in-End.is) (λ under. under.kept)
 
-pub returns-in-Note-clause-lines : goal.returns-in-Note-clause-lines
-returns-in-Note-clause-lines c =
+pub keep_note-requires-clause-lines : goal.keep_note-requires-clause-lines
+keep_note-requires-clause-lines c =
     let read = c.args.read.now in
-    learned_note read.job read.notes c.add_note.new.self c.args.lines.now c.in-Note.action c.in-Note.reason
-    (subst (λ (item : PlanItem). KnowsSoundBut read.job read.notes (item_of item) c.args.lines.now) c.in-Note.is c.requires.lines) c.add_note.ensures.mask c.add_note.ensures.holds
+    subst (λ (item : PlanItem). KnowsSoundBut read.job read.notes (item_of item) c.args.lines.now) c.in-Note.is c.requires.lines
 
 pub returns-in-Claim-clause-lines : goal.returns-in-Claim-clause-lines
 returns-in-Claim-clause-lines c = let read = c.args.read.now in learned_none read.job read.notes (item_of c.args.item) c.args.lines.now (ap (λ (item : PlanItem). is_note (item_of item)) c.in-Claim.is) c.requires.lines
@@ -55,3 +53,6 @@ returns-in-End-clause-lines c = let read = c.args.read.now in learned_none read.
 
 pub keep_row-requires-clause-lines : goal.keep_row-requires-clause-lines
 keep_row-requires-clause-lines c = let read = c.args.read.now in learned_none read.job read.notes (item_of c.args.item) c.args.lines.now (ap (λ (item : PlanItem). is_note (item_of item)) c.in-Row.is) c.requires.lines
+
+pub returns-in-Note-clause-kept : goal.returns-in-Note-clause-kept
+returns-in-Note-clause-kept c = λ before has. subst (λ (item : PlanItem). HasParts c.keep_note.new.read (with_item before (item_of item))) (sym c.in-Note.is) (c.keep_note.ensures.kept before has)

@@ -14,18 +14,18 @@ rows_behind-others-requires c = long_enough c.args.job.now c.requires.1 c.args.s
 
 pub put_all-requires : goal.put_all-requires
 put_all-requires c =
-    let merged : MergedRows = record { heads = c.new.result; parts = c.new-2.result; joined = c.new-3.result } in (
+    let merged : MergedRows = record { heads = c.in_ok-heads.heads; parts = c.in_ok-parts.parts; joined = c.new.result } in (
       c.args.job.now,
       [],
       table_said c.requires.0,
       table_said c.requires.1,
-      none_held (stage_count c.args.job.now) merged c.new.ensures.items c.new-2.ensures.items,
+      none_held (stage_count c.args.job.now) merged c.in_ok-heads.ensures.items c.in_ok-parts.ensures.items,
       c.rows_behind-rows.ensures.rows c.requires.0 (c.as_slice.ensures.value ∙ c.in_ok-beginning.ensures) c.requires.2.text_is,
       c.rows_behind-others.ensures.rows c.requires.1 (c.as_slice-2.ensures.value ∙ c.in_ok-beginning.ensures) c.requires.2.other_is,
     )
 
 pub returns : goal.returns
 returns c = λ a b are.
-    let merged : MergedRows = record { heads = c.new.result; parts = c.new-2.result; joined = c.new-3.result } in
-    c.in_ok-put_all.ensures c.args.job.now [] (table_said a) (table_said b) (none_held (stage_count c.args.job.now) merged c.new.ensures.items c.new-2.ensures.items)
+    let merged : MergedRows = record { heads = c.in_ok-heads.heads; parts = c.in_ok-parts.parts; joined = c.new.result } in
+    c.in_ok-put_all.ensures c.args.job.now [] (table_said a) (table_said b) (none_held (stage_count c.args.job.now) merged c.in_ok-heads.ensures.items c.in_ok-parts.ensures.items)
     (c.rows_behind-rows.ensures.rows a (c.as_slice.ensures.value ∙ c.in_ok-beginning.ensures) are.text_is) (c.rows_behind-others.ensures.rows b (c.as_slice-2.ensures.value ∙ c.in_ok-beginning.ensures) are.other_is)

@@ -1,89 +1,36 @@
-use Rattle.std.proofs.Common.{◌≡◌, ◌∙◌, ap, inl, inr, ◌+◌, ◌^◌, ℤ, pos, ◌+ℤ◌, refl, subst, FitsSigned, to_z-of_z, w64, arith}
-use Rattle.std.proofs.lemmas.Int.{ints}
-use Rattle.algebra.proofs.Widths.{abs-add, fits_64}
-use Rattle.sheet_paper.specs.declared.window.Area.{Area}
-use Rattle.sheet_paper.specs.declared.window.Paper.{Paper}
-use Rattle.sheet_figures.specs.Strokes.{IsWindowFor, IsToolsWindow}
-use Rattle.sheet_figures.specs.Refusals.{refusal_paper, shows_more}
+use Rattle.std.proofs.Common.{inl, inr, refl, FitsSigned, to_z-of_z, w64}
+use Rattle.sheet_figures.specs.Refusals.{AreRefusalWindows}
+use Rattle.sheet_views.specs.Drawing.{drawing_data}
 use Rattle.sheet_figures.proofs.Growing.{grows_on}
 use Rattle.sheet_figures.proofs.Pictures.{picture_grows}
 use Rattle.sheet_figures.proofs.refusal.put_pictures.Goals as goal
 
-pub overflow_add-number : goal.overflow_add-number
-overflow_add-number c =
-    let fits_number : FitsSigned w64 c.args.number = c.ranges.number in
-    simp to_z-of_z (fits_64 _ (2 ^ 20 + 1) (abs-add c.args.number (pos 1) (2 ^ 20) 1 c.requires.number (omega arith)) (omega arith))
-
-pub returns-then-not-shows_more-clause-value : goal.returns-then-not-shows_more-clause-value
-returns-then-not-shows_more-clause-value c =
+pub returns-then-not-windows-clause-value : goal.returns-then-not-windows-clause-value
+returns-then-not-windows-clause-value c =
     let number = c.args.number in
-    let job = c.args.job.now in
-    let refused = c.args.refused.now in
-    let cover = refused.swept.cover in
-    let stage = refused.action.stage in
-    let shown = c.refusal_area-shown.result in
-    let window = c.window_for-window.result in
-    let near = c.tools_window-near.result in
-    let v = c.opening-v.result in
-    let large = c.window_for-window.ensures.valid.scale in
-    let small = c.tools_window-near.ensures.valid.scale in
+    let windows = c.refusal_windows-windows.result in
     let fits_number : FitsSigned w64 number = c.ranges.number in
-    let fits_next : FitsSigned w64 (number +ℤ pos 1) = fits_64 _ (2 ^ 20 + 1) (abs-add number (pos 1) (2 ^ 20) 1 c.requires.number (omega arith)) (omega arith) in
-    let fits_v : FitsSigned w64 v = fits_64 _ (2 ^ 20) (omega (arith, ints, c.opening-v.ensures.some, c.opening-v.ensures.few)) (omega arith) in
-    let fits_window : FitsSigned w64 window.scale = fits_64 _ (2 ^ 24) (omega (arith, ints, large.some, large.near)) (omega arith) in
-    let fits_near : FitsSigned w64 near.scale = fits_64 _ (2 ^ 24) (omega (arith, ints, small.some, small.near)) (omega arith) in
-    let told : c.shows_more.result ≡ shows_more v window.scale near.scale cover = simp to_z-of_z at c.shows_more.ensures in
-    let is : IsWindowFor c.refusal_paper.result c.near_area.result number window = simp to_z-of_z at c.window_for-window.ensures.value in
-    let on_paper = subst (λ (paper : Paper). IsWindowFor paper c.near_area.result number window) c.refusal_paper.ensures.value is in
-    let second : IsToolsWindow c.refusal_paper-2.result (pos 80) job stage (number +ℤ pos 1) near = simp to_z-of_z at c.tools_window-near.ensures.value in
+    let are : AreRefusalWindows c.args.job.now (drawing_data c.args.drawing.now) c.args.refused.now number windows = simp to_z-of_z at c.refusal_windows-windows.ensures.value in
     record {
-      shown = shown;
-      least = c.refusal_area-shown.ensures.value;
-      window = window;
-      window_is = subst (λ (area : Area). IsWindowFor refusal_paper area number window) c.near_area.ensures.value on_paper;
-      near = near;
-      near_is = subst (λ (paper : Paper). IsToolsWindow paper (pos 80) job stage (number +ℤ pos 1) near) c.refusal_paper-2.ensures.value second;
-      more = c.shows_more.result;
-      more_is = told ∙ ap (λ (length : ℤ). shows_more length window.scale near.scale cover) c.opening-v.ensures.value;
+      windows = windows;
+      windows_are = are;
       first = c.put_picture.new.out.items;
       picture = c.in_ok-put_picture.ensures;
-      rest = inl (c.if-not-shows_more.true, refl, refl);
+      rest = inl (c.if-not-windows.true, refl, refl);
     }
 
 pub returns-clause-value : goal.returns-clause-value
 returns-clause-value c =
     let number = c.args.number in
-    let job = c.args.job.now in
-    let refused = c.args.refused.now in
-    let cover = refused.swept.cover in
-    let stage = refused.action.stage in
-    let shown = c.refusal_area-shown.result in
-    let window = c.window_for-window.result in
-    let near = c.tools_window-near.result in
-    let v = c.opening-v.result in
-    let large = c.window_for-window.ensures.valid.scale in
-    let small = c.tools_window-near.ensures.valid.scale in
+    let windows = c.refusal_windows-windows.result in
     let fits_number : FitsSigned w64 number = c.ranges.number in
-    let fits_next : FitsSigned w64 (number +ℤ pos 1) = fits_64 _ (2 ^ 20 + 1) (abs-add number (pos 1) (2 ^ 20) 1 c.requires.number (omega arith)) (omega arith) in
-    let fits_v : FitsSigned w64 v = fits_64 _ (2 ^ 20) (omega (arith, ints, c.opening-v.ensures.some, c.opening-v.ensures.few)) (omega arith) in
-    let fits_window : FitsSigned w64 window.scale = fits_64 _ (2 ^ 24) (omega (arith, ints, large.some, large.near)) (omega arith) in
-    let fits_near : FitsSigned w64 near.scale = fits_64 _ (2 ^ 24) (omega (arith, ints, small.some, small.near)) (omega arith) in
-    let told : c.shows_more.result ≡ shows_more v window.scale near.scale cover = simp to_z-of_z at c.shows_more.ensures in
-    let is : IsWindowFor c.refusal_paper.result c.near_area.result number window = simp to_z-of_z at c.window_for-window.ensures.value in
-    let on_paper = subst (λ (paper : Paper). IsWindowFor paper c.near_area.result number window) c.refusal_paper.ensures.value is in
-    let second : IsToolsWindow c.refusal_paper-2.result (pos 80) job stage (number +ℤ pos 1) near = simp to_z-of_z at c.tools_window-near.ensures.value in
+    let are : AreRefusalWindows c.args.job.now (drawing_data c.args.drawing.now) c.args.refused.now number windows = simp to_z-of_z at c.refusal_windows-windows.ensures.value in
     record {
-      shown = shown;
-      least = c.refusal_area-shown.ensures.value;
-      window = window;
-      window_is = subst (λ (area : Area). IsWindowFor refusal_paper area number window) c.near_area.ensures.value on_paper;
-      near = near;
-      near_is = subst (λ (paper : Paper). IsToolsWindow paper (pos 80) job stage (number +ℤ pos 1) near) c.refusal_paper-2.ensures.value second;
-      more = c.shows_more.result;
-      more_is = told ∙ ap (λ (length : ℤ). shows_more length window.scale near.scale cover) c.opening-v.ensures.value;
+      windows = windows;
+      windows_are = are;
       first = c.put_picture.new.out.items;
       picture = c.in_ok-put_picture.ensures;
-      rest = inr (c.if-not-shows_more.false, refl, c.in_ok-put_picture-2.ensures);
+      rest = inr (c.if-not-windows.false, refl, c.in_ok-put_picture-2.ensures);
     }
 
 pub returns-clause-grows : goal.returns-clause-grows
