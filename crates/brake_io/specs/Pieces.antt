@@ -9,18 +9,19 @@ use Rattle.brake_io.specs.Meanings.{ShelfState}
 
 -- What is seen of a window on a text: the bytes at hand, which were read and not yet passed; how
 -- many bytes were read since it was opened, and how many the text may have; what is behind those
--- at hand, which it may tell or not; and how far the text is read.
+-- at hand, which it may tell or not; how often a read has failed; and how far the text is read.
 pub record WindowState : Type 0 where
   pub unread : List ℕ
   pub taken : ℕ
   pub limit : ℕ
   pub left : Option (List ℕ)
+  pub faults : ℕ
   pub progress : Progress
 
 -- a window just opened
 abbrev pub opened : ℕ → Option (List ℕ) → WindowState
 opened limit left =
-    record { unread = []; taken = 0; limit = limit; left = left; progress = Reading }
+    record { unread = []; taken = 0; limit = limit; left = left; faults = 0; progress = Reading }
 
 -- where the content is told, these bytes are told too, and the name holds them
 abbrev pub GivesHeld : ShelfState → List ℕ → Option (List ℕ) → Type 0
@@ -102,3 +103,11 @@ IsReadSoFar Reading taken limit left = taken ≤ limit
 IsReadSoFar Ended taken limit left = (taken ≤ limit) × IsAtEnd left
 IsReadSoFar Failed taken limit left = left ≡ None
 IsReadSoFar TooLong taken limit left = limit < taken
+
+-- how often a read has failed, by how far a text is read: a text is told as failed exactly where
+-- one did
+abbrev pub IsToldFailed : Progress → ℕ → Type 0
+IsToldFailed Reading faults = faults ≡ 0
+IsToldFailed Ended faults = faults ≡ 0
+IsToldFailed Failed faults = 0 < faults
+IsToldFailed TooLong faults = faults ≡ 0

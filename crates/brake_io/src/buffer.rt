@@ -1,6 +1,7 @@
 //! The bytes of a text that were read ahead.
 ghost use Rattle.std.specs.Prelude.{◌≡◌, ◌+◌, ◌-◌, ◌<◌, ◌≤◌, ◌++◌, [], List, ℕ, Some, None, length, drop, slice_range, vec_len, IfOk, IfSome, IsNone, OnOk};
 ghost use Rattle.std.specs.Io.KnownBytes.{Consumes, IsAtEnd};
+ghost use Rattle.brake_io.specs.Rose.{raised};
 
 use crate::reader::Reader;
 use std::alloc::{AllocError, Global};
@@ -127,6 +128,8 @@ impl Buffer {
             ≡ slice_range self.old.bytes.items self.old.start self.old.end }
         ensures failed { IsNone result → R.left from.old ≡ None }
         ensures untold { IsNone result → R.left from.new ≡ None }
+        ensures counted { IsNone result → R.faults from.new ≡ raised (R.faults from.old) }
+        ensures uncounted { IfSome result (λ _. R.faults from.new ≡ R.faults from.old) }
     {
         self.move_front();
         let end = self.end;

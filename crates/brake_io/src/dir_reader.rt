@@ -1,5 +1,5 @@
 //! The bytes of a file of the system, in order.
-ghost use Rattle.std.specs.Prelude.{None};
+ghost use Rattle.std.specs.Prelude.{◌≡◌, None, IfOk};
 
 use crate::reader::{HeldBytes, Reader};
 use crate::shelf::FetchFault;
@@ -10,21 +10,43 @@ use std::io::Read;
 use std::rt::Files;
 
 /// What gives the bytes of a file: a regular file piece by piece, and of any other, whose length
-/// isn't known, the bytes that were read. It tells nothing of them.
+/// isn't known, the bytes that were read.
 #[derive(Drop)]
-pub enum DirReader<F: Read + Drop> {
+enum Source<F: Read + Drop> {
     File(F),
     Held(HeldBytes),
+}
+
+/// The bytes of a file of the system. It tells nothing of them, and counts the reads that failed.
+#[derive(Drop)]
+pub struct DirReader<F: Read + Drop> {
+    source: Source<F>,
+    faults: u64,
+}
+
+impl<F: Read + Drop> DirReader<F> {
+    /// A reader of which no read has failed.
+    fn new(source: Source<F>) -> DirReader<F>
+        ensures { ⟦<DirReader<F> as Reader>⟧.faults result ≡ 0 }
+    {
+        DirReader { source, faults: 0 }
+    }
 }
 
 impl<F: Read + Drop> Reader for DirReader<F> {
     ghost left = { λ _. None };
 
+    ghost faults = { λ reader. reader.faults };
+
     fn read(&mut self, to: &mut [u8]) -> Option<usize> {
-        match self {
-            DirReader::File(file) => file.read(to).ok(),
-            DirReader::Held(bytes) => bytes.read(to),
+        let came = match &mut self.source {
+            Source::File(file) => file.read(to).ok(),
+            Source::Held(bytes) => bytes.read(to),
+        };
+        if came.is_none() {
+            self.faults = self.faults.saturating_add(1);
         }
+        came
     }
 }
 
@@ -35,16 +57,18 @@ pub fn open_reader<R: Files>(
     alloc: Global,
     name: &str,
     limit: u64,
-) -> Result<DirReader<R::File>, FetchFault> {
+) -> Result<DirReader<R::File>, FetchFault>
+    ensures { IfOk result (λ file. ⟦<DirReader<R::File> as Reader>⟧.faults file ≡ 0) }
+{
     let Ok(mut file) = fs::open(rt, name) else {
         return Err(FetchFault::Failed);
     };
     match file.metadata() {
-        Ok(data) if data.is_file() && data.len() <= limit => Ok(DirReader::File(file)),
+        Ok(data) if data.is_file() && data.len() <= limit => Ok(DirReader::new(Source::File(file))),
         Ok(data) if data.is_file() => Err(FetchFault::TooLong),
         Ok(_) => {
             let bytes = read_whole(alloc, &mut file, limit)?;
-            Ok(DirReader::Held(HeldBytes::new(bytes)))
+            Ok(DirReader::new(Source::Held(HeldBytes::new(bytes))))
         }
         Err(_) => Err(FetchFault::Failed),
     }

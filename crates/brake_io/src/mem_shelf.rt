@@ -152,6 +152,7 @@ impl Shelf for MemShelf {
         ensures calls { self.new.calls ≡ raised self.old.calls }
         ensures bytes { IfOk result (λ file.
             GivesHeld (state_of self.old) name.now (⟦<HeldBytes as Reader>⟧.left file)) }
+        ensures no_fault { IfOk result (λ file. ⟦<HeldBytes as Reader>⟧.faults file ≡ 0) }
         ensures failed { IsErrOf result FetchFault.Failed → Rose self.old.faults self.new.faults }
         ensures cause { IsErrOf result FetchFault.Failed →
             MayFailAt name.now (state_of self.old) (state_of self.new) }

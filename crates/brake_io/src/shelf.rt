@@ -77,6 +77,7 @@ pub trait Shelf {
         ensures calls { (state self.new).calls ≡ raised (state self.old).calls }
         ensures bytes { IfOk result
             (λ file. GivesHeld (state self.old) name.now (Self.File.left file)) }
+        ensures no_fault { IfOk result (λ file. Self.File.faults file ≡ 0) }
         ensures failed { IsErrOf result FetchFault.Failed →
             Rose (state self.old).faults (state self.new).faults }
         ensures cause { IsErrOf result FetchFault.Failed →

@@ -1,10 +1,10 @@
 //! A window on a text that is read in pieces.
-ghost use Rattle.std.specs.Prelude.{◌≡◌, ◌⊎◌, ◌↔◌, ◌+◌, ◌^◌, ◌==◌, ◌<◌, ◌≤◌, [], Some, None, length, drop, slice_range, position, IfOk, IfSome, IsNone, IsTrue, IsFalse, OnOk, IsErrOf};
-ghost use Rattle.std.specs.Io.KnownBytes.{IsAtEnd};
+ghost use Rattle.std.specs.Prelude.{◌≡◌, ◌⊎◌, ◌↔◌, ◌+◌, ◌-◌, ◌^◌, ◌==◌, ◌<◌, ◌≤◌, ◌++◌, ℕ, List, [], None, length, drop, slice_range, vec_len, position, IfOk, IsTrue, IsFalse, OnOk, IsErrOf};
+ghost use Rattle.std.specs.Io.KnownBytes.{Consumes};
 ghost use Rattle.brake_io.specs.Rose.{raised, Rose};
 ghost use Rattle.brake_io.specs.Meanings.{NoCountFalls, IsLonger, MayFailAt};
-ghost use Rattle.brake_io.specs.declared.progress.Progress.TheVariants.{Reading, Failed, TooLong};
-ghost use Rattle.brake_io.specs.Pieces.{WindowState, opened, IsOpened, IsOver, HasEnough, HasLine, HasMore, GoesOn, IsWhole, IsTooLong, IsReadSoFar, reads_left};
+ghost use Rattle.brake_io.specs.declared.progress.Progress.TheVariants.{Reading, Ended, Failed, TooLong};
+ghost use Rattle.brake_io.specs.Pieces.{WindowState, opened, IsOpened, IsOver, HasEnough, HasLine, HasMore, GoesOn, IsWhole, IsTooLong, IsReadSoFar, IsToldFailed, reads_within, reads_left};
 
 use crate::buffer::{Buffer, CAPACITY};
 use crate::progress::Progress;
@@ -35,11 +35,20 @@ impl<R: Reader + Drop> Model for Window<R> {
       taken = w.taken;
       limit = w.limit;
       left = R.left w.from;
+      faults = R.faults w.from;
       progress = w.progress;
     } };
 
     ghost invariant = { λ w. (w.limit + 1 < 2 ^ 64)
-        × IsReadSoFar w.progress w.taken w.limit (R.left w.from) };
+        × IsReadSoFar w.progress w.taken w.limit (R.left w.from)
+        × IsToldFailed w.progress (R.faults w.from) };
+}
+
+/// How far a text is read, and how many bytes of it.
+#[derive(Clone, Copy)]
+struct ReadSoFar {
+    taken: u64,
+    progress: Progress,
 }
 
 /// How many bytes to ask for where the text may have so many more: one more at most.
@@ -55,6 +64,35 @@ fn wanted(room: u64) -> usize
     }
 }
 
+/// Reads once, behind what the buffer holds, of a text of which so many bytes were read: at most
+/// one byte more than its limit.
+fn read_into<R: Reader>(buffer: &mut Buffer, from: &mut R, taken: u64, limit: u64) -> ReadSoFar
+    requires room { length (slice_range buffer.old.bytes.items buffer.old.start buffer.old.end)
+        < vec_len buffer.old.bytes }
+    requires within { taken ≤ limit }
+    requires limit { limit + 1 < 2 ^ 64 }
+    requires no_fault { R.faults from.old ≡ 0 }
+    ensures bytes { (piece : List ℕ) × (result.taken ≡ taken + length piece)
+        × (slice_range buffer.new.bytes.items buffer.new.start buffer.new.end
+        ≡ slice_range buffer.old.bytes.items buffer.old.start buffer.old.end ++ piece)
+        × Consumes (R.left from.old) (R.left from.new) piece }
+    ensures known { IsReadSoFar result.progress result.taken limit (R.left from.new) }
+    ensures told { IsToldFailed result.progress (R.faults from.new) }
+    ensures nearer { reads_within result.progress (limit - result.taken)
+        < reads_within Reading (limit - taken) }
+    ensures more { result.progress ≡ Reading → taken < result.taken }
+{
+    let came = buffer.append_from(from, wanted(limit - taken));
+    let taken = taken + came.unwrap_or(0) as u64;
+    let progress = match came {
+        Some(0) => Progress::Ended,
+        Some(_) if taken <= limit => Progress::Reading,
+        Some(_) => Progress::TooLong,
+        None => Progress::Failed,
+    };
+    ReadSoFar { taken, progress }
+}
+
 /// Where the first line feed stands.
 fn first_line_feed(bytes: &[u8]) -> Option<usize>
     ensures { result ≡ position (λ byte. byte == 10) bytes.now }
@@ -63,10 +101,11 @@ fn first_line_feed(bytes: &[u8]) -> Option<usize>
 }
 
 impl<R: Reader + Drop> Window<R> {
-    /// A window on all that the reader gives, of which nothing is read yet. The text may have so many
-    /// bytes.
+    /// A window on all that the reader gives, of which nothing is read yet and no read has failed.
+    /// The text may have so many bytes.
     pub fn open(alloc: Global, from: R, limit: u64) -> Result<Window<R>, AllocError>
-        requires { limit + 1 < 2 ^ 64 }
+        requires limit { limit + 1 < 2 ^ 64 }
+        requires no_fault { R.faults from ≡ 0 }
         ensures { IfOk result (λ window. window ≡ opened limit (R.left from)) }
     {
         Ok(Window {
@@ -89,6 +128,7 @@ impl<R: Reader + Drop> Window<R> {
     pub fn progress(&self) -> Progress
         ensures value { result ≡ self.now.progress }
         ensures known { IsReadSoFar result self.now.taken self.now.limit self.now.left }
+        ensures told { IsToldFailed result self.now.faults }
     {
         self.progress
     }
@@ -127,33 +167,6 @@ impl<R: Reader + Drop> Window<R> {
         self.buffer.clear();
     }
 
-    /// Notes what a read gave, whose bytes are at hand.
-    fn note(&mut self, came: Option<usize>)
-        requires reading { self.old.progress ≡ Reading }
-        requires end { came ≡ Some 0 → IsAtEnd self.old.left }
-        requires failed { IsNone came → self.old.left ≡ None }
-        requires few { IfSome came (λ n. self.old.taken + n ≤ self.old.limit + 1) }
-        ensures unread { self.new.unread ≡ self.old.unread }
-        ensures limit { self.new.limit ≡ self.old.limit }
-        ensures left { self.new.left ≡ self.old.left }
-        ensures taken { IfSome came (λ n. self.new.taken ≡ self.old.taken + n) }
-        ensures same { IsNone came → self.new.taken ≡ self.old.taken }
-        ensures nearer { reads_left self.new < reads_left self.old }
-        ensures over { IsNone came → IsOver self.new }
-        ensures ended { came ≡ Some 0 → IsOver self.new }
-    {
-        let room = self.limit - self.taken;
-        match came {
-            Some(0) => self.progress = Progress::Ended,
-            Some(count) if count as u64 <= room => self.taken += count as u64,
-            Some(count) => {
-                self.taken += count as u64;
-                self.progress = Progress::TooLong;
-            }
-            None => self.progress = Progress::Failed,
-        }
-    }
-
     /// Reads once, at most one byte more than the limit.
     fn read_once(&mut self)
         requires reading { self.old.progress ≡ Reading }
@@ -161,9 +174,9 @@ impl<R: Reader + Drop> Window<R> {
         ensures goes_on { GoesOn self.old self.new }
         ensures nearer { reads_left self.new < reads_left self.old }
     {
-        let most = wanted(self.limit - self.taken);
-        let came = self.buffer.append_from(&mut self.from, most);
-        self.note(came);
+        let so_far = read_into(&mut self.buffer, &mut self.from, self.taken, self.limit);
+        self.taken = so_far.taken;
+        self.progress = so_far.progress;
     }
 
     /// Reads once, at most one byte more than the limit, into more memory where the buffer is full.
@@ -174,9 +187,9 @@ impl<R: Reader + Drop> Window<R> {
         ensures more { OnOk result (HasMore self.old self.new) }
     {
         self.buffer.make_room(alloc)?;
-        let most = wanted(self.limit - self.taken);
-        let came = self.buffer.append_from(&mut self.from, most);
-        self.note(came);
+        let so_far = read_into(&mut self.buffer, &mut self.from, self.taken, self.limit);
+        self.taken = so_far.taken;
+        self.progress = so_far.progress;
         Ok(())
     }
 
@@ -250,6 +263,8 @@ impl<R: Reader + Drop> Window<R> {
         ensures no_memory { ¬ IsErrOf result FetchFault.NoMemory }
         ensures told_failed { IsErrOf result FetchFault.Failed → self.new.progress ≡ Failed }
         ensures told_longer { IsErrOf result FetchFault.TooLong → self.new.progress ≡ TooLong }
+        ensures told_ended { OnOk result (self.new.progress ≡ Ended) }
+        ensures no_fault { OnOk result (self.new.faults ≡ 0) }
     {
         loop {
             match self.progress() {
@@ -295,18 +310,19 @@ pub fn open_window<H: Shelf>(
     Ok(Window::open(alloc, file, limit)?)
 }
 
-/// Reads a text to its end, and says whether it was read whole and is within its limit. The outside
-/// may fail as long as it is read; a text that is told can't.
-pub fn close_window<H: Shelf>(shelf: &mut H, mut window: Window<H::File>) -> Result<(), FetchFault>
+/// Reads a text to its end, and says whether it was read whole, without a read that failed, and is
+/// within its limit. The outside may fail as long as it is read; a text that is told can't.
+pub fn close_window<H: Shelf>(shelf: &mut H, window: &mut Window<H::File>) -> Result<(), FetchFault>
     ensures content { (H.state shelf.new).content ≡ (H.state shelf.old).content }
     ensures calls { (H.state shelf.new).calls ≡ (H.state shelf.old).calls }
-    ensures whole { OnOk result (IsWhole window) }
+    ensures whole { OnOk result (IsWhole window.old) }
     ensures failed { IsErrOf result FetchFault.Failed →
         Rose (H.state shelf.old).faults (H.state shelf.new).faults }
-    ensures cause { IsErrOf result FetchFault.Failed → window.left ≡ None }
-    ensures longer { IsErrOf result FetchFault.TooLong → IsTooLong window }
+    ensures cause { IsErrOf result FetchFault.Failed → window.old.left ≡ None }
+    ensures longer { IsErrOf result FetchFault.TooLong → IsTooLong window.old }
     ensures too_long { IsErrOf result FetchFault.TooLong →
         (H.state shelf.new).longs ≡ raised (H.state shelf.old).longs }
+    ensures no_fault { OnOk result (window.new.faults ≡ 0) }
     ensures no_memory { ¬ IsErrOf result FetchFault.NoMemory }
     ensures never_falls { NoCountFalls (H.state shelf.old) (H.state shelf.new) }
     ensures faults { ¬ IsErrOf result FetchFault.Failed →

@@ -1,5 +1,5 @@
 //! The bends that are folded at the row whose notes are read, and whether a reason holds there.
-ghost use Rattle.std.specs.Prelude.{◌≡◌, ◌↔◌, ◌*◌, ◌^◌, ◌<◌, ◌≤◌, IfSome, IsTrue};
+ghost use Rattle.std.specs.Prelude.{◌≡◌, ◌↔◌, ◌*◌, ◌^◌, ◌<◌, ◌≤◌, IfSome, IsNone, IsTrue};
 ghost use Rattle.job_setup.specs.Setup.{bend_count, stage_count};
 ghost use Rattle.job_setup.specs.StrokeGroup.{is_lead};
 ghost use Rattle.handling_cost.specs.Plan.{IsReasonFor};
@@ -73,6 +73,8 @@ impl RowSet {
         requires last { action.bend ≤ bend_count job.now }
         ensures codes { IfSome result
             (λ codes. AreCodesOf job.now self.now.mask action.bend action.back codes.0) }
+        ensures some { self.now.mask.0 < 2 ^ bend_count job.now
+            → IsTrue (is_lead job.now self.now.mask action.bend) → ¬ IsNone result }
         ensures sets { sets.new ≡ sets.old }
     {
         job.recall_valid();

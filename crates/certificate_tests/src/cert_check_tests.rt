@@ -190,6 +190,8 @@ struct FewAtATime {
 impl Reader for FewAtATime {
     ghost left = { λ _. None };
 
+    ghost faults = { λ _. 0 };
+
     fn read(&mut self, to: &mut [u8]) -> Option<usize> {
         let count = self.most.min(to.len());
         self.bytes.read(&mut to[..count])

@@ -86,7 +86,7 @@ fn open<H: Shelf>(
 }
 
 /// Reads the file of this number to its end.
-fn close<H: Shelf>(number: u8, window: Window<H::File>, shelf: &mut H) -> Result<(), FetchStop>
+fn close<H: Shelf>(number: u8, mut window: Window<H::File>, shelf: &mut H) -> Result<(), FetchStop>
     ensures only { OnlyFetches 0 (H.state shelf.old) (H.state shelf.new) }
     ensures never_falls { NoCountFalls (H.state shelf.old) (H.state shelf.new) }
     ensures whole { OnOk result (IsWhole window) }
@@ -99,7 +99,7 @@ fn close<H: Shelf>(number: u8, window: Window<H::File>, shelf: &mut H) -> Result
         Rose (H.state shelf.old).faults (H.state shelf.new).faults }
     ensures cause { IsErrOf result FetchStop.Fault → window.left ≡ None }
 {
-    match close_window(shelf, window) {
+    match close_window(shelf, &mut window) {
         Ok(()) => Ok(()),
         Err(FetchFault::Failed) => Err(FetchStop::Fault),
         Err(FetchFault::TooLong) => Err(FetchStop::TooLong(number)),

@@ -191,7 +191,7 @@ fn read_text<H: Shelf>(
             break;
         }
     }
-    close_window(shelf, window)?;
+    close_window(shelf, &mut window)?;
     Ok(text)
 }
 
@@ -242,17 +242,24 @@ fn a_text_in_pieces_is_the_whole_text(rt: HostRuntime) -> Result<(), Fail> {
 struct Growing {
     parts: usize,
     fails: bool,
+    faults: u64,
 }
 
 impl Reader for Growing {
     ghost left = { λ _. None };
 
+    ghost faults = { λ reader. reader.faults };
+
     fn read(&mut self, to: &mut [u8]) -> Option<usize> {
-        if self.parts == 0 {
-            return if self.fails { None } else { Some(0) };
+        if self.parts > 0 {
+            self.parts -= 1;
+            return Some(to.len().min(5_000));
         }
-        self.parts -= 1;
-        Some(to.len().min(5_000))
+        if self.fails {
+            self.faults = self.faults.saturating_add(1);
+            return None;
+        }
+        Some(0)
     }
 }
 
@@ -266,7 +273,12 @@ fn a_text_that_ends_otherwise_than_it_began(rt: HostRuntime) -> Result<(), Fail>
         (3, true, 14_999, Err(FetchFault::TooLong)),
         (1, true, 15_000, Err(FetchFault::Failed)),
     ] {
-        let mut window = Window::open(alloc, Growing { parts, fails }, limit)?;
+        let growing = Growing {
+            parts,
+            fails,
+            faults: 0,
+        };
+        let mut window = Window::open(alloc, growing, limit)?;
         window.fill();
         assert_eq!(rt; window.unread().len(), (parts * 5_000).min(10_000));
         assert_eq!(rt; window.finish(), outcome);
@@ -305,7 +317,7 @@ fn a_line_longer_than_the_buffer(rt: HostRuntime) -> Result<(), Fail> {
     assert_eq!(rt; Some(window.unread()), text.get(600_001..));
     window.fill_line(alloc)?;
     assert!(rt; window.is_over());
-    assert_eq!(rt; close_window(&mut shelf, window), Ok(()));
+    assert_eq!(rt; close_window(&mut shelf, &mut window), Ok(()));
     Ok(())
 }
 
