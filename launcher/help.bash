@@ -28,7 +28,7 @@ built_commands() {
 line_of() { if [ "$1" = sheet ]; then printf '%s\n' "$sheet_usage"; else usage_line "$1"; fi; }
 
 what_the_words_are() {
-  printf '\nPART, TOOLS and MACHINE are TOML files; CERT is stored by plan and read by check. All lengths are whole micrometres.\n'
+  printf '\nPART, TOOLS and MACHINE are TOML files; CERT is stored by plan and read by check and sheet. All lengths are whole micrometres.\n'
   printf 'SETUPS is a TOML file too: a list of setups, whose certificates are stored as CERT.0 to CERT.15.\n'
   printf 'OUT is a table that settle or merge stores, TABLE and BASE are such tables; LOW and HIGH are sets of bends as numbers.\n'
   printf 'The OUT of sheet is a page for a browser, which prints on A4.\n'
@@ -44,7 +44,8 @@ print_help() {
   done < <(built_commands)
   what_the_words_are
   printf 'The exit status: 0 done, 1 no plan, 2 faulty words, 3 a file is refused, 4 the budget is used up, 5 a certificate\n'
-  printf 'or a table is refused, 6 a file could not be read or stored, 7 no memory, 70 the launcher could not start the program.\n'
+  printf 'or a table is refused, 6 a file could not be read or stored, 7 no memory, 70 the launcher could not start the program\n'
+  printf 'or would have stored over an input.\n'
 }
 
 # The man page on standard input, with the commands that are built in the places that it keeps for them.

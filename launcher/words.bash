@@ -275,7 +275,7 @@ read_setup_stage() {
   local file=$setups number=0 header index setup place
   declare -gA text_of=()
   while setups_table_of $((++number)) && [ "$header" ]; do
-    [ "$header" = setup ] && [ "$setup" = "$1" ] || continue
+    { [ "$header" = setup ] && [ "$setup" = "$1" ]; } || continue
     setups_table_of $((number + 1 + $2)) && [ "$setup" = "$1" ] && read_table "$setups" "$header" "$index"
     return
   done

@@ -28,8 +28,8 @@ abbrev pub IsFurther : JobData → List PoolRow → Key → KnownActions → Poo
 IsFurther job rows key at row =
     IsSome row.worth × (HasSource job rows row.key ⊎ IsPending job key at row.key)
 
--- the pool while the key is settled: its row is the first after those from before, and has neither
--- a worth nor a reason yet
+-- the pool while the key is settled: its row is the first after those from before, and has no worth
+-- yet
 pub record IsSettlingAt (job : JobData) (before now : Pool) (key : Key) (at : KnownActions)
     (row : PoolRow) : Type 0 where
   pub sound : IsSound job now.rows

@@ -1,6 +1,7 @@
 //! The runs of `blank` that the documentation names, over files in memory, and runs in which the
 //! shelf or the sink fails.
 
+use crate::asserts::assert_equal;
 use crate::test_runs::run;
 use brake_io::{MemShelf, MemSink};
 use command_runner::Status;
@@ -57,8 +58,8 @@ fn refusals_of_a_part(rt: HostRuntime) -> Result<(), Fail> {
     for (old, new, line) in REFUSALS {
         let part = L_SECTION.replacen(alloc, old, new, 1)?;
         let (status, out) = blank_of(alloc, &part, TOOLS)?;
-        assert_eq!(rt; status, Status::Refused);
-        assert_eq!(rt; out.bytes(), line.as_bytes());
+        assert_equal(&rt, &status, &Status::Refused);
+        assert_equal(&rt, &out.bytes(), &line.as_bytes());
     }
     Ok(())
 }
@@ -74,8 +75,8 @@ fn refusals_by_rows_of_deductions(rt: HostRuntime) -> Result<(), Fail> {
     ] {
         let tools = TOOLS.repeat(alloc, rows)?;
         let (status, out) = blank_of(alloc, part, &tools)?;
-        assert_eq!(rt; status, Status::Refused);
-        assert_eq!(rt; out.bytes(), line.as_bytes());
+        assert_equal(&rt, &status, &Status::Refused);
+        assert_equal(&rt, &out.bytes(), &line.as_bytes());
     }
     Ok(())
 }
@@ -116,7 +117,7 @@ fn the_least_leg_and_the_most_faces(rt: HostRuntime) -> Result<(), Fail> {
         (&fourteen, Status::Refused, "refused part 4\n"),
     ] {
         let (ended, out) = blank_of(alloc, part, TOOLS)?;
-        assert_eq!(rt; ended, status);
+        assert_equal(&rt, &ended, &status);
         assert!(rt; out.bytes().starts_with(text.as_bytes()));
     }
     Ok(())
@@ -127,8 +128,8 @@ fn the_usage_text(rt: HostRuntime) -> Result<(), Fail> {
     let mut shelf = MemShelf::new(rt.alloc());
     let mut out = MemSink::new(rt.alloc());
     let status = run(rt.alloc(), &[], &mut shelf, &mut out)?;
-    assert_eq!(rt; status, Status::Usage);
-    assert_eq!(rt; out.bytes(), USAGE.as_bytes());
+    assert_equal(&rt, &status, &Status::Usage);
+    assert_equal(&rt, &out.bytes(), &USAGE.as_bytes());
     Ok(())
 }
 
@@ -150,8 +151,8 @@ fn files_of_a_mebibyte_and_longer(rt: HostRuntime) -> Result<(), Fail> {
         let part = padded(alloc, L_SECTION, part)?;
         let tools = padded(alloc, TOOLS, tools)?;
         let (ended, out) = blank_of(alloc, &part, &tools)?;
-        assert_eq!(rt; ended, status);
-        assert_eq!(rt; out.bytes(), text.as_bytes());
+        assert_equal(&rt, &ended, &status);
+        assert_equal(&rt, &out.bytes(), &text.as_bytes());
     }
     Ok(())
 }
@@ -163,8 +164,12 @@ fn no_file_is_fetched_behind_a_long_one(rt: HostRuntime) -> Result<(), Fail> {
     shelf.add("part", padded(alloc, L_SECTION, 1_048_577)?.as_bytes())?;
     let mut out = MemSink::new(alloc);
     // The tools file isn't held, so a fetch of it is a fault.
-    assert_eq!(rt; run(alloc, WORDS, &mut shelf, &mut out)?, Status::Refused);
-    assert_eq!(rt; out.bytes(), b"refused long 1\n".as_slice());
+    assert_equal(
+        &rt,
+        &run(alloc, WORDS, &mut shelf, &mut out)?,
+        &Status::Refused,
+    );
+    assert_equal(&rt, &out.bytes(), &b"refused long 1\n".as_slice());
     Ok(())
 }
 
@@ -183,8 +188,8 @@ fn each_call_failing_in_turn(rt: HostRuntime) -> Result<(), Fail> {
         shelf.fail_at(call)?;
         let mut out = MemSink::new(rt.alloc());
         out.fail_at(put, 10);
-        assert_eq!(rt; run(rt.alloc(), words, &mut shelf, &mut out)?, status);
-        assert_eq!(rt; out.bytes(), text.as_bytes());
+        assert_equal(&rt, &run(rt.alloc(), words, &mut shelf, &mut out)?, &status);
+        assert_equal(&rt, &out.bytes(), &text.as_bytes());
     }
     Ok(())
 }

@@ -1,5 +1,6 @@
 //! The runs of `check` and `trial` that the documentation names, over files in memory.
 
+use crate::asserts::assert_equal;
 use crate::test_runs::{certificate, run, shelf_with};
 use brake_io::{MemShelf, MemSink};
 use certificate_texts::{STEPS, VERSION_1_JOB, VERSION_2_JOB};
@@ -35,8 +36,8 @@ fn certificates_and_files(rt: HostRuntime) -> Result<(), Fail> {
         ] {
             let mut shelf = shelf_of(alloc, &cert, part)?;
             let mut out = MemSink::new(alloc);
-            assert_eq!(rt; run(alloc, words, &mut shelf, &mut out)?, status);
-            assert_eq!(rt; out.bytes(), text.as_bytes());
+            assert_equal(&rt, &run(alloc, words, &mut shelf, &mut out)?, &status);
+            assert_equal(&rt, &out.bytes(), &text.as_bytes());
         }
     }
     Ok(())
@@ -140,8 +141,8 @@ fn each_call_failing_in_turn(rt: HostRuntime) -> Result<(), Fail> {
         shelf.fail_at(call)?;
         let mut out = MemSink::new(alloc);
         out.fail_at(put, 7);
-        assert_eq!(rt; run(alloc, WITH_FILES, &mut shelf, &mut out)?, status);
-        assert_eq!(rt; out.bytes(), written.as_bytes());
+        assert_equal(&rt, &run(alloc, WITH_FILES, &mut shelf, &mut out)?, &status);
+        assert_equal(&rt, &out.bytes(), &written.as_bytes());
     }
     Ok(())
 }
@@ -181,11 +182,12 @@ fn trials(rt: HostRuntime) -> Result<(), Fail> {
         let mut shelf = MemShelf::new(alloc);
         let mut out = MemSink::new(alloc);
         out.fail_at(put, taken);
-        assert_eq!(rt;
-            run(alloc, &["trial", number], &mut shelf, &mut out)?,
-            status
+        assert_equal(
+            &rt,
+            &run(alloc, &["trial", number], &mut shelf, &mut out)?,
+            &status,
         );
-        assert_eq!(rt; out.bytes(), text.as_bytes());
+        assert_equal(&rt, &out.bytes(), &text.as_bytes());
     }
     Ok(())
 }

@@ -1,6 +1,7 @@
 //! The runs of `plan` that the documentation names, over files in memory, and runs in which the
 //! shelf or the sink fails.
 
+use crate::asserts::assert_equal;
 use crate::test_runs::{certificate, run, shelf_with};
 use brake_io::MemSink;
 use certificate_texts::VERSION_2_JOB;
@@ -93,10 +94,10 @@ fn plans(rt: HostRuntime) -> Result<(), Fail> {
     ] {
         let mut shelf = shelf_with(alloc, part, stage)?;
         let mut out = MemSink::new(alloc);
-        assert_eq!(rt; run(alloc, words, &mut shelf, &mut out)?, status);
-        assert_eq!(rt; out.bytes(), text.as_bytes());
+        assert_equal(&rt, &run(alloc, words, &mut shelf, &mut out)?, &status);
+        assert_equal(&rt, &out.bytes(), &text.as_bytes());
         let is_stored = status == Status::Done || status == Status::NoPlan;
-        assert_eq!(rt; shelf.bytes_of("cert").is_some(), is_stored);
+        assert_equal(&rt, &shelf.bytes_of("cert").is_some(), &is_stored);
     }
     Ok(())
 }
@@ -111,11 +112,11 @@ fn a_stored_certificate_is_confirmed(rt: HostRuntime) -> Result<(), Fail> {
     ] {
         let mut shelf = shelf_with(alloc, part, stage)?;
         let mut sheets = MemSink::new(alloc);
-        assert_eq!(rt; run(alloc, WORDS, &mut shelf, &mut sheets)?, status);
+        assert_equal(&rt, &run(alloc, WORDS, &mut shelf, &mut sheets)?, &status);
         for words in [CHECK, CHECK_FILES] {
             let mut out = MemSink::new(alloc);
-            assert_eq!(rt; run(alloc, words, &mut shelf, &mut out)?, status);
-            assert_eq!(rt; out.bytes(), line.as_bytes());
+            assert_equal(&rt, &run(alloc, words, &mut shelf, &mut out)?, &status);
+            assert_equal(&rt, &out.bytes(), &line.as_bytes());
         }
     }
     Ok(())
@@ -142,15 +143,15 @@ fn each_call_failing_in_turn(rt: HostRuntime) -> Result<(), Fail> {
         shelf.fail_at(call)?;
         let mut out = MemSink::new(alloc);
         out.fail_at(put, taken);
-        assert_eq!(rt; run(alloc, WORDS, &mut shelf, &mut out)?, status);
-        assert_eq!(rt; out.bytes().len(), written);
+        assert_equal(&rt, &run(alloc, WORDS, &mut shelf, &mut out)?, &status);
+        assert_equal(&rt, &out.bytes().len(), &written);
         assert!(rt; U_SHEETS.as_bytes().starts_with(out.bytes()));
         let stored = if put == 0 {
             None
         } else {
             Some(cert.as_bytes())
         };
-        assert_eq!(rt; shelf.bytes_of("cert"), stored);
+        assert_equal(&rt, &shelf.bytes_of("cert"), &stored);
     }
     Ok(())
 }

@@ -1,6 +1,7 @@
 //! The runs of `setups` that the documentation names, over files in memory, and runs in which the
 //! shelf or the sink fails.
 
+use crate::asserts::assert_equal;
 use crate::test_runs::{run, shelf_with};
 use brake_io::{MemShelf, MemSink};
 use command_runner::Status;
@@ -103,12 +104,12 @@ fn lists_and_refusals(rt: HostRuntime) -> Result<(), Fail> {
     ] {
         let mut shelf = shelf_of(alloc, setups)?;
         let mut out = MemSink::new(alloc);
-        assert_eq!(rt; run(alloc, WORDS, &mut shelf, &mut out)?, status);
-        assert_eq!(rt; out.bytes(), text.as_bytes());
+        assert_equal(&rt, &run(alloc, WORDS, &mut shelf, &mut out)?, &status);
+        assert_equal(&rt, &out.bytes(), &text.as_bytes());
         let is_stored = status == Status::Done || status == Status::NoPlan;
-        assert_eq!(rt; shelf.bytes_of("best.0").is_some(), is_stored);
-        assert_eq!(rt; shelf.bytes_of("best.1").is_some(), false);
-        assert_eq!(rt; shelf.bytes_of("best.2").is_some(), is_stored);
+        assert_equal(&rt, &shelf.bytes_of("best.0").is_some(), &is_stored);
+        assert_equal(&rt, &shelf.bytes_of("best.1").is_some(), &false);
+        assert_equal(&rt, &shelf.bytes_of("best.2").is_some(), &is_stored);
     }
     Ok(())
 }
@@ -118,14 +119,22 @@ fn each_stored_certificate_is_confirmed(rt: HostRuntime) -> Result<(), Fail> {
     let alloc = rt.alloc();
     let mut shelf = shelf_of(alloc, THREE)?;
     let mut sheets = MemSink::new(alloc);
-    assert_eq!(rt; run(alloc, WORDS, &mut shelf, &mut sheets)?, Status::Done);
+    assert_equal(
+        &rt,
+        &run(alloc, WORDS, &mut shelf, &mut sheets)?,
+        &Status::Done,
+    );
     for (name, status, line) in [
         ("best.0", Status::NoPlan, "no plan\n"),
         ("best.2", Status::Done, "optimal 100\n"),
     ] {
         let mut out = MemSink::new(alloc);
-        assert_eq!(rt; run(alloc, &["check", name], &mut shelf, &mut out)?, status);
-        assert_eq!(rt; out.bytes(), line.as_bytes());
+        assert_equal(
+            &rt,
+            &run(alloc, &["check", name], &mut shelf, &mut out)?,
+            &status,
+        );
+        assert_equal(&rt, &out.bytes(), &line.as_bytes());
     }
     Ok(())
 }
@@ -146,11 +155,11 @@ fn each_call_failing_in_turn(rt: HostRuntime) -> Result<(), Fail> {
         shelf.fail_at(call)?;
         let mut out = MemSink::new(alloc);
         out.fail_at(put, 0);
-        assert_eq!(rt; run(alloc, WORDS, &mut shelf, &mut out)?, status);
-        assert_eq!(rt; out.bytes().len(), written);
+        assert_equal(&rt, &run(alloc, WORDS, &mut shelf, &mut out)?, &status);
+        assert_equal(&rt, &out.bytes().len(), &written);
         assert!(rt; BEST.as_bytes().starts_with(out.bytes()));
-        assert_eq!(rt; shelf.bytes_of("best.0").is_some(), first);
-        assert_eq!(rt; shelf.bytes_of("best.2").is_some(), second);
+        assert_equal(&rt, &shelf.bytes_of("best.0").is_some(), &first);
+        assert_equal(&rt, &shelf.bytes_of("best.2").is_some(), &second);
     }
     Ok(())
 }

@@ -1,6 +1,7 @@
 //! The runs of `settle`, `merge` and `prove` that the documentation names, over files in memory, and
 //! runs in which the shelf or the sink fails.
 
+use crate::asserts::assert_equal;
 use crate::test_runs::{run, shelf_with};
 use brake_io::{MemShelf, MemSink};
 use command_runner::Status;
@@ -73,11 +74,11 @@ fn settled_merged_and_proved(rt: HostRuntime) -> Result<(), Fail> {
         ),
     ] {
         let (ended, out) = answer_to(alloc, words, &mut shelf)?;
-        assert_eq!(rt; ended, status);
-        assert_eq!(rt; out.bytes(), text.as_bytes());
+        assert_equal(&rt, &ended, &status);
+        assert_equal(&rt, &out.bytes(), &text.as_bytes());
     }
     assert!(rt; shelf.bytes_of("out").is_some());
-    assert_eq!(rt; shelf.bytes_of("out"), shelf.bytes_of("turned"));
+    assert_equal(&rt, &shelf.bytes_of("out"), &shelf.bytes_of("turned"));
     Ok(())
 }
 
@@ -86,11 +87,11 @@ fn a_whole_range_proves_the_least_cost(rt: HostRuntime) -> Result<(), Fail> {
     let alloc = rt.alloc();
     let mut shelf = shelf_with(alloc, U_CHANNEL, STAGE)?;
     let (status, out) = answer_to(alloc, WHOLE, &mut shelf)?;
-    assert_eq!(rt; status, Status::Done);
-    assert_eq!(rt; out.bytes(), "rows 72\nat least 200\n".as_bytes());
+    assert_equal(&rt, &status, &Status::Done);
+    assert_equal(&rt, &out.bytes(), &"rows 72\nat least 200\n".as_bytes());
     let (status, out) = answer_to(alloc, &["prove", "out"], &mut shelf)?;
-    assert_eq!(rt; status, Status::Done);
-    assert_eq!(rt; out.bytes(), "rows 72\nat least 200\n".as_bytes());
+    assert_equal(&rt, &status, &Status::Done);
+    assert_equal(&rt, &out.bytes(), &"rows 72\nat least 200\n".as_bytes());
     Ok(())
 }
 
@@ -138,8 +139,8 @@ fn refused_files_and_ranges(rt: HostRuntime) -> Result<(), Fail> {
     ] {
         let mut shelf = shelf_with(alloc, part, STAGE)?;
         let (ended, out) = answer_to(alloc, words, &mut shelf)?;
-        assert_eq!(rt; ended, status);
-        assert_eq!(rt; out.bytes(), text.as_bytes());
+        assert_equal(&rt, &ended, &status);
+        assert_equal(&rt, &out.bytes(), &text.as_bytes());
         assert!(rt; shelf.bytes_of("out").is_none());
     }
     Ok(())
@@ -205,8 +206,8 @@ fn refused_tables(rt: HostRuntime) -> Result<(), Fail> {
         (X_OVER_Y, "y", "force 0", "force 1", OTHER_JOB),
     ] {
         let (status, out) = answer_to_altered(alloc, words, name, old, new)?;
-        assert_eq!(rt; status, Status::CertRefused);
-        assert_eq!(rt; out.bytes(), text.as_bytes());
+        assert_equal(&rt, &status, &Status::CertRefused);
+        assert_equal(&rt, &out.bytes(), &text.as_bytes());
     }
     Ok(())
 }
@@ -234,9 +235,9 @@ fn each_call_failing_in_turn(rt: HostRuntime) -> Result<(), Fail> {
         shelf.fail_at(calls)?;
         let mut out = MemSink::new(alloc);
         out.fail_at(put, 0);
-        assert_eq!(rt; run(alloc, words, &mut shelf, &mut out)?, status);
-        assert_eq!(rt; out.bytes(), written.as_bytes());
-        assert_eq!(rt; shelf.bytes_of("out").is_some(), is_stored);
+        assert_equal(&rt, &run(alloc, words, &mut shelf, &mut out)?, &status);
+        assert_equal(&rt, &out.bytes(), &written.as_bytes());
+        assert_equal(&rt, &shelf.bytes_of("out").is_some(), &is_stored);
     }
     Ok(())
 }

@@ -1,6 +1,7 @@
 //! The runs of `why` that the documentation names, over files in memory, and runs in which the
 //! shelf or the sink fails.
 
+use crate::asserts::assert_equal;
 use crate::test_runs::{run, shelf_with};
 use brake_io::MemSink;
 use command_runner::Status;
@@ -46,8 +47,8 @@ fn nogoods_and_refusals(rt: HostRuntime) -> Result<(), Fail> {
     ] {
         let mut shelf = shelf_with(alloc, part, stage)?;
         let mut out = MemSink::new(alloc);
-        assert_eq!(rt; run(alloc, WORDS, &mut shelf, &mut out)?, status);
-        assert_eq!(rt; out.bytes(), text.as_bytes());
+        assert_equal(&rt, &run(alloc, WORDS, &mut shelf, &mut out)?, &status);
+        assert_equal(&rt, &out.bytes(), &text.as_bytes());
     }
     Ok(())
 }
@@ -67,8 +68,8 @@ fn each_call_failing_in_turn(rt: HostRuntime) -> Result<(), Fail> {
         shelf.fail_at(call)?;
         let mut out = MemSink::new(alloc);
         out.fail_at(put, taken);
-        assert_eq!(rt; run(alloc, WORDS, &mut shelf, &mut out)?, status);
-        assert_eq!(rt; out.bytes().len(), written);
+        assert_equal(&rt, &run(alloc, WORDS, &mut shelf, &mut out)?, &status);
+        assert_equal(&rt, &out.bytes().len(), &written);
         assert!(rt; UNCOVERED.as_bytes().starts_with(out.bytes()));
     }
     Ok(())

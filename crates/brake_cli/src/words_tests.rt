@@ -1,5 +1,6 @@
 //! Words that have no form, and words that have one.
 
+use crate::asserts::assert_equal;
 use crate::test_runs::{run, words_of};
 use brake_commands::{Command, read_words};
 use brake_io::{MemShelf, MemSink};
@@ -157,10 +158,10 @@ fn read(alloc: Global, words: &[&str]) -> Result<Option<Command>, AllocError> {
 fn words_without_and_with_a_form(rt: HostRuntime) -> Result<(), Fail> {
     let alloc = rt.alloc();
     for words in NO_FORM {
-        assert_eq!(rt; read(alloc, words)?, None);
+        assert_equal(&rt, &read(alloc, words)?, &None);
     }
     for (words, command) in FORMS {
-        assert_eq!(rt; read(alloc, words)?, Some(command));
+        assert_equal(&rt, &read(alloc, words)?, &Some(command));
     }
     Ok(())
 }
@@ -172,7 +173,11 @@ fn usage_before_anything_is_fetched(rt: HostRuntime) -> Result<(), Fail> {
         let mut shelf = MemShelf::new(alloc);
         shelf.fail_at(1)?;
         let mut out = MemSink::new(alloc);
-        assert_eq!(rt; run(alloc, words, &mut shelf, &mut out)?, Status::Usage);
+        assert_equal(
+            &rt,
+            &run(alloc, words, &mut shelf, &mut out)?,
+            &Status::Usage,
+        );
         assert!(rt; out.bytes().starts_with(b"usage: brake blank PART TOOLS\n"));
     }
     Ok(())

@@ -83,6 +83,6 @@ read_by [] words = None
 read_by (form ∷ forms) words =
     if is_form (kinds_of form) words then read_as form words else read_by forms words
 
--- the command that the words say; none where they have no form
+-- the command that the words say; none where they have no form, or a number isn't in its range
 unfoldable pub command_of : List (List ℕ) → Option Command
 command_of words = read_by forms words

@@ -64,7 +64,7 @@ abbrev pub best_texts : ℕ → PlannedData → List (List ℕ)
 best_texts place planned = best_line place ∷ setup_text planned.job
     ∷ order_text planned.job planned.cert.steps ∷ []
 
--- How it ends: with the first setup of least cost, whose plan and no other pair costs less, and the
+-- How it ends: with the first setup of least cost, than whose plan no other pair costs less, and the
 -- sheets of that plan; or with there being no pair.
 pub data IsEnding (list : SetupList) (attempts : List AttemptData)
     : Status → List (List ℕ) → Type 0 where

@@ -35,8 +35,9 @@ fn put_usage<H: Shelf, K: Sink>(alloc: Global, shelf: &mut H, out: &mut K) -> St
 /// Runs the command whose words these are: `blank PART TOOLS` puts the blank sheet, and `plan PART
 /// TOOLS MACHINE CERT` stores the certificate of a plan of least cost and puts the sheets; `check
 /// CERT`, with the files of a job or without, puts what the certificate proves; `trial N` plans a
-/// generated job and checks the certificate; `why` and `setups` put what refuses a bend, and the
-/// cheapest setup; `settle`, `merge` and `prove` store and check tables. Words of no form are
+/// generated job and checks the certificate; `why` puts what refuses a bend; `setups` stores the
+/// certificates of a list of setups and puts the cheapest one; `settle` and `merge` store a table,
+/// and `prove` puts what one proves. Words of no form, or with a number out of its range, are
 /// answered by the usage text before anything is fetched.
 pub fn brake<H: Shelf, K: Sink>(
     alloc: Global,
@@ -45,8 +46,8 @@ pub fn brake<H: Shelf, K: Sink>(
     out: &mut K,
 ) -> Status
     // The run stores and puts an answer that the words and the files have, or is cut short: before an
-    // answer is given only `plan` and `setups` have stored anything, the certificate of one of its
-    // answers or a beginning of it, and a beginning of the certificates.
+    // answer is given only `plan`, `settle` and `merge` have stored anything, the text of one of its
+    // answers or a beginning of it, and `setups`, the first of its certificates.
     ensures ends { RunEnds (map string_bytes words.now)
         (record { shelf = H.state shelf.old; sink = K.state out.old })
         (record { shelf = H.state shelf.new; sink = K.state out.new }) result }

@@ -201,7 +201,7 @@ fn fitted_answer<H: Shelf>(
     Ok(tried_answer(alloc, sheet, attempts.as_slice())?)
 }
 
-/// The answer to a list of setups, which is that of these contents.
+/// The answer to a list of setups: the first refusal of a setup, or that by all tried setups.
 fn list_answer<H: Shelf>(
     alloc: Global,
     name: &str,

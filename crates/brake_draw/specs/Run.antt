@@ -38,7 +38,7 @@ abbrev pub RunOutcome : List (List ℕ) → Outside → Outside → Status → T
 RunOutcome words before now status =
     IsOutcome (form_for words) (meaning_for words) words before now status
 
--- the same of words that fetch nothing
+-- a run of words that fetch nothing ends so
 abbrev pub EndsAtOnce : List (List ℕ) → Outside → Outside → Status → Type 0
 EndsAtOnce words before now status =
     Ends [] (meaning_by false) no_beginning words before now status

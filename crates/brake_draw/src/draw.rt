@@ -80,8 +80,8 @@ fn told_size(text: &[u8]) -> i64
     text.len().min(usize::MAX / 2) as i64
 }
 
-/// The answer to the certificate of a plan of least cost, of which the steps alone are read once more:
-/// its page is stored under the name.
+/// The answer to the certificate of a plan of least cost, which is read once more up to the line
+/// behind its steps: its page is stored under the name.
 fn plan_drawn(
     alloc: Global,
     name: &str,

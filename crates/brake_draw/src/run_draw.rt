@@ -52,8 +52,8 @@ pub fn run_draw<H: Shelf, K: Sink>(
     shelf: &mut H,
     out: &mut K,
 ) -> Status
-    // The run stores and puts an answer that the words and the certificate have, or is cut short: then
-    // it has stored nothing whole.
+    // The run stores and puts an answer that the words and the certificate have, or is cut short:
+    // before an answer is given nothing is stored.
     ensures ends { RunEnds (map string_bytes words.now)
         (record { shelf = H.state shelf.old; sink = K.state out.old })
         (record { shelf = H.state shelf.new; sink = K.state out.new }) result }

@@ -1,5 +1,6 @@
 //! The notes of a certificate's rows: of each row the actions that are noted, and the first note
-//! whose reason doesn't hold. Each reason is tested where its note is read.
+//! whose reason doesn't hold. A reason is tested where its note is read, unless it is known to hold
+//! there or one before it doesn't hold.
 ghost use Rattle.std.specs.Prelude.{◌≡◌, ◌-◌, ◌*◌, ◌<◌, ◌≤◌, ◌++◌, ◌∷◌, [], IfOk, IsTrue, OnOk, List, None, length};
 ghost use Rattle.job_setup.specs.Setup.{JobData, bend_count, stage_count};
 ghost use Rattle.handling_cost.specs.Plan.{IsReasonFor};

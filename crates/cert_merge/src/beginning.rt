@@ -11,7 +11,7 @@ use std::alloc::{AllocError, Global};
 /// Room for a row with its notes, in bytes: they have at most 2,761.
 const ROW_ROOM: usize = 2_816;
 
-/// A piece ends with the first row behind which it has so many bytes.
+/// A piece that is made row by row ends with the first row behind which it has so many bytes.
 pub(crate) const FULL: usize = PIECE - ROW_ROOM;
 
 /// The text of a table up to its rows.

@@ -41,7 +41,7 @@ impl From<CheckFault> for ProveFault {
             CheckFault::NotClosed { row, action } => {
                 ProveFault::Rows(TableFault::NotClosed { row, action })
             }
-            // The other causes are those of a certificate's claim and steps.
+            // Memory ran out. The other causes are those of a certificate's claim and steps.
             _ => ProveFault::Text(CertFault::NoMemory),
         }
     }

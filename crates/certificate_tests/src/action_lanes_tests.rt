@@ -3,6 +3,7 @@
 ghost use Rattle.std.specs.Prelude.{◌<◌, ◌≤◌};
 ghost use Rattle.brake_base.specs.Actions.{IsActionAmong};
 
+use crate::asserts::assert_equal;
 use action_lanes::ActionCosts;
 use brake_base::{Action, Back, Mask};
 use stage_lanes::{ActionSet, BLOCKED, StageCosts};
@@ -37,18 +38,27 @@ fn sums() -> ActionCosts {
 #[test]
 fn costs_of_actions(rt: HostRuntime) {
     let sums = sums();
-    assert_eq!(rt; sums.cost(action(2, 1)), 50);
-    assert_eq!(rt; sums.side(3, Back::Parent).least(), 50);
-    assert_eq!(rt; sums.least(leads()), 40);
-    assert_eq!(rt; sums.least(Mask::empty().with(1)), BLOCKED);
+    assert_equal(&rt, &sums.cost(action(2, 1)), &50);
+    assert_equal(&rt, &sums.side(3, Back::Parent).least(), &50);
+    assert_equal(&rt, &sums.least(leads()), &40);
+    assert_equal(&rt, &sums.least(Mask::empty().with(1)), &BLOCKED);
     let both = ActionSet::empty().with(action(2, 1)).with(action(3, 1));
-    assert_eq!(rt; sums.equal(leads(), 50), both);
-    assert_eq!(rt; sums.first_of(both), Some(action(2, 1)));
-    assert_eq!(rt; sums.first_of(both.with(action(2, 0))), Some(action(2, 0)));
-    assert_eq!(rt; sums.first_of(ActionSet::empty()), None);
-    assert_eq!(rt;
-        sums.below(leads(), 50),
-        ActionSet::empty().with(action(2, 0))
+    assert_equal(&rt, &sums.equal(leads(), 50), &both);
+    assert_equal(&rt, &sums.first_of(both), &Some(action(2, 1)));
+    assert_equal(
+        &rt,
+        &sums.first_of(both.with(action(2, 0))),
+        &Some(action(2, 0)),
     );
-    assert_eq!(rt; sums.below(Mask::empty().with(3), 50).is_empty(), true);
+    assert_equal(&rt, &sums.first_of(ActionSet::empty()), &None);
+    assert_equal(
+        &rt,
+        &sums.below(leads(), 50),
+        &ActionSet::empty().with(action(2, 0)),
+    );
+    assert_equal(
+        &rt,
+        &sums.below(Mask::empty().with(3), 50).is_empty(),
+        &true,
+    );
 }

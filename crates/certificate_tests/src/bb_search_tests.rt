@@ -1,5 +1,6 @@
 //! The worked parts, searched with ample and with little budget.
 
+use crate::asserts::assert_equal;
 use crate::first_stage::{key, step};
 use bb_search::{Outcome, Search, nodes};
 use brake_base::{Back, Quarter, Reason, Worth};
@@ -154,18 +155,28 @@ fn outcomes_of_the_worked_parts(rt: HostRuntime) -> Result<(), Fail> {
     let u_channel = job_with(alloc, U_CHANNEL, "[100000]")?;
     let high_channel = job_with(alloc, &high, "[100000]")?;
     let four = job_with(alloc, FOUR_FLANGES, "[45000]")?;
-    assert_eq!(rt; nodes(&u_channel), 49);
-    assert_eq!(rt;
-        outcome_of(alloc, &l_section, 1)?,
-        Outcome::Best { cost: 100 }
+    assert_equal(&rt, &nodes(&u_channel), &49);
+    assert_equal(
+        &rt,
+        &outcome_of(alloc, &l_section, 1)?,
+        &Outcome::Best { cost: 100 },
     );
-    assert_eq!(rt; outcome_of(alloc, &u_channel, 1)?, Outcome::Spent);
-    assert_eq!(rt;
-        outcome_of(alloc, &u_channel, 5)?,
-        Outcome::Best { cost: 200 }
+    assert_equal(&rt, &outcome_of(alloc, &u_channel, 1)?, &Outcome::Spent);
+    assert_equal(
+        &rt,
+        &outcome_of(alloc, &u_channel, 5)?,
+        &Outcome::Best { cost: 200 },
     );
-    assert_eq!(rt; outcome_of(alloc, &high_channel, 49)?, Outcome::Blocked);
-    assert_eq!(rt; outcome_of(alloc, &four, 8)?, Outcome::Best { cost: 400 });
+    assert_equal(
+        &rt,
+        &outcome_of(alloc, &high_channel, 49)?,
+        &Outcome::Blocked,
+    );
+    assert_equal(
+        &rt,
+        &outcome_of(alloc, &four, 8)?,
+        &Outcome::Best { cost: 400 },
+    );
     Ok(())
 }
 
@@ -174,8 +185,12 @@ fn outcomes_of_the_worked_parts(rt: HostRuntime) -> Result<(), Fail> {
 fn four_keys_settle_the_four_flanges(rt: HostRuntime) -> Result<(), Fail> {
     let alloc = rt.alloc();
     let job = job_with(alloc, FOUR_FLANGES, "[45000]")?;
-    assert_eq!(rt; outcome_of(alloc, &job, 3)?, Outcome::Spent);
-    assert_eq!(rt; outcome_of(alloc, &job, 4)?, Outcome::Best { cost: 400 });
+    assert_equal(&rt, &outcome_of(alloc, &job, 3)?, &Outcome::Spent);
+    assert_equal(
+        &rt,
+        &outcome_of(alloc, &job, 4)?,
+        &Outcome::Best { cost: 400 },
+    );
     let cert = certificate_of(&rt, alloc, &job)?.expect(&rt, "a certificate");
     assert!(rt; cert.rows.len() == 4 && cert.steps.len() == 4);
     let steps = cert.steps.as_slice();
@@ -191,9 +206,9 @@ fn a_lid_has_a_plan_where_its_walls_are_halved(rt: HostRuntime) -> Result<(), Fa
     let machine = format!(in alloc; "fine = 1\n{MACHINE}{STAGE}")?;
     let halved = job_of(alloc, LID, TOOLS, &machine)?;
     let budget = nodes(&whole);
-    assert_eq!(rt; outcome_of(alloc, &whole, budget)?, Outcome::Blocked);
+    assert_equal(&rt, &outcome_of(alloc, &whole, budget)?, &Outcome::Blocked);
     let best = Outcome::Best { cost: 420 };
-    assert_eq!(rt; outcome_of(alloc, &halved, budget)?, best);
+    assert_equal(&rt, &outcome_of(alloc, &halved, budget)?, &best);
     Ok(())
 }
 
@@ -203,7 +218,7 @@ fn the_most_nodes_of_a_job(rt: HostRuntime) -> Result<(), Fail> {
     let part = twelve_flanges(alloc)?;
     let machine = six_stages(alloc)?;
     let job = job_of(alloc, &part, TOOLS, &machine)?;
-    assert_eq!(rt; nodes(&job), 589_537);
+    assert_equal(&rt, &nodes(&job), &589_537);
     Ok(())
 }
 
@@ -256,7 +271,11 @@ fn the_first_made_jobs_have_no_plan(rt: HostRuntime) -> Result<(), Fail> {
     let alloc = rt.alloc();
     for n in 0..4 {
         let job = made_job(n);
-        assert_eq!(rt; outcome_of(alloc, &job, nodes(&job))?, Outcome::Blocked);
+        assert_equal(
+            &rt,
+            &outcome_of(alloc, &job, nodes(&job))?,
+            &Outcome::Blocked,
+        );
     }
     Ok(())
 }

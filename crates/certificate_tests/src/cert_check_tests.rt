@@ -2,6 +2,7 @@
 //! are bent in one stroke.
 ghost use Rattle.std.specs.Prelude.{None};
 
+use crate::asserts::assert_equal;
 use brake_io::{HeldBytes, Reader, Window};
 use cert_check::{CheckFault, StepFault, Verdict, check, check_from};
 use certificate_texts::{GANG_JOB, ROWS, STEPS, VERSION_1_JOB};
@@ -51,7 +52,7 @@ fn a_good_certificate_is_accepted(rt: HostRuntime) -> Result<(), Fail> {
         (&job, STEPS, "end\n", Verdict::Optimal { cost: 200 }),
         (&high, "claim none\n", HIGH_ROWS, Verdict::NoPlan),
     ] {
-        assert_eq!(rt; answer_of(alloc, job, steps, rows)?, Ok(verdict));
+        assert_equal(&rt, &answer_of(alloc, job, steps, rows)?, &Ok(verdict));
     }
     Ok(())
 }
@@ -173,9 +174,9 @@ fn two_flanges_of_a_gang_are_bent_by_their_lead(rt: HostRuntime) -> Result<(), F
     let job = GANG_JOB.concat(alloc)?;
     let good = ("claim 100\nstep 1 C 0 1 1\n", "row 0 0 0 100\nend\n");
     let optimal = Ok(Verdict::Optimal { cost: 100 });
-    assert_eq!(rt; answer_of(alloc, &job, good.0, good.1)?, optimal);
+    assert_equal(&rt, &answer_of(alloc, &job, good.0, good.1)?, &optimal);
     for (lines, fault) in GANG_FAULTS {
-        assert_eq!(rt; answer_of(alloc, &job, lines, "")?, Err(fault));
+        assert_equal(&rt, &answer_of(alloc, &job, lines, "")?, &Err(fault));
     }
     Ok(())
 }
@@ -236,7 +237,7 @@ fn a_text_in_pieces_is_answered_as_a_whole_one(rt: HostRuntime) -> Result<(), Fa
     for text in &all_texts(alloc)? {
         let whole = answer_of(alloc, text, "", "")?;
         for most in [1, 40, 1000] {
-            assert_eq!(rt; answer_in_pieces(alloc, text, most)?, whole);
+            assert_equal(&rt, &answer_in_pieces(alloc, text, most)?, &whole);
         }
     }
     Ok(())

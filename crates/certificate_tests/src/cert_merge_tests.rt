@@ -1,5 +1,6 @@
 //! Tables of the U channel: written, read, checked and altered.
 
+use crate::asserts::assert_equal;
 use brake_base::Worth;
 use cert_merge::{ProveFault, TableFault, check_table, prove_text, read_table, write_table};
 use certificate_texts::{ROWS, VERSION_2_JOB};
@@ -45,7 +46,7 @@ fn a_table_is_written_as_it_was_read(rt: HostRuntime) -> Result<(), Fail> {
         let text = text_of(alloc, rows)?;
         let file = read_table(alloc, text.as_bytes())?;
         let again = write_table(alloc, &file.job, &file.table)?;
-        assert_eq!(rt; again.as_slice(), text.as_bytes());
+        assert_equal(&rt, &again.as_slice(), &text.as_bytes());
     }
     Ok(())
 }
@@ -61,7 +62,7 @@ fn a_beginning_of_a_table_is_unended(rt: HostRuntime) -> Result<(), Fail> {
     let text = text_of(alloc, FIRST)?;
     for end in 0..text.len() {
         let fault = fault_of(alloc, &text.as_bytes()[..end]);
-        assert_eq!(rt; fault, Some(CertFault::Unended));
+        assert_equal(&rt, &fault, &Some(CertFault::Unended));
     }
     Ok(())
 }
@@ -88,12 +89,13 @@ fn altered_tables_are_refused_at_their_line(rt: HostRuntime) -> Result<(), Fail>
     for (rows, line) in REFUSED {
         let text = text_of(alloc, rows)?;
         let wanted = CertFault::BadLine { line };
-        assert_eq!(rt; fault_of(alloc, text.as_bytes()), Some(wanted));
+        assert_equal(&rt, &fault_of(alloc, text.as_bytes()), &Some(wanted));
     }
     let behind = format!(in alloc; "{}x", text_of(alloc, FIRST)?)?;
-    assert_eq!(rt;
-        fault_of(alloc, behind.as_bytes()),
-        Some(CertFault::Trailing)
+    assert_equal(
+        &rt,
+        &fault_of(alloc, behind.as_bytes()),
+        &Some(CertFault::Trailing),
     );
     Ok(())
 }
@@ -123,8 +125,8 @@ fn the_worked_table_proves_the_least_cost(rt: HostRuntime) -> Result<(), Fail> {
     // The bound alone proves it too.
     for rows in [ROWS, "end\n"] {
         let text = format!(in alloc; "{head}{rows}")?;
-        assert_eq!(rt; answer_of(alloc, &text), Ok(Worth::Cost(200)));
-        assert_eq!(rt; proved_of(alloc, &text), Ok(Worth::Cost(200)));
+        assert_equal(&rt, &answer_of(alloc, &text), &Ok(Worth::Cost(200)));
+        assert_equal(&rt, &proved_of(alloc, &text), &Ok(Worth::Cost(200)));
     }
     Ok(())
 }
@@ -248,7 +250,7 @@ fn a_table_of_another_job_gives_that_job(rt: HostRuntime) -> Result<(), Fail> {
     let other = text.replace(alloc, "30000 up", "80000 up")?;
     let file = read_table(alloc, other.as_bytes())?;
     let again = write_table(alloc, &file.job, &file.table)?;
-    assert_eq!(rt; again.as_slice(), other.as_bytes());
+    assert_equal(&rt, &again.as_slice(), &other.as_bytes());
     assert!(rt; again.as_slice() != text.as_bytes());
     Ok(())
 }

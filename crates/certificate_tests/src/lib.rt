@@ -6,6 +6,8 @@
 #[cfg(test)]
 mod action_lanes_tests;
 #[cfg(test)]
+mod asserts;
+#[cfg(test)]
 mod bb_search_tests;
 #[cfg(test)]
 mod cert_check_tests;

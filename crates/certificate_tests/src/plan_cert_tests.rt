@@ -1,5 +1,6 @@
 //! The certificates of a U channel, written, read and altered line by line.
 
+use crate::asserts::assert_equal;
 use arrayvec::ArrayVec;
 use brake_base::Worth;
 use certificate_texts::{FINE_JOB, ROWS, STEPS, VERSION_1_JOB, VERSION_2_JOB};
@@ -23,7 +24,7 @@ fn u_channel_without_rows(rt: HostRuntime) -> Result<(), Fail> {
     let text = write_cert(alloc, &job, &cert)?;
     let lines = VERSION_2_JOB.concat(alloc)?;
     let wanted = format!(in alloc; "{lines}claim none\nend\n")?;
-    assert_eq!(rt; text.as_slice(), wanted.as_bytes());
+    assert_equal(&rt, &text.as_slice(), &wanted.as_bytes());
     Ok(())
 }
 
@@ -49,7 +50,7 @@ fn a_table_file_begins_with_its_job(rt: HostRuntime) -> Result<(), Fail> {
     let text = format!(in alloc; "{head}row 1 0 0 130\nx 2 P 0 8\nrow 2 0 0 100\nend\n")?;
     let mut reader = CertReader::table(text.as_bytes());
     let first = reader.next();
-    assert_eq!(rt; matches!(first, Ok(Item::Job(_))), true);
+    assert_equal(&rt, &matches!(first, Ok(Item::Job(_))), &true);
     Ok(())
 }
 
@@ -73,7 +74,7 @@ fn whole_texts_are_read(rt: HostRuntime) -> Result<(), Fail> {
     let new = certificate(alloc, &VERSION_2_JOB)?;
     for text in [&old, &new] {
         let text = rewritten(alloc, text)?;
-        assert_eq!(rt; text.as_slice(), new.as_bytes());
+        assert_equal(&rt, &text.as_slice(), &new.as_bytes());
     }
     Ok(())
 }
@@ -83,7 +84,7 @@ fn a_text_with_a_depth_is_read(rt: HostRuntime) -> Result<(), Fail> {
     let alloc = rt.alloc();
     let fine = certificate(alloc, &FINE_JOB)?;
     let text = rewritten(alloc, &fine)?;
-    assert_eq!(rt; text.as_slice(), fine.as_bytes());
+    assert_equal(&rt, &text.as_slice(), &fine.as_bytes());
     Ok(())
 }
 
@@ -106,12 +107,12 @@ fn depths(rt: HostRuntime) -> Result<(), Fail> {
     let whole = certificate(alloc, &FINE_JOB)?;
     for (number, line, fault) in FINE_FAULTS {
         let text = changed(alloc, &whole, number, line)?;
-        assert_eq!(rt; read_cert(alloc, text.as_bytes()).err(), Some(fault));
+        assert_equal(&rt, &read_cert(alloc, text.as_bytes()).err(), &Some(fault));
     }
     let old = certificate(alloc, &VERSION_1_JOB)?;
     let text = changed(alloc, &old, 11, "cost 100 20 30 60 80 40\nfine 10\n")?;
     let fault = CertFault::BadLine { line: 12 };
-    assert_eq!(rt; read_cert(alloc, text.as_bytes()).err(), Some(fault));
+    assert_equal(&rt, &read_cert(alloc, text.as_bytes()).err(), &Some(fault));
     Ok(())
 }
 
@@ -175,7 +176,7 @@ fn refusals(rt: HostRuntime) -> Result<(), Fail> {
     let whole = certificate(alloc, &VERSION_1_JOB)?;
     for (number, line, fault) in FAULTS {
         let text = changed(alloc, &whole, number, line)?;
-        assert_eq!(rt; read_cert(alloc, text.as_bytes()).err(), Some(fault));
+        assert_equal(&rt, &read_cert(alloc, text.as_bytes()).err(), &Some(fault));
     }
     Ok(())
 }

@@ -1,5 +1,6 @@
 //! Sentences of printed lines, and lines that have none.
 
+use crate::asserts::assert_equal;
 use refusal_words::sentence;
 use std::test::Fail;
 
@@ -53,7 +54,7 @@ fn sentences(rt: HostRuntime) -> Result<(), Fail> {
     ];
     for (line, words) in cases {
         let said = sentence(rt.alloc(), line)?.ok_or("a sentence")?;
-        assert_eq!(rt; said.as_slice(), words);
+        assert_equal(&rt, &said.as_slice(), &words);
     }
     Ok(())
 }

@@ -1,5 +1,6 @@
 //! The order sheets of the worked parts, worked out by hand.
 
+use crate::asserts::assert_equal;
 use crate::first_stage::step;
 use brake_base::{Back, Gauge, Step};
 use common_files::{L_SECTION, MACHINE, STAGE, TOOLS, TWO_FLANGES, U_CHANNEL};
@@ -68,10 +69,10 @@ fn order_sheets(rt: HostRuntime) -> Result<(), Fail> {
     let z_sheet = sheet_of(alloc, &z, &z_steps)?.expect(&rt, "a sheet");
     let left_sheet = sheet_of(alloc, &two, &[step(1, Back::Child, 1)])?.expect(&rt, "a sheet");
     let gang_sheet = sheet_of(alloc, &two, &[both])?.expect(&rt, "a sheet");
-    assert_eq!(rt; u_sheet.as_slice(), U_SHEET.as_bytes());
-    assert_eq!(rt; z_sheet.as_slice(), Z_SHEET.as_bytes());
-    assert_eq!(rt; left_sheet.as_slice(), LEFT_SHEET.as_bytes());
-    assert_eq!(rt; gang_sheet.as_slice(), GANG_SHEET.as_bytes());
+    assert_equal(&rt, &u_sheet.as_slice(), &U_SHEET.as_bytes());
+    assert_equal(&rt, &z_sheet.as_slice(), &Z_SHEET.as_bytes());
+    assert_equal(&rt, &left_sheet.as_slice(), &LEFT_SHEET.as_bytes());
+    assert_equal(&rt, &gang_sheet.as_slice(), &GANG_SHEET.as_bytes());
     Ok(())
 }
 

@@ -1,6 +1,7 @@
 //! The shelves and sinks, once each.
 ghost use Rattle.std.specs.Prelude.{◌+◌, ◌^◌, ◌<◌, None};
 
+use crate::asserts::assert_equal;
 use brake_io::{
     DirShelf, FetchFault, MemShelf, MemSink, PutFault, Reader, Shelf, Sink, StdSink, StoreFault,
     Window, close_window, open_window,
@@ -54,18 +55,23 @@ fn files_of_the_folder(rt: HostRuntime) -> Result<(), Fail> {
         (2_097_152, 1_073_741_824, None),
     ] {
         let bytes = vec![in alloc; b'x'; length]?;
-        assert_eq!(rt; shelf.store("note", &bytes), Ok(()));
-        assert_eq!(rt; fs::read(&rt, "note")?.as_slice(), bytes.as_slice());
+        assert_equal(&rt, &shelf.store("note", &bytes), &Ok(()));
+        assert_equal(&rt, &fs::read(&rt, "note")?.as_slice(), &bytes.as_slice());
         match shelf.fetch(alloc, "note", limit) {
-            Ok(held) => assert_eq!(rt; held.as_slice(), bytes.as_slice()),
-            Err(other) => assert_eq!(rt; Some(other), fault),
+            Ok(held) => assert_equal(&rt, &held.as_slice(), &bytes.as_slice()),
+            Err(other) => assert_equal(&rt, &Some(other), &fault),
         }
     }
-    assert_eq!(rt;
-        shelf.fetch(alloc, "none", 4).err(),
-        Some(FetchFault::Failed)
+    assert_equal(
+        &rt,
+        &shelf.fetch(alloc, "none", 4).err(),
+        &Some(FetchFault::Failed),
     );
-    assert_eq!(rt; shelf.store("none/note", b"hello"), Err(StoreFault::Failed));
+    assert_equal(
+        &rt,
+        &shelf.store("none/note", b"hello"),
+        &Err(StoreFault::Failed),
+    );
     Ok(())
 }
 
@@ -74,28 +80,32 @@ fn files_of_the_folder(rt: HostRuntime) -> Result<(), Fail> {
 #[test]
 fn a_stored_file_is_a_new_one(rt: HostRuntime) -> Result<(), Fail> {
     let mut shelf = DirShelf::new(&rt);
-    assert_eq!(rt; shelf.store("cert", b"old"), Ok(()));
+    assert_equal(&rt, &shelf.store("cert", b"old"), &Ok(()));
     fs::set_permissions(&rt, "cert", Permissions::from_mode(0o600))?;
     fs::write(&rt, "cert.new0", "of another run")?;
     let mut before = fs::open(&rt, "cert")?;
-    assert_eq!(rt; shelf.store("cert", b"the new one"), Ok(()));
-    assert_eq!(rt;
-        io::read_to_string(rt.alloc(), &mut before)?.as_str(),
-        "old"
+    assert_equal(&rt, &shelf.store("cert", b"the new one"), &Ok(()));
+    assert_equal(
+        &rt,
+        &io::read_to_string(rt.alloc(), &mut before)?.as_str(),
+        &"old",
     );
-    assert_eq!(rt;
-        fs::read(&rt, "cert")?.as_slice(),
-        b"the new one".as_slice()
+    assert_equal(
+        &rt,
+        &fs::read(&rt, "cert")?.as_slice(),
+        &b"the new one".as_slice(),
     );
-    assert_eq!(rt;
-        fs::metadata(&rt, "cert")?.permissions().mode() & 0o777,
-        0o600
+    assert_equal(
+        &rt,
+        &(fs::metadata(&rt, "cert")?.permissions().mode() & 0o777),
+        &0o600,
     );
-    assert_eq!(rt;
-        fs::read(&rt, "cert.new0")?.as_slice(),
-        b"of another run".as_slice()
+    assert_equal(
+        &rt,
+        &fs::read(&rt, "cert.new0")?.as_slice(),
+        &b"of another run".as_slice(),
     );
-    assert_eq!(rt; fs::exists(&rt, "cert.new1")?, false);
+    assert_equal(&rt, &fs::exists(&rt, "cert.new1")?, &false);
     Ok(())
 }
 
@@ -103,17 +113,26 @@ fn a_stored_file_is_a_new_one(rt: HostRuntime) -> Result<(), Fail> {
 fn links_and_devices_are_written_in_place(rt: HostRuntime) -> Result<(), Fail> {
     let mut shelf = DirShelf::new(&rt);
     symlink(&rt, "cert", "link")?;
-    assert_eq!(rt; shelf.store("link", b"by the link"), Ok(()));
-    assert_eq!(rt; fs::symlink_metadata(&rt, "link")?.is_symlink(), true);
-    assert_eq!(rt;
-        fs::read(&rt, "cert")?.as_slice(),
-        b"by the link".as_slice()
+    assert_equal(&rt, &shelf.store("link", b"by the link"), &Ok(()));
+    assert_equal(&rt, &fs::symlink_metadata(&rt, "link")?.is_symlink(), &true);
+    assert_equal(
+        &rt,
+        &fs::read(&rt, "cert")?.as_slice(),
+        &b"by the link".as_slice(),
     );
     fs::hard_link(&rt, "cert", "other")?;
-    assert_eq!(rt; shelf.store("other", b"by both"), Ok(()));
-    assert_eq!(rt; fs::read(&rt, "cert")?.as_slice(), b"by both".as_slice());
-    assert_eq!(rt; shelf.store("/dev/full", b"none"), Err(StoreFault::Failed));
-    assert_eq!(rt; shelf.store("/dev/null", b"gone"), Ok(()));
+    assert_equal(&rt, &shelf.store("other", b"by both"), &Ok(()));
+    assert_equal(
+        &rt,
+        &fs::read(&rt, "cert")?.as_slice(),
+        &b"by both".as_slice(),
+    );
+    assert_equal(
+        &rt,
+        &shelf.store("/dev/full", b"none"),
+        &Err(StoreFault::Failed),
+    );
+    assert_equal(&rt, &shelf.store("/dev/null", b"gone"), &Ok(()));
     Ok(())
 }
 
@@ -128,15 +147,15 @@ fn an_output_that_takes_part_of_a_piece(rt: HostRuntime) {
             taken: RefCell::new(Vec::new(rt.alloc())),
             room,
         };
-        assert_eq!(rt; StdSink::new(&out).put(b"hello"), outcome);
-        assert_eq!(rt; out.taken.into_inner().as_slice(), text.as_bytes());
+        assert_equal(&rt, &StdSink::new(&out).put(b"hello"), &outcome);
+        assert_equal(&rt, &out.taken.into_inner().as_slice(), &text.as_bytes());
     }
 }
 
 #[test]
 fn standard_output(rt: HostRuntime) {
     let mut out = StdSink::new(&rt);
-    assert_eq!(rt; out.put(b"hello\n"), Ok(()));
+    assert_equal(&rt, &out.put(b"hello\n"), &Ok(()));
 }
 
 #[test]
@@ -145,19 +164,25 @@ fn a_call_of_the_shelf_fails(rt: HostRuntime) -> Result<(), Fail> {
     let mut shelf = MemShelf::new(alloc);
     shelf.add("part", b"one")?;
     shelf.fail_at(2)?;
-    assert_eq!(rt; shelf.store("cert", b"two"), Ok(()));
-    assert_eq!(rt; shelf.store("cert", b"three"), Err(StoreFault::Failed));
-    assert_eq!(rt; shelf.bytes_of("cert"), Some(b"two".as_slice()));
-    assert_eq!(rt;
-        shelf.fetch(alloc, "part", 2).err(),
-        Some(FetchFault::TooLong)
+    assert_equal(&rt, &shelf.store("cert", b"two"), &Ok(()));
+    assert_equal(
+        &rt,
+        &shelf.store("cert", b"three"),
+        &Err(StoreFault::Failed),
     );
-    assert_eq!(rt;
-        shelf.fetch(alloc, "machine", 9).err(),
-        Some(FetchFault::Failed)
+    assert_equal(&rt, &shelf.bytes_of("cert"), &Some(b"two".as_slice()));
+    assert_equal(
+        &rt,
+        &shelf.fetch(alloc, "part", 2).err(),
+        &Some(FetchFault::TooLong),
+    );
+    assert_equal(
+        &rt,
+        &shelf.fetch(alloc, "machine", 9).err(),
+        &Some(FetchFault::Failed),
     );
     let part = shelf.fetch(alloc, "part", 3).ok().ok_or("a file")?;
-    assert_eq!(rt; part.as_slice(), b"one".as_slice());
+    assert_equal(&rt, &part.as_slice(), &b"one".as_slice());
     Ok(())
 }
 
@@ -165,10 +190,10 @@ fn a_call_of_the_shelf_fails(rt: HostRuntime) -> Result<(), Fail> {
 fn a_put_fails_midway(rt: HostRuntime) {
     let mut out = MemSink::new(rt.alloc());
     out.fail_at(2, 3);
-    assert_eq!(rt; out.put(b"one "), Ok(()));
-    assert_eq!(rt; out.put(b"two "), Err(PutFault::Failed));
-    assert_eq!(rt; out.put(b"\n"), Ok(()));
-    assert_eq!(rt; out.bytes(), b"one two\n".as_slice());
+    assert_equal(&rt, &out.put(b"one "), &Ok(()));
+    assert_equal(&rt, &out.put(b"two "), &Err(PutFault::Failed));
+    assert_equal(&rt, &out.put(b"\n"), &Ok(()));
+    assert_equal(&rt, &out.bytes(), &b"one two\n".as_slice());
 }
 
 /// The whole text under a name, read in pieces.
@@ -204,6 +229,16 @@ fn varied(alloc: Global, length: usize) -> Result<Vec<u8>, AllocError> {
     Ok(bytes)
 }
 
+/// Whether `text`, stored in pieces, is read back as it was.
+fn is_read_back<H: Shelf>(alloc: Global, shelf: &mut H, text: &[u8]) -> Result<bool, Fail> {
+    let mut pieces: &[u8] = text;
+    if shelf.store_by(alloc, "note", &mut pieces) != Ok(()) {
+        return Ok(false);
+    }
+    let read = read_text(alloc, shelf, "note", text.len() as u64);
+    Ok(read.ok().ok_or("a file")?.as_slice() == text)
+}
+
 #[test]
 fn a_text_in_pieces_is_the_whole_text(rt: HostRuntime) -> Result<(), Fail> {
     let alloc = rt.alloc();
@@ -211,28 +246,40 @@ fn a_text_in_pieces_is_the_whole_text(rt: HostRuntime) -> Result<(), Fail> {
     let mut held = MemShelf::new(alloc);
     for length in [0, 8_191, 262_144, 262_145] {
         let text = varied(alloc, length)?;
-        let mut pieces: &[u8] = text.as_slice();
-        assert_eq!(rt; shelf.store_by(alloc, "note", &mut pieces), Ok(()));
-        assert_eq!(rt; fs::read(&rt, "note")?.as_slice(), text.as_slice());
-        let mut pieces: &[u8] = text.as_slice();
-        assert_eq!(rt; held.store_by(alloc, "note", &mut pieces), Ok(()));
-        let limit = length as u64;
-        let read = read_text(alloc, &mut shelf, "note", limit);
-        assert_eq!(rt; read.ok().ok_or("a file")?.as_slice(), text.as_slice());
-        let read = read_text(alloc, &mut held, "note", limit);
-        assert_eq!(rt; read.ok().ok_or("a file")?.as_slice(), text.as_slice());
+        let text = text.as_slice();
+        assert!(rt; is_read_back(alloc, &mut shelf, text)?);
+        assert!(rt; is_read_back(alloc, &mut held, text)?);
+        assert_equal(&rt, &fs::read(&rt, "note")?.as_slice(), &text);
     }
-    assert_eq!(rt;
-        read_text(alloc, &mut shelf, "note", 262_144).err(),
-        Some(FetchFault::TooLong)
+    Ok(())
+}
+
+/// How the reading of a file within a limit ends, where it is refused.
+fn fault_of<H: Shelf>(alloc: Global, shelf: &mut H, name: &str, limit: u64) -> Option<FetchFault>
+    requires { limit + 1 < 2 ^ 64 }
+{
+    read_text(alloc, shelf, name, limit).err()
+}
+
+#[test]
+fn a_text_behind_the_limit_is_too_long(rt: HostRuntime) -> Result<(), Fail> {
+    let alloc = rt.alloc();
+    let mut shelf = DirShelf::new(&rt);
+    let mut held = MemShelf::new(alloc);
+    let text = varied(alloc, 262_145)?;
+    assert!(rt; is_read_back(alloc, &mut shelf, text.as_slice())?);
+    assert!(rt; is_read_back(alloc, &mut held, text.as_slice())?);
+    let too_long = Some(FetchFault::TooLong);
+    assert_equal(
+        &rt,
+        &fault_of(alloc, &mut shelf, "note", 262_144),
+        &too_long,
     );
-    assert_eq!(rt;
-        read_text(alloc, &mut held, "note", 262_144).err(),
-        Some(FetchFault::TooLong)
-    );
-    assert_eq!(rt;
-        read_text(alloc, &mut shelf, "none", 4).err(),
-        Some(FetchFault::Failed)
+    assert_equal(&rt, &fault_of(alloc, &mut held, "note", 262_144), &too_long);
+    assert_equal(
+        &rt,
+        &fault_of(alloc, &mut shelf, "none", 4),
+        &Some(FetchFault::Failed),
     );
     Ok(())
 }
@@ -280,8 +327,8 @@ fn a_text_that_ends_otherwise_than_it_began(rt: HostRuntime) -> Result<(), Fail>
         };
         let mut window = Window::open(alloc, growing, limit)?;
         window.fill();
-        assert_eq!(rt; window.unread().len(), (parts * 5_000).min(10_000));
-        assert_eq!(rt; window.finish(), outcome);
+        assert_equal(&rt, &window.unread().len(), &(parts * 5_000).min(10_000));
+        assert_equal(&rt, &window.finish(), &outcome);
     }
     Ok(())
 }
@@ -309,15 +356,15 @@ fn a_line_longer_than_the_buffer(rt: HostRuntime) -> Result<(), Fail> {
     window.fill_line(alloc)?;
     let count = window.unread().len().min(700_000);
     assert!(rt; 600_000 - 5 + 1 < count);
-    assert_eq!(rt; Some(window.unread()), text.get(5..5 + count));
+    assert_equal(&rt, &Some(window.unread()), &text.get(5..5 + count));
     let line = window.unread().len().min(600_000 - 5 + 1);
     window.pass(line);
     window.fill_more(alloc)?;
     window.fill_more(alloc)?;
-    assert_eq!(rt; Some(window.unread()), text.get(600_001..));
+    assert_equal(&rt, &Some(window.unread()), &text.get(600_001..));
     window.fill_line(alloc)?;
     assert!(rt; window.is_over());
-    assert_eq!(rt; close_window(&mut shelf, &mut window), Ok(()));
+    assert_equal(&rt, &close_window(&mut shelf, &mut window), &Ok(()));
     Ok(())
 }
 
@@ -326,17 +373,26 @@ fn a_line_longer_than_the_buffer(rt: HostRuntime) -> Result<(), Fail> {
 fn pieces_are_stored_in_place(rt: HostRuntime) -> Result<(), Fail> {
     let alloc = rt.alloc();
     let mut shelf = DirShelf::new(&rt);
-    assert_eq!(rt; shelf.store("held", b"old"), Ok(()));
+    assert_equal(&rt, &shelf.store("held", b"old"), &Ok(()));
     symlink(&rt, "held", "held-link")?;
     let text = varied(alloc, 270_000)?;
     let mut pieces: &[u8] = text.as_slice();
-    assert_eq!(rt; shelf.store_by(alloc, "held-link", &mut pieces), Ok(()));
-    assert_eq!(rt; fs::symlink_metadata(&rt, "held-link")?.is_symlink(), true);
-    assert_eq!(rt; fs::read(&rt, "held")?.as_slice(), text.as_slice());
+    assert_equal(
+        &rt,
+        &shelf.store_by(alloc, "held-link", &mut pieces),
+        &Ok(()),
+    );
+    assert_equal(
+        &rt,
+        &fs::symlink_metadata(&rt, "held-link")?.is_symlink(),
+        &true,
+    );
+    assert_equal(&rt, &fs::read(&rt, "held")?.as_slice(), &text.as_slice());
     let mut pieces: &[u8] = text.as_slice();
-    assert_eq!(rt;
-        shelf.store_by(alloc, "/dev/full", &mut pieces),
-        Err(StoreFault::Failed)
+    assert_equal(
+        &rt,
+        &shelf.store_by(alloc, "/dev/full", &mut pieces),
+        &Err(StoreFault::Failed),
     );
     Ok(())
 }

@@ -3,6 +3,8 @@
 #![tactic(auto)]
 
 #[cfg(test)]
+mod asserts;
+#[cfg(test)]
 mod brake_io_tests;
 #[cfg(test)]
 mod brake_text_tests;

@@ -1,5 +1,6 @@
 //! Both answers, and a run that fails at its store or in its text.
 
+use crate::asserts::assert_equal;
 use brake_io::{MemShelf, MemSink};
 use command_runner::{Command, Status, is_form};
 use sample_command::{Sample, run_sample};
@@ -39,10 +40,10 @@ fn both_answers_and_faults(rt: HostRuntime) -> Result<(), Fail> {
         out.fail_at(put, 3);
         if is_form(sample.kinds(), &words) {
             let ended = run_sample(alloc, sample, &words, &mut shelf, &mut out);
-            assert_eq!(rt; ended, status);
+            assert_equal(&rt, &ended, &status);
         }
-        assert_eq!(rt; shelf.bytes_of("out"), stored.map(str::as_bytes));
-        assert_eq!(rt; out.bytes(), text.as_bytes());
+        assert_equal(&rt, &shelf.bytes_of("out"), &stored.map(str::as_bytes));
+        assert_equal(&rt, &out.bytes(), &text.as_bytes());
     }
     Ok(())
 }

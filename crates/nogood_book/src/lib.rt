@@ -1,5 +1,6 @@
 //! Reasons against strokes that hold in many states: on which folded bends a reason depends, and
-//! the book of all nogoods of a job, from which each refusal of a stroke follows.
+//! the book of all nogoods of a job, from which each refusal of a stroke follows but for that by
+//! NoGauge.
 #![tactic(auto)]
 
 mod book;

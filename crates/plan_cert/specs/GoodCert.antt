@@ -45,7 +45,7 @@ pub record IsGoodCert (job : JobData) (cert : CertData) : Type 0 where
   pub good : IsGood job cert.claim cert.steps (HasRow cert) (HasNote job cert)
 
 -- it is good, and has no row for which the search had no cause: each is of a key that is reached,
--- and was asked for by another
+-- and, but for the start's, was asked for by another
 pub record IsThriftyCert (job : JobData) (cert : CertData) : Type 0 where
   pub proves : IsGoodCert job cert
   pub thrifty : AreThrifty job (HasRow cert) (HasNote job cert)

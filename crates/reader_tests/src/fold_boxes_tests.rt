@@ -1,5 +1,6 @@
 //! Boxes of the folded part worked out by hand.
 
+use crate::asserts::assert_equal;
 use brake_base::{Back, Box3, Half, Mask, V3};
 use common_files::{TWO_FLANGES, U_CHANNEL};
 use fold_boxes::{PartBox, PoseBox, Shape, attitude, boxes, is_group, pose};
@@ -37,9 +38,9 @@ fn u_channel_with_its_second_bend_folded(rt: HostRuntime) -> Result<(), Fail> {
                 id: 14,
                 body: body((0, 100_000), (0, 1919), (-1000, 919)),
             };
-            assert_eq!(rt; boxes.len(), 4);
-            assert_eq!(rt; boxes.as_slice().get(2), Some(&leg));
-            assert_eq!(rt; boxes.as_slice().get(3), Some(&corner));
+            assert_equal(&rt, &boxes.len(), &4);
+            assert_equal(&rt, &boxes.as_slice().get(2), &Some(&leg));
+            assert_equal(&rt, &boxes.as_slice().get(3), &Some(&corner));
         }
         Err(fault) => panic!(rt; "{fault:?}"),
     }
@@ -62,13 +63,17 @@ fn the_second_leg_of_a_channel_is_bent(rt: HostRuntime) -> Result<(), Fail> {
                 (2, Half::Front, body(all, (-58_081, -56_081), (-81, 28_000))),
                 (14, Half::Front, body(all, (-58_081, -56_162), (-2000, -81))),
             ];
-            assert_eq!(rt; pose.boxes.len(), 4);
+            assert_equal(&rt, &pose.boxes.len(), &4);
             for (found, (id, half, body)) in pose.boxes.as_slice().iter().zip(boxes) {
-                assert_eq!(rt; *found, PoseBox { id, half, body });
+                assert_equal(&rt, found, &PoseBox { id, half, body });
             }
             assert!(rt; shape.faces() > 1);
-            assert_eq!(rt; attitude(&shape, Mask(2), 1, Back::Child).number(), 0);
-            assert_eq!(rt; attitude(&shape, Mask(2), 1, Back::Parent).number(), 2);
+            assert_equal(&rt, &attitude(&shape, Mask(2), 1, Back::Child).number(), &0);
+            assert_equal(
+                &rt,
+                &attitude(&shape, Mask(2), 1, Back::Parent).number(),
+                &2,
+            );
         }
         Err(fault) => panic!(rt; "{fault:?}"),
     }
@@ -95,7 +100,7 @@ fn flanges_are_bent_in_one_stroke_or_one_alone(rt: HostRuntime) -> Result<(), Fa
                 let pose = pose(&shape, Mask(0), Mask(group), Back::Child, 200_000, 300_000);
                 let body = body(x, y, (-2000, 0));
                 let found = pose.boxes.as_slice().get(usize::from(id));
-                assert_eq!(rt; found, Some(&PoseBox { id, half, body }));
+                assert_equal(&rt, &found, &Some(&PoseBox { id, half, body }));
             }
         }
         Err(fault) => panic!(rt; "{fault:?}"),

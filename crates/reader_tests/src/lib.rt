@@ -6,6 +6,8 @@
 #[cfg(test)]
 mod allowance_tests;
 #[cfg(test)]
+mod asserts;
+#[cfg(test)]
 mod brake_base_tests;
 #[cfg(test)]
 mod cheapest_setup_tests;

@@ -1,5 +1,6 @@
 //! The L section, and what becomes of it when a line is changed.
 
+use crate::asserts::assert_equal;
 use brake_base::Name;
 use part_file::{
     Dir, Face, GREATEST_THICKNESS, Joint, LEAST_THICKNESS, PartFault, Side, bent, path, read_part,
@@ -70,14 +71,14 @@ fn upwards(on: u8, side: Side, at: i64) -> Option<Joint> {
 fn reads_the_l_section(rt: HostRuntime) -> Result<(), Fail> {
     let alloc = rt.alloc();
     let part = read_part(alloc, l_section(alloc)?.as_bytes())?;
-    assert_eq!(rt; part.material.as_str(), "S235");
-    assert_eq!(rt; part.thickness, 2000);
-    assert_eq!(rt; part.radius, 2000);
-    assert_eq!(rt; part.faces.len(), 2);
+    assert_equal(&rt, &part.material.as_str(), &"S235");
+    assert_equal(&rt, &part.thickness, &2000);
+    assert_equal(&rt, &part.radius, &2000);
+    assert!(rt; part.faces.len() == 2);
     let leg = part.faces[1];
-    assert_eq!(rt; leg.name.as_str(), "leg");
-    assert_eq!(rt; leg.length, 30000);
-    assert_eq!(rt; leg.joint, upwards(0, Side::N, 0));
+    assert_equal(&rt, &leg.name.as_str(), &"leg");
+    assert_equal(&rt, &leg.length, &30000);
+    assert_equal(&rt, &leg.joint, &upwards(0, Side::N, 0));
     Ok(())
 }
 
@@ -109,10 +110,15 @@ fn out_of_range(table: u8, key: u8) -> PartFault {
 fn refuses_by_key(rt: HostRuntime) -> Result<(), Fail> {
     let alloc = rt.alloc();
     for (text, other_type, beyond, table, key) in KEYS {
-        assert_eq!(rt; refusal(alloc, text, other_type)?, Some(bad(table, key)));
-        assert_eq!(rt;
-            refusal(alloc, text, beyond)?,
-            Some(out_of_range(table, key))
+        assert_equal(
+            &rt,
+            &refusal(alloc, text, other_type)?,
+            &Some(bad(table, key)),
+        );
+        assert_equal(
+            &rt,
+            &refusal(alloc, text, beyond)?,
+            &Some(out_of_range(table, key)),
         );
     }
     Ok(())
@@ -148,7 +154,7 @@ fn refuses_by_rule(rt: HostRuntime) -> Result<(), Fail> {
         ),
     ];
     for (old, new, fault) in rows {
-        assert_eq!(rt; refusal(alloc, old, new)?, Some(fault));
+        assert_equal(&rt, &refusal(alloc, old, new)?, &Some(fault));
     }
     Ok(())
 }
@@ -158,17 +164,18 @@ fn thirteen_faces_and_fourteen(rt: HostRuntime) -> Result<(), Fail> {
     let alloc = rt.alloc();
     let thirteen = staircase(alloc, 13)?;
     let part = read_part(alloc, thirteen.as_bytes())?;
-    assert_eq!(rt; part.faces.len(), 13);
+    assert!(rt; part.faces.len() == 13);
     assert!(rt; bent(&part, 4, Side::S));
     assert!(rt; !bent(&part, 12, Side::N));
     assert!(rt; side_of(&part, 5, 12));
     assert!(rt; !side_of(&part, 5, 4));
-    assert_eq!(rt; path(&part, 3, 1).as_slice(), [3, 2].as_slice());
-    assert_eq!(rt; path(&part, 1, 3).as_slice(), [2, 3].as_slice());
+    assert_equal(&rt, &path(&part, 3, 1).as_slice(), &[3, 2].as_slice());
+    assert_equal(&rt, &path(&part, 1, 3).as_slice(), &[2, 3].as_slice());
     let fourteen = staircase(alloc, 14)?;
-    assert_eq!(rt;
-        read_part(alloc, fourteen.as_bytes()).err(),
-        Some(PartFault::TooMany)
+    assert_equal(
+        &rt,
+        &read_part(alloc, fourteen.as_bytes()).err(),
+        &Some(PartFault::TooMany),
     );
     Ok(())
 }
@@ -196,7 +203,7 @@ fn tells_a_valid_part(rt: HostRuntime) -> Result<(), Fail> {
         (None, false),
     ];
     for (joint, valid) in rows {
-        assert_eq!(rt; is_valid_on(alloc, three.as_str(), joint)?, valid);
+        assert_equal(&rt, &is_valid_on(alloc, three.as_str(), joint)?, &valid);
     }
     Ok(())
 }

@@ -1,5 +1,6 @@
 //! Blanks worked out by hand.
 
+use crate::asserts::assert_equal;
 use common_files::{FLAT_OVERLAP, L_SECTION, PAN};
 use part_file::{Dir, read_part};
 use std::alloc::Global;
@@ -36,16 +37,16 @@ fn line(bend: u8, from: (i64, i64), to: (i64, i64)) -> BendLine {
 #[test]
 fn l_section(rt: HostRuntime) -> Result<(), Fail> {
     let (blank, size) = unfolded(rt.alloc(), L_SECTION)?.ok().expect(&rt, "a blank");
-    assert_eq!(rt; size, rect(0, 100_000, 0, 76_162));
+    assert_equal(&rt, &size, &rect(0, 100_000, 0, 76_162));
     let bends = [line(1, (0, 48_081), (100_000, 48_081))];
-    assert_eq!(rt; blank.bends.as_slice(), bends.as_slice());
+    assert_equal(&rt, &blank.bends.as_slice(), &bends.as_slice());
     Ok(())
 }
 
 #[test]
 fn flanges_on_all_four_sides(rt: HostRuntime) -> Result<(), Fail> {
     let (blank, size) = unfolded(rt.alloc(), PAN)?.ok().expect(&rt, "a blank");
-    assert_eq!(rt; size, rect(-21_162, 111_162, -21_162, 81_162));
+    assert_equal(&rt, &size, &rect(-21_162, 111_162, -21_162, 81_162));
     let faces = [
         FlatFace {
             rect: rect(1919, 88_081, 1919, 58_081),
@@ -68,20 +69,20 @@ fn flanges_on_all_four_sides(rt: HostRuntime) -> Result<(), Fail> {
             turn: 1,
         },
     ];
-    assert_eq!(rt; blank.faces.as_slice(), faces.as_slice());
+    assert_equal(&rt, &blank.faces.as_slice(), &faces.as_slice());
     let bends = [
         line(1, (2000, 58_081), (88_000, 58_081)),
         line(2, (88_000, 1919), (2000, 1919)),
         line(3, (88_081, 58_000), (88_081, 2000)),
         line(4, (1919, 2000), (1919, 58_000)),
     ];
-    assert_eq!(rt; blank.bends.as_slice(), bends.as_slice());
+    assert_equal(&rt, &blank.bends.as_slice(), &bends.as_slice());
     Ok(())
 }
 
 #[test]
 fn faces_that_overlap(rt: HostRuntime) -> Result<(), Fail> {
     let fault = unfolded(rt.alloc(), FLAT_OVERLAP)?.err();
-    assert_eq!(rt; fault, Some(UnfoldFault::FlatOverlap { a: 1, b: 4 }));
+    assert_equal(&rt, &fault, &Some(UnfoldFault::FlatOverlap { a: 1, b: 4 }));
     Ok(())
 }

@@ -47,8 +47,8 @@ blank_shapes window flat =
     ++ flat_map (face_line (codes "edge") (pos 3) window) flat.blank.faces.items
     ++ flat_map (bend_text window) flat.blank.bends.items ++ group_end
 
--- How high the window may be, in tenths of a millimetre, so that the order of so many strokes has
--- room on its page.
+-- How high the blank may be on paper, in tenths of a millimetre, so that the order of so many
+-- strokes has room on its page.
 abbrev pub most_upright : (strokes : ℤ) → ℤ
 most_upright strokes = pos 1080 -ℤ (pos 25 *ℤ int_max (strokes -ℤ pos 4) (pos 0))
 

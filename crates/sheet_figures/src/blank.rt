@@ -144,8 +144,8 @@ fn area_of(face: &FlatFace) -> Area
     }
 }
 
-/// How high the window may be, in tenths of a millimetre, so that the order of bends has room on its
-/// page.
+/// How high the blank may be on paper, in tenths of a millimetre, so that the order of bends has
+/// room on its page.
 fn most_upright(strokes: i64) -> i64
     requires { unsigned_abs strokes ≤ 2 ^ 7 }
     ensures value { result ≡ most_upright strokes }

@@ -1,4 +1,4 @@
--- The head of a page and its end.
+-- The head of a page.
 use Rattle.std.specs.Prelude.{ℤ, pos, ◌*ℤ◌, ℕ, List, [], ◌∷◌, ◌++◌, flat_map}
 use Rattle.std.specs.Fmt.{signed_decimal}
 use Rattle.part_file.specs.Part.{PartData, face_at}

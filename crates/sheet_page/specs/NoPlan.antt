@@ -25,7 +25,7 @@ use Rattle.sheet_page.specs.Lists.{label_words}
 use Rattle.sheet_page.specs.Pictured.{AreLast}
 use Rattle.sheet_page.specs.Refused.{refusal_rows, left_rows}
 
--- the verdict in a sentence
+-- the verdict, and what it means
 unfoldable pub verdict_text : List ℕ
 verdict_text =
     line_of SECTION.now (NEW_PAGE.now ∷ []) ++ line_of H2.now (escaped NOT_POSSIBLE.now ∷ [])

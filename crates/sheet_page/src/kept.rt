@@ -18,8 +18,9 @@ use job_setup::Job;
 use plan_cert::{Cert, Note, RowHead};
 
 /// A state of the part, by its folded bends, with the places of the notes of its first row: from
-/// `begin` on, and none from `end` on. The notes of a state's rows don't differ, for why a stroke is
-/// refused depends neither on the attitude before nor on the station before.
+/// `begin` on, and none from `end` on. In a certificate that the search leaves the notes of a state's
+/// rows don't differ, for why a stroke is refused depends neither on the attitude before nor on the
+/// station before.
 #[derive(Clone, Copy, Debug, Default, PartialEq, Eq)]
 pub struct State {
     pub mask: Mask,

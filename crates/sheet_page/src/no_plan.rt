@@ -56,7 +56,7 @@ const OF_THE_PART: &[u8] = b" of the part";
 
 const THEM_SHOWN: &[u8] = b" of them are shown";
 
-/// The verdict in a sentence.
+/// The verdict, and what it means.
 #[tactic(auto, using(sheet_paper::proofs::Texts::pieces), unfolding(crate::specs::NoPlan::verdict_text))]
 fn put_verdict(out: &mut Vec<u8>) -> Result<(), AllocError>
     ensures { OnOk result (out.new.items ≡ out.old.items ++ verdict_text) }

@@ -1,4 +1,5 @@
-//! What is told of a stroke: the turn, the faces at the back, the station, the backgauge and the time.
+//! What is told of a stroke: the turn, the faces at the back, the station, the backgauge, the stop
+//! fingers and the time.
 ghost use Rattle.std.specs.Prelude.{◌≡◌, ◌^◌, ◌<◌, ◌≤◌, ◌++◌, [], ◌∷◌, flat_map, length, IfOk, OnOk};
 ghost use Rattle.job_setup.specs.Setup.{stage_data};
 ghost use Rattle.sheet_page.specs.Facts.{icon_line, turn_end_line, turn_fact, faces_at_back, back_fact, tools_words, station_fact, edges_words, gauge_fact, fingers_fact, cost_part, turn_cost, way_cost, cost_words, time_fact, facts_text};

@@ -3,6 +3,8 @@
 #![tactic(auto)]
 
 #[cfg(test)]
+mod asserts;
+#[cfg(test)]
 mod box_paint_tests;
 #[cfg(test)]
 mod first_stroke;

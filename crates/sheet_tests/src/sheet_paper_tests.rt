@@ -3,6 +3,7 @@
 ghost use Rattle.sheet_paper.specs.Windows.{IsWindow};
 ghost use Rattle.sheet_paper.specs.FigureLines.{IsLabel, label_data};
 
+use crate::asserts::assert_equal;
 use sheet_paper::{
     Area, Dashes, Label, Paper, Window, least_scale, put_circle, put_dimension, put_figure,
     put_figure_end, put_frame, put_label, put_label_upright, put_leader, put_line_between,
@@ -23,7 +24,7 @@ fn scales(rt: HostRuntime) -> Result<(), Fail> {
         (890 * 8_000_000 + 1, 0, 8_000_000),
     ];
     for (width, height, scale) in cases {
-        assert_eq!(rt; least_scale(width, height, 890, 410), scale);
+        assert_equal(&rt, &least_scale(width, height, 890, 410), &scale);
     }
     Ok(())
 }
@@ -37,7 +38,7 @@ fn labels_apart(rt: HostRuntime) -> Result<(), Fail> {
         (&[-5, 0, 99], 30, &[-10, 10, 30]),
     ];
     for (places, high, apart) in cases {
-        assert_eq!(rt; spread(places, 0, high, 20).as_slice(), apart);
+        assert_equal(&rt, &spread(places, 0, high, 20).as_slice(), &apart);
     }
     Ok(())
 }
@@ -101,7 +102,7 @@ fn figure(rt: HostRuntime) -> Result<(), Fail> {
     put_line_between(&mut out, &window, bend, (0, 4_000), (0, 29_513))?;
     put_dimension(&mut out, &window, 0, 84_243, 27_113, b"84.243")?;
     put_figure_end(&mut out, &window, b"Before")?;
-    assert_eq!(rt; out.as_slice(), BEFORE);
+    assert_equal(&rt, &out.as_slice(), &BEFORE);
     Ok(())
 }
 
@@ -121,7 +122,7 @@ fn marks(rt: HostRuntime) -> Result<(), Fail> {
     put_noted(&mut out, &window, &note, b"bend 1", b"<5>")?;
     put_noted_upright(&mut out, &window, &note, b"", b"5")?;
     put_label_upright(&mut out, &window, &note, b"6")?;
-    assert_eq!(rt; out.as_slice(), MARKS);
+    assert_equal(&rt, &out.as_slice(), &MARKS);
     Ok(())
 }
 

@@ -1,5 +1,6 @@
 //! Words, as a worked page has them.
 
+use crate::asserts::assert_equal;
 use brake_base::Turn;
 use sheet_words::{looks, movements_of, put_mm, put_plural, put_seconds, put_turn, separator};
 use std::test::Fail;
@@ -11,10 +12,14 @@ fn counts(rt: HostRuntime) -> Result<(), Fail> {
     put_plural(&mut out, 12, b" state")?;
     put_seconds(&mut out, 205)?;
     put_mm(&mut out, -84_243)?;
-    assert_eq!(rt; out.as_slice(), b"1 stroke12  states20.5-84.243".as_slice());
-    assert_eq!(rt; separator(0, 3), b"".as_slice());
-    assert_eq!(rt; separator(1, 3), b", ".as_slice());
-    assert_eq!(rt; separator(2, 3), b" and ".as_slice());
+    assert_equal(
+        &rt,
+        &out.as_slice(),
+        &b"1 stroke12  states20.5-84.243".as_slice(),
+    );
+    assert_equal(&rt, &separator(0, 3), &b"".as_slice());
+    assert_equal(&rt, &separator(1, 3), &b", ".as_slice());
+    assert_equal(&rt, &separator(2, 3), &b" and ".as_slice());
     Ok(())
 }
 
@@ -35,12 +40,12 @@ fn turns(rt: HostRuntime) -> Result<(), Fail> {
         if let Some(turn) = Turn::new(number) {
             let mut out = Vec::new(rt.alloc());
             put_turn(&mut out, turn)?;
-            assert_eq!(rt; out.as_slice(), words);
-            assert_eq!(rt; looks(turn), side);
+            assert_equal(&rt, &out.as_slice(), &words);
+            assert_equal(&rt, &looks(turn), &side);
         }
     }
     let over = movements_of(Turn::from_number(6));
-    assert_eq!(rt; over.len(), 1);
-    assert_eq!(rt; over.as_slice()[0].left(), b"left".as_slice());
+    assert_equal(&rt, &over.len(), &1);
+    assert_equal(&rt, &over.as_slice()[0].left(), &b"left".as_slice());
     Ok(())
 }

@@ -1,5 +1,6 @@
 //! Each call, on texts from outside.
 
+use crate::asserts::assert_equal;
 use std::test::Fail;
 use svg_text::{Hole, put_decimal, put_line};
 
@@ -20,7 +21,7 @@ fn decimals(rt: HostRuntime) -> Result<(), Fail> {
     for (value, places, text) in cases {
         let mut out = Vec::new(rt.alloc());
         put_decimal(&mut out, value, places)?;
-        assert_eq!(rt; out.as_slice(), text);
+        assert_equal(&rt, &out.as_slice(), &text);
     }
     Ok(())
 }
@@ -38,9 +39,10 @@ fn lines(rt: HostRuntime) -> Result<(), Fail> {
         Hole::Text(b"clip&<hook>'\""),
     ];
     put_line(&mut out, b"<p class=\"~\">~ of ~: ~</p>", &holes)?;
-    assert_eq!(rt;
-        out.as_slice(),
-        b"<p class=\"up\">-3 of -0.02: clip&amp;&lt;hook&gt;&#39;&quot;</p>\n".as_slice()
+    assert_equal(
+        &rt,
+        &out.as_slice(),
+        &b"<p class=\"up\">-3 of -0.02: clip&amp;&lt;hook&gt;&#39;&quot;</p>\n".as_slice(),
     );
     Ok(())
 }

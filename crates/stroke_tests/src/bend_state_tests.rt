@@ -1,5 +1,6 @@
 //! A U channel whose second leg is folded and unfolded.
 
+use crate::asserts::assert_equal;
 use bend_state::BendState;
 use brake_base::Mask;
 use common_files::{MACHINE, STAGE, TOOLS, U_CHANNEL};
@@ -19,12 +20,12 @@ fn a_leg_is_folded_and_unfolded(rt: HostRuntime) -> Result<(), Fail> {
     let leg = Mask(2);
     assert!(rt; is_group(job.shape(), state.mask(), leg));
     state.fold(&mut trail, leg);
-    assert_eq!(rt; state.mask(), leg);
-    assert_eq!(rt; trail.mark(), 1);
+    assert_equal(&rt, &state.mask(), &leg);
+    assert_equal(&rt, &trail.mark(), &1);
     assert!(rt; state.places().get(2).copied() != flat);
     state.undo(&mut trail);
-    assert_eq!(rt; state.mask(), Mask(0));
-    assert_eq!(rt; trail.mark(), 0);
+    assert_equal(&rt, &state.mask(), &Mask(0));
+    assert_equal(&rt, &trail.mark(), &0);
     assert!(rt; state.places().get(2).copied() == flat);
     Ok(())
 }

@@ -5,6 +5,8 @@
 #![tactic(auto)]
 
 #[cfg(test)]
+mod asserts;
+#[cfg(test)]
 mod bend_state_tests;
 #[cfg(test)]
 mod gauge_rules_tests;

@@ -3,6 +3,7 @@
 ghost use Rattle.sector_geom.specs.Plane.{HasInterior, IsInRange};
 ghost use Rattle.sector_geom.specs.Pieces.{LiesIn};
 
+use crate::asserts::assert_equal;
 use brake_base::{Quarter, Rect};
 use sector_geom::{Sweep, clear, clear_nose, cover, free, split, widened};
 
@@ -32,10 +33,10 @@ const WALL: Rect = Rect {
 #[test]
 fn a_low_flange_clears_the_punch(rt: HostRuntime) {
     let sector = cover(FLANGE, Quarter::Q1, Sweep::Eighth);
-    assert_eq!(rt; sector.near2, 3136000000);
-    assert_eq!(rt; sector.far2, 4166818244);
-    assert_eq!(rt; sector.lower, (58162, 0));
-    assert_eq!(rt; sector.upper, (28000, 84000));
+    assert_equal(&rt, &sector.near2, &3136000000);
+    assert_equal(&rt, &sector.far2, &4166818244);
+    assert_equal(&rt, &sector.lower, &(58162, 0));
+    assert_equal(&rt, &sector.upper, &(28000, 84000));
     assert!(rt; clear(&sector, &PUNCH));
     assert!(rt; clear_nose(&sector, 6000));
 }
@@ -50,7 +51,7 @@ fn a_high_flange_meets_the_punch(rt: HostRuntime) {
         Quarter::Q1,
         Sweep::Eighth,
     );
-    assert_eq!(rt; sector.upper, (-22000, 134000));
+    assert_equal(&rt, &sector.upper, &(-22000, 134000));
     assert!(rt; !clear(&sector, &PUNCH));
 }
 
@@ -72,9 +73,9 @@ fn one_micrometre_decides(rt: HostRuntime) {
         Quarter::Q1,
         Sweep::Eighth,
     );
-    assert_eq!(rt; low.near2, 3136000000);
-    assert_eq!(rt; low.upper, (10896, 101104));
-    assert_eq!(rt; high.upper, (10895, 101105));
+    assert_equal(&rt, &low.near2, &3136000000);
+    assert_equal(&rt, &low.upper, &(10896, 101104));
+    assert_equal(&rt, &high.upper, &(10895, 101105));
     assert!(rt; clear(&low, &PUNCH));
     assert!(rt; !clear(&high, &PUNCH));
 }
@@ -82,10 +83,10 @@ fn one_micrometre_decides(rt: HostRuntime) {
 #[test]
 fn one_half_of_the_sheet_meets_the_other(rt: HostRuntime) {
     let sector = cover(WALL, Quarter::Q1, Sweep::Fourth);
-    assert_eq!(rt; sector.near2, 100000000);
-    assert_eq!(rt; sector.far2, 1044000000);
-    assert_eq!(rt; sector.lower, (12000, 0));
-    assert_eq!(rt; sector.upper, (-30000, 10000));
+    assert_equal(&rt, &sector.near2, &100000000);
+    assert_equal(&rt, &sector.far2, &1044000000);
+    assert_equal(&rt, &sector.lower, &(12000, 0));
+    assert_equal(&rt, &sector.upper, &(-30000, 10000));
     assert!(rt;
         !clear(
             &sector,
@@ -110,13 +111,13 @@ fn one_half_of_the_sheet_meets_the_other(rt: HostRuntime) {
 
 #[test]
 fn a_half_does_not_grow_past_the_bend_line(rt: HostRuntime) {
-    assert_eq!(rt; widened(Rect { y0: 0, ..WALL }, 162).y0, 0);
-    assert_eq!(rt; widened(WALL, 162).y1, 12162);
+    assert_equal(&rt, &widened(Rect { y0: 0, ..WALL }, 162).y0, &0);
+    assert_equal(&rt, &widened(WALL, 162).y1, &12162);
     let pieces = split(PUNCH);
-    assert_eq!(rt; pieces[0], Some(Rect { y0: 0, ..PUNCH }));
-    assert_eq!(rt; pieces[1], Some(Rect { y1: 0, ..PUNCH }));
-    assert_eq!(rt; pieces[2], None);
-    assert_eq!(rt; pieces[3], None);
+    assert_equal(&rt, &pieces[0], &Some(Rect { y0: 0, ..PUNCH }));
+    assert_equal(&rt, &pieces[1], &Some(Rect { y1: 0, ..PUNCH }));
+    assert_equal(&rt, &pieces[2], &None);
+    assert_equal(&rt, &pieces[3], &None);
 }
 
 /// The least depth up to 12 at which the piece is free of the rectangle.
@@ -158,8 +159,8 @@ fn a_web_is_free_in_four_parts(rt: HostRuntime) {
         z1: 590000,
     };
     let (quarter, sweep) = (Quarter::Q1, Sweep::Eighth);
-    assert_eq!(rt; least_depth(WEB, quarter, sweep, &punch), Some(3));
-    assert_eq!(rt; least_depth(WEB, quarter, sweep, &beam), Some(2));
+    assert_equal(&rt, &least_depth(WEB, quarter, sweep, &punch), &Some(3));
+    assert_equal(&rt, &least_depth(WEB, quarter, sweep, &beam), &Some(2));
 }
 
 #[test]
@@ -182,9 +183,9 @@ fn the_parts_of_a_web_are_clear(rt: HostRuntime) {
         Quarter::Q1,
         Sweep::Eighth,
     );
-    assert_eq!(rt; first.far2, 3178812500);
-    assert_eq!(rt; second.near2, 2626562500);
-    assert_eq!(rt; second.upper, (27750, 74750));
+    assert_equal(&rt, &first.far2, &3178812500);
+    assert_equal(&rt, &second.near2, &2626562500);
+    assert_equal(&rt, &second.upper, &(27750, 74750));
 }
 
 #[test]
@@ -201,9 +202,10 @@ fn a_hanging_flange_is_cut_upwards(rt: HostRuntime) {
         z0: -141500,
         z1: -55500,
     };
-    assert_eq!(rt;
-        least_depth(flange, Quarter::Q4, Sweep::Eighth, &bed),
-        Some(3)
+    assert_equal(
+        &rt,
+        &least_depth(flange, Quarter::Q4, Sweep::Eighth, &bed),
+        &Some(3),
     );
 }
 
@@ -221,8 +223,8 @@ fn a_wall_that_meets_is_free_at_no_depth(rt: HostRuntime) {
         z1: 7000,
     };
     let (quarter, sweep) = (Quarter::Q1, Sweep::Fourth);
-    assert_eq!(rt; least_depth(WALL, quarter, sweep, &opposite), None);
-    assert_eq!(rt; least_depth(WALL, quarter, sweep, &low), Some(2));
+    assert_equal(&rt, &least_depth(WALL, quarter, sweep, &opposite), &None);
+    assert_equal(&rt, &least_depth(WALL, quarter, sweep, &low), &Some(2));
 }
 
 #[test]
@@ -239,8 +241,9 @@ fn a_middle_below_0_is_rounded_down(rt: HostRuntime) {
         z0: -6,
         z1: -2,
     };
-    assert_eq!(rt;
-        least_depth(piece, Quarter::Q3, Sweep::Eighth, &other),
-        Some(1)
+    assert_equal(
+        &rt,
+        &least_depth(piece, Quarter::Q3, Sweep::Eighth, &other),
+        &Some(1),
     );
 }

@@ -4,6 +4,7 @@ ghost use Rattle.brake_base.specs.Masks.{has};
 ghost use Rattle.fold_boxes.specs.Places.{ArePlaces};
 ghost use Rattle.job_setup.specs.Setup.{shape_of};
 
+use crate::asserts::assert_equal;
 use brake_base::{Back, Mask, Place, Reason};
 use common_files::{MACHINE, PAN, STAGE, TOOLS, TWO_FLANGES};
 use fold_boxes::{attitude, is_group, place};
@@ -182,8 +183,8 @@ fn the_table_says_what_the_rules_say(rt: HostRuntime) -> Result<(), Fail> {
     for (part, machine, strokes) in cases {
         let job = job_of(alloc, part, TOOLS, machine)?;
         let mut table = StrokeTable::open(alloc, &job)?;
-        assert_eq!(rt; all_right_strokes(&mut table, &job, false), strokes);
-        assert_eq!(rt; all_right_strokes(&mut table, &job, true), strokes);
+        assert_equal(&rt, &all_right_strokes(&mut table, &job, false), &strokes);
+        assert_equal(&rt, &all_right_strokes(&mut table, &job, true), &strokes);
     }
     Ok(())
 }
