@@ -166,13 +166,9 @@ interrupted() {
   exit "$1"
 }
 
-# A command that holds whole tables takes its memory in large pages, where the C library (glibc from 2.35 on) and the system
-# have them. Elsewhere this changes nothing.
-use_large_pages() {
-  case "$1:$#" in
-    merge:4 | settle:8) export GLIBC_TUNABLES="${GLIBC_TUNABLES:+$GLIBC_TUNABLES:}glibc.malloc.hugetlb=1" ;;
-  esac
-}
+# Two whole tables are held in large pages, where the C library (glibc from 2.35 on) and the system have them. Elsewhere
+# this changes nothing.
+use_large_pages() { export GLIBC_TUNABLES="${GLIBC_TUNABLES:+$GLIBC_TUNABLES:}glibc.malloc.hugetlb=1"; }
 
 # Runs the command, stores what it stores, and tells what its status doesn't.
 run_command() {
@@ -183,7 +179,7 @@ run_command() {
   trap 'interrupted 130' INT
   trap 'interrupted 143' TERM
   trap 'interrupted 129' HUP
-  use_large_pages "$@"
+  [ "$1" != merge ] || use_large_pages
   launch "${words[@]}"
   case "$status" in
     0 | 1) rename_stored ;;
