@@ -1,296 +1,244 @@
--- A format's lines are taken as those of version 2 for which they stand.
-use Rattle.std.proofs.Common.{◌≡◌, ℕ, zero, suc, ◌==◌, ◌<◌, ℤ, pos, Bool, true, false, ◌&&◌, List, [], ◌∷◌, ◌++◌, length, map, filter, get_or, cond, Option, Some, None, refl, sym, ap, subst, ◌∙◌, eqb-true, arith}
+-- The lines of a job in a format are taken, and give the job; and lines that are taken are those of the job that they give.
+use Rattle.std.proofs.Common.{◌≡◌, ℕ, suc, zero, ◌<◌, ◌≤◌, ℤ, pos, Bool, true, false, nat_lt, List, [], ◌∷◌, ◌++◌, length, map, cond, get_or, All, Option, Some, None, refl, sym, ap, subst, ◌∙◌, append_assoc, lt-ltb, arith}
 use Rattle.std.specs.Prelude.{if◌then◌else◌}
 use Rattle.std.specs.List.{flat_map}
 use Rattle.std.proofs.lemmas.Bool.{false≢true}
-use Rattle.std.proofs.lemmas.Grind.{flat_map-append}
+use Rattle.std.proofs.lemmas.Int.{ints}
+use Rattle.std.proofs.lemmas.List.{append-nil, length-append}
+use Rattle.std.proofs.lemmas.List.Elements.{All-nil}
+use Rattle.std.proofs.Math.Dec.{eqb-suc-zero}
+use Rattle.std.proofs.Math.Seq.{get_or-append_seam}
+use Rattle.toml_fields.proofs.Decided.{within_decided}
+use Rattle.brake_base.specs.declared.plane.Rect.{Rect}
+use Rattle.part_file.specs.declared.part.Joint.{Joint}
+use Rattle.part_file.specs.Bounds.{most_faces}
+use Rattle.part_file.specs.Part.{FaceData, PartData, no_face, face_at, IsPart}
+use Rattle.machine_file.specs.Bounds.{most_frames, most_fixed_boxes, most_stages}
+use Rattle.tool_library.specs.Bounds.{most_body_boxes}
+use Rattle.tool_library.specs.Tools.{PunchData, DieData}
 use Rattle.job_setup.specs.Setup.{StageData, SetupData, JobData}
-use Rattle.job_setup.specs.ValidJob.{IsJob}
+use Rattle.job_setup.specs.ValidJob.{IsStage, IsJob}
 use Rattle.cert_words.specs.LineWords.{◌>>=◌}
+use Rattle.cert_words.specs.JobWords.{fine_of}
 use Rattle.cert_lines.specs.declared.format.Format.{Format}
 use Rattle.cert_lines.specs.declared.format.Format.TheVariants.{Version1, Version2, Table}
 use Rattle.cert_lines.specs.declared.job_section.JobSection.{JobSection}
-use Rattle.cert_lines.specs.Lines.{CertLine, part_line, face_line, bed_line, frame_line, upper_line, lower_line, cost_line, gang_line, force_line, fine_line, stage_line, punch_line, die_line, box_line, pieces_line, load_line}
-use Rattle.cert_lines.specs.JobText.{part_lines, fixture_lines, fine_lines, rule_lines, punch_lines, die_lines, stage_lines, gang_number, job_lines}
-use Rattle.cert_lines.specs.JobText.{HasNoLoad, IsJobOfVersion1}
-use Rattle.cert_lines.specs.Lines.{is_of_version1, lines_of_format}
-use Rattle.cert_lines.specs.LineReading.{only_if}
-use Rattle.cert_lines.specs.JobLines.{JobLinesData, no_lines, job_of, begun_stage}
-use Rattle.cert_lines.specs.JobFold.{admits, is_complete, has_room_for_stage, has_room, added, take_full, full_lines, has_line, all_by, take}
+use Rattle.cert_lines.specs.declared.job_section.JobSection.TheVariants as sections
+use Rattle.cert_lines.specs.Lines.{CertLine, part_line, face_line, bed_line, frame_line, upper_line, lower_line, stage_line, punch_line, die_line, box_line, pieces_line, load_line, is_of_version1, lines_of_format}
+use Rattle.cert_lines.specs.JobText.{fine_lines, stage_lines, job_lines, HasNoLoad, IsJobOfVersion1}
+use Rattle.cert_lines.specs.JobLines.{JobLinesData, begun_punch, begun_die, begun_stage, begun_setup, no_lines, job_of}
+use Rattle.cert_lines.specs.JobFold.{admits, is_complete, stands_behind, has_room, with_values, added, added_in, has_line, all_by, take}
+use Rattle.cert_lines.proofs.Naturals.{gang_back, costs_back}
 use Rattle.cert_lines.proofs.FormatLines.{lines_append, JobIn}
-use Rattle.cert_lines.proofs.FoldShown.{state, full_spelled}
-use Rattle.cert_lines.proofs.FoldWritten.{all_append, full_written}
-
--- the lines of version 2 for which lines stand
-abbrev full_all : Format → List CertLine → List CertLine
-full_all format lines = flat_map (λ line. full_lines line format) lines
-
-abbrev AllOf : Format → List CertLine → Type 0
-AllOf format [] = Unit {0}
-AllOf format (line ∷ lines) = (has_line format line ≡ true) × AllOf format lines
-
--- the format stays
-added_format : (s : JobLinesData) (line : CertLine) → (added s line).format ≡ s.format
-unfolding added
-added_format s (part_line material thickness radius q) = refl
-added_format s _ = refl
-
-taken_format : (s t : JobLinesData) (line : CertLine) → take_full s line ≡ Some t → t.format ≡ s.format
-unfolding take_full
-taken_format s t line e = by_test (admits s.section line && has_room s line) e
-  where
-    by_test : (b : Bool) → only_if b (Some (added s line)) ≡ Some t → t.format ≡ s.format
-    by_test true e = let same : added s line ≡ t = cc in ap (λ (u : JobLinesData). u.format) (sym same) ∙ added_format s line
-    by_test false e = absurd (cc)
-
-all_format : (s t : JobLinesData) (lines : List CertLine) → all_by take_full s lines ≡ Some t → t.format ≡ s.format
-all_format s t [] e = let same : s ≡ t = cc in ap (λ (u : JobLinesData). u.format) (sym same)
-all_format s t (line ∷ lines) e = by_taken (take_full s line) refl (λ u e. all_format u t lines e) e
-  where
-    by_taken : (taken : Option JobLinesData) → take_full s line ≡ taken → ((u : JobLinesData) → all_by take_full u lines ≡ Some t → t.format ≡ u.format) → (taken >>= λ u. all_by take_full u lines) ≡ Some t → t.format ≡ s.format
-    by_taken (Some u) is more e = more u e ∙ taken_format s u line is
-    by_taken None is more e = absurd (cc)
-
-all_of : (s t : JobLinesData) (lines : List CertLine) → all_by take s lines ≡ Some t → AllOf s.format lines
-unfolding take
-all_of s t [] e = tt
-all_of s t (line ∷ lines) e = by_test (has_line s.format line) refl (λ u e. all_of u t lines e) e
-  where
-    by_taken : (taken : Option JobLinesData) → all_by take_full s (full_lines line s.format) ≡ taken → ((u : JobLinesData) → all_by take u lines ≡ Some t → AllOf u.format lines) → (taken >>= λ u. all_by take u lines) ≡ Some t → AllOf s.format lines
-    by_taken (Some u) is behind e = subst (λ (f : Format). AllOf f lines) (all_format s u (full_lines line s.format) is) (behind u e)
-    by_taken None is behind e = absurd (cc)
-
-    by_test : (b : Bool) → has_line s.format line ≡ b → ((u : JobLinesData) → all_by take u lines ≡ Some t → AllOf u.format lines) → (only_if b (all_by take_full s (full_lines line s.format)) >>= λ u. all_by take u lines) ≡ Some t → AllOf s.format (line ∷ lines)
-    by_test true is behind e = (is, by_taken (all_by take_full s (full_lines line s.format)) refl behind e)
-    by_test false is behind e = absurd (cc)
-
--- lines of a format are taken as those for which they stand
-taken_full : (s : JobLinesData) (lines : List CertLine) → AllOf s.format lines → all_by take s lines ≡ all_by take_full s (full_all s.format lines)
-unfolding take
-taken_full s [] all = refl
-taken_full s (line ∷ lines) all =
-    let full = full_lines line s.format in
-    ap (λ (b : Bool). only_if b (all_by take_full s full) >>= λ u. all_by take u lines) all.0
-    ∙ by_taken (all_by take_full s full) refl (λ u all. taken_full u lines all) ∙ sym (all_append take_full s full (full_all s.format lines))
-  where
-    by_taken : (taken : Option JobLinesData) → all_by take_full s (full_lines line s.format) ≡ taken
-        → ((u : JobLinesData) → AllOf u.format lines → all_by take u lines ≡ all_by take_full u (full_all u.format lines)) → (taken >>= λ u. all_by take u lines) ≡ (taken >>= λ u. all_by take_full u (full_all s.format lines))
-    by_taken (Some u) is behind =
-        let same = all_format s u (full_lines line s.format) is in
-        behind u (subst (λ (f : Format). AllOf f lines) (sym same) all.1) ∙ ap (λ (f : Format). all_by take_full u (full_all f lines)) same
-    by_taken None is behind = refl
+use Rattle.cert_lines.proofs.FoldShown.{state, plain_rules, complete_shown, then_some, taken_format, all_lead}
 
 pub fold_format : (s t : JobLinesData) (lines : List CertLine) → all_by take s lines ≡ Some t → t.format ≡ s.format
-fold_format s t lines e = all_format s t (full_all s.format lines) (sym (taken_full s lines (all_of s t lines e)) ∙ e)
-
--- behind its costs and its pieces version 1 always goes on
-old_costs : (s : JobLinesData) (a b c d e f : ℤ) → all_by take_full s (full_lines (cost_line a b c d e f) Version1) ≡ (take_full s (cost_line a b c d e f) >>= λ t. Some (added (added t (gang_line (pos 0))) (force_line (pos 0))))
-unfolding take_full has_room added
-old_costs s a b c d e f = by_test (admits s.section (cost_line a b c d e f))
-  where
-    by_test : (may : Bool)
-        → (only_if (may && true) (Some (added s (cost_line a b c d e f))) >>= λ t. all_by take_full t (gang_line (pos 0) ∷ force_line (pos 0) ∷ []))
-        ≡ (only_if (may && true) (Some (added s (cost_line a b c d e f))) >>= λ t. Some (added (added t (gang_line (pos 0))) (force_line (pos 0))))
-    by_test true = refl
-    by_test false = refl
-
-old_pieces : (s : JobLinesData) (pieces : List ℤ) → all_by take_full s (full_lines (pieces_line pieces) Version1) ≡ (take_full s (pieces_line pieces) >>= λ t. Some (added t (load_line (pos 0) (pos 0))))
-unfolding take_full has_room added
-old_pieces s pieces = by_test (admits s.section (pieces_line pieces)) (has_room_for_stage s) refl
-  where
-    by_test : (may room : Bool) → has_room_for_stage s ≡ room
-        → (only_if (may && room) (Some (added s (pieces_line pieces))) >>= λ t. all_by take_full t (load_line (pos 0) (pos 0) ∷ []))
-        ≡ (only_if (may && room) (Some (added s (pieces_line pieces))) >>= λ t. Some (added t (load_line (pos 0) (pos 0))))
-    by_test true true is = ap (λ (b : Bool). only_if b (Some (added (added s (pieces_line pieces)) (load_line (pos 0) (pos 0)))) >>= λ t. Some t) is
-    by_test true false is = refl
-    by_test false room is = refl
-
-pub old_room : (s t : JobLinesData) (pieces : List ℤ) → take_full s (pieces_line pieces) ≡ Some t → has_room t (load_line (pos 0) (pos 0)) ≡ true
-unfolding take_full has_room added
-old_room s t pieces e = by_test (admits s.section (pieces_line pieces)) (has_room_for_stage s) refl e
-  where
-    by_test : (may room : Bool) → has_room_for_stage s ≡ room → only_if (may && room) (Some (added s (pieces_line pieces))) ≡ Some t → has_room_for_stage t ≡ true
-    by_test true true is e = let same : added s (pieces_line pieces) ≡ t = cc in ap has_room_for_stage (sym same) ∙ is
-    by_test true false is e = absurd (cc)
-    by_test false room is e = absurd (cc)
-
-pub old_costs_taken : (s t : JobLinesData) (a b c d e f : ℤ) → s.format ≡ Version1 → take_full s (cost_line a b c d e f) ≡ Some t → take s (cost_line a b c d e f) ≡ Some (added (added t (gang_line (pos 0))) (force_line (pos 0)))
-unfolding take
-old_costs_taken s t a b c d e f old is =
-    let line = cost_line a b c d e f in
-    ap (λ (x : Format). only_if (has_line x line) (all_by take_full s (full_lines line x))) old ∙ old_costs s a b c d e f
-    ∙ ap (λ (o : Option JobLinesData). o >>= λ u. Some (added (added u (gang_line (pos 0))) (force_line (pos 0)))) is
-
-pub old_pieces_taken : (s t : JobLinesData) (pieces : List ℤ) → s.format ≡ Version1 → take_full s (pieces_line pieces) ≡ Some t → take s (pieces_line pieces) ≡ Some (added t (load_line (pos 0) (pos 0)))
-unfolding take
-old_pieces_taken s t pieces old is =
-    let line = pieces_line pieces in
-    ap (λ (x : Format). only_if (has_line x line) (all_by take_full s (full_lines line x))) old ∙ old_pieces s pieces ∙ ap (λ (o : Option JobLinesData). o >>= λ u. Some (added u (load_line (pos 0) (pos 0)))) is
-
--- a format has the lines that stand for others, and no more of these
-new_alone : (line : CertLine) → full_lines line Version2 ≡ line ∷ []
-new_alone (cost_line a b c d e f) = refl
-new_alone (pieces_line pieces) = refl
-new_alone _ = refl
-
-table_alone : (line : CertLine) → full_lines line Table ≡ line ∷ []
-table_alone (cost_line a b c d e f) = refl
-table_alone (pieces_line pieces) = refl
-table_alone _ = refl
-
-alone_all : (format : Format) → ((line : CertLine) → full_lines line format ≡ line ∷ []) → (lines : List CertLine) → full_all format lines ≡ lines
-alone_all format alone [] = refl
-alone_all format alone (line ∷ lines) = ap (λ (ls : List CertLine). ls ++ full_all format lines) (alone line) ∙ ap (λ (ls : List CertLine). line ∷ ls) (alone_all format alone lines)
-
-old_kept : (line : CertLine) (lines : List CertLine) → is_of_version1 line ≡ true → filter is_of_version1 (full_lines line Version1 ++ lines) ≡ line ∷ filter is_of_version1 lines
-old_kept (cost_line a b c d e f) lines is = refl
-old_kept (pieces_line pieces) lines is = refl
-old_kept (gang_line n) lines is = absurd (false≢true is)
-old_kept (force_line n) lines is = absurd (false≢true is)
-old_kept (fine_line n) lines is = absurd (false≢true is)
-old_kept (load_line load limit) lines is = absurd (false≢true is)
-old_kept _ lines is = refl
-
-full_kept : (format : Format) (lines : List CertLine) → AllOf format lines → lines_of_format format (full_all format lines) ≡ lines
-full_kept Version1 [] all = refl
-full_kept Version1 (line ∷ lines) all = old_kept line (full_all Version1 lines) all.0 ∙ ap (λ (ls : List CertLine). line ∷ ls) (full_kept Version1 lines all.1)
-full_kept Version2 lines all = alone_all Version2 new_alone lines
-full_kept Table lines all = alone_all Table table_alone lines
-
--- what version 1 leaves out stands for nothing
-abbrev Tells : CertLine → Type 0
-Tells (gang_line n) = n ≡ pos 0
-Tells (force_line n) = n ≡ pos 0
-Tells (fine_line n) = ⊥
-Tells (load_line load limit) = (load ≡ pos 0) × (limit ≡ pos 0)
-Tells _ = Unit {0}
-
-abbrev AllTell : List CertLine → Type 0
-AllTell [] = Unit {0}
-AllTell (line ∷ lines) = Tells line × AllTell lines
-
-tell_first : (line : CertLine) (lines : List CertLine) → is_of_version1 line ≡ true → AllTell lines → AllTell (full_lines line Version1 ++ lines)
-tell_first (cost_line a b c d e f) lines is all = (tt, (refl, (refl, all)))
-tell_first (pieces_line pieces) lines is all = (tt, ((refl, refl), all))
-tell_first (gang_line n) lines is all = absurd (false≢true is)
-tell_first (force_line n) lines is all = absurd (false≢true is)
-tell_first (fine_line n) lines is all = absurd (false≢true is)
-tell_first (load_line load limit) lines is all = absurd (false≢true is)
-tell_first _ lines is all = (tt, all)
-
-all_tell : (lines : List CertLine) → AllOf Version1 lines → AllTell (full_all Version1 lines)
-all_tell [] all = tt
-all_tell (line ∷ lines) all = tell_first line (full_all Version1 lines) all.0 (all_tell lines all.1)
-
-tell_parts : (xs ys : List CertLine) → AllTell (xs ++ ys) → AllTell xs × AllTell ys
-tell_parts [] ys all = (tt, all)
-tell_parts (x ∷ xs) ys all = let parts = tell_parts xs ys all.1 in ((all.0, parts.0), parts.1)
-
-no_gang : (gang : Bool) → gang_number gang ≡ pos 0 → gang ≡ false
-no_gang true e = absurd (cc)
-no_gang false e = refl
-
-no_depth : (depth : ℕ) → AllTell (fine_lines depth) → depth ≡ 0
-no_depth depth all = by_test (depth == 0) refl all
-  where
-    by_test : (b : Bool) → (depth == 0) ≡ b → AllTell (if b then [] else fine_line (pos depth) ∷ []) → depth ≡ 0
-    by_test true is all = eqb-true depth 0 is
-    by_test false is all = absurd (all.0)
-
-no_load : (s : StageData) (lines : List CertLine) → AllTell (stage_lines s ++ lines) → HasNoLoad s × AllTell lines
-no_load s lines all =
-    let parts = tell_parts (stage_lines s) lines all in
-    ((tell_parts (stage_line s.x0 s.x1 ∷ punch_lines s.punch ++ die_lines s.die) (pieces_line s.pieces ∷ load_line s.load s.limit ∷ []) parts.0).1.1.0, parts.1)
-
-no_loads : (stages : List StageData) → AllTell (flat_map stage_lines stages) → (k : ℕ) (d : StageData) → k < length stages → HasNoLoad (get_or stages k d)
-no_loads [] all k d within = absurd (omega (arith, within))
-no_loads (s ∷ stages) all zero d within = (no_load s (flat_map stage_lines stages) all).0
-no_loads (s ∷ stages) all (suc k) d within = no_loads stages (no_load s (flat_map stage_lines stages) all).1 k d (omega (arith, within))
-
-told_in : (format : Format) (job : JobData) (lines : List CertLine) → AllOf format lines → full_all format lines ≡ job_lines job → JobIn format job
-unfolding job_lines
-told_in Version1 job lines all e =
-    let s = job.setup in
-    let front = part_lines job.part job.q ++ fixture_lines s in
-    let parts = tell_parts (front ++ rule_lines s) (flat_map stage_lines s.stages) (subst AllTell e (all_tell lines all)) in
-    let rules = (tell_parts front (rule_lines s) parts.0).1 in
-    let gang = rules.1.1.1 in
-    record { gang = no_gang s.gang gang.0; force = gang.1.0; fine = no_depth s.fine gang.1.1; loads = no_loads s.stages parts.1 }
-told_in Version2 job lines all e = tt
-told_in Table job lines all e = tt
+fold_format s t [] e = let same : s ≡ t = cc in ap (λ (x : JobLinesData). x.format) (sym same)
+fold_format s t (line ∷ lines) e = let (u, one, more) = then_some (take s line) (λ u. all_by take u lines) t e in fold_format u t lines more ∙ taken_format s u line one
 
 -- complete lines, each value of which makes a job, are those that are written of the job in their format, which tells of all of it
 pub spelled : (format : Format) (t : JobLinesData) (lines : List CertLine) → all_by take (no_lines format) lines ≡ Some t → is_complete t.section ≡ true → t.is_sound ≡ true
     → (lines ≡ lines_of_format format (job_lines (job_of t))) × JobIn format (job_of t)
 spelled format t lines e complete sound =
-    let all = all_of (no_lines format) t lines e in
-    let full = full_spelled format t (full_all format lines) (sym (taken_full (no_lines format) lines all) ∙ e) complete sound in
-    (sym (full_kept format lines all) ∙ ap (λ (ls : List CertLine). lines_of_format format ls) full, told_in format (job_of t) lines all full)
-
--- what is left out of the lines of a job is what the others stand for
-abbrev kept : List CertLine → List CertLine
-kept lines = full_all Version1 (filter is_of_version1 lines)
-
-kept_both : (xs ys : List CertLine) → kept xs ≡ xs → kept ys ≡ ys → kept (xs ++ ys) ≡ xs ++ ys
-kept_both xs ys one two =
-    ap (λ (ls : List CertLine). full_all Version1 ls) (lines_append Version1 xs ys) ∙ flat_map-append (λ (line : CertLine). full_lines line Version1) (filter is_of_version1 xs) (filter is_of_version1 ys)
-    ∙ (λ i. one i ++ two i)
-
-kept_map : {A : Type 0} (line : A → CertLine) → ((x : A) → kept (line x ∷ []) ≡ line x ∷ []) → (xs : List A) → kept (map line xs) ≡ map line xs
-kept_map line one [] = refl
-kept_map line one (x ∷ xs) = kept_both (line x ∷ []) (map line xs) (one x) (kept_map line one xs)
-
-kept_stage : (s : StageData) → HasNoLoad s → kept (stage_lines s) ≡ stage_lines s
-kept_stage s none =
-    let boxes = kept_map box_line (λ x. refl) in
-    let punch = kept_both (punch_line s.punch.name s.punch.height s.punch.nose ∷ []) (map box_line s.punch.body) refl (boxes s.punch.body) in
-    let die = kept_both (die_line s.die.name s.die.height s.die.v s.die.least_flange ∷ []) (map box_line s.die.body) refl (boxes s.die.body) in
-    let tools = kept_both (punch_lines s.punch) (die_lines s.die) punch die in
-    let end : kept (pieces_line s.pieces ∷ load_line s.load s.limit ∷ []) ≡ pieces_line s.pieces ∷ load_line s.load s.limit ∷ [] = λ i. pieces_line s.pieces ∷ load_line (sym none.0 i) (sym none.1 i) ∷ [] in
-    kept_both (stage_line s.x0 s.x1 ∷ punch_lines s.punch ++ die_lines s.die) (pieces_line s.pieces ∷ load_line s.load s.limit ∷ []) (kept_both (stage_line s.x0 s.x1 ∷ []) (punch_lines s.punch ++ die_lines s.die) refl tools) end
-
-kept_stages : (stages : List StageData) → ((k : ℕ) (d : StageData) → k < length stages → HasNoLoad (get_or stages k d)) → kept (flat_map stage_lines stages) ≡ flat_map stage_lines stages
-kept_stages [] none = refl
-kept_stages (s ∷ stages) none = kept_both (stage_lines s) (flat_map stage_lines stages) (kept_stage s (none 0 s (omega arith))) (kept_stages stages (λ k d within. none (suc k) d (omega (arith, within))))
-
-kept_job : (job : JobData) → IsJobOfVersion1 job → kept (job_lines job) ≡ job_lines job
-unfolding job_lines
-kept_job job is =
-    let p = job.part in
-    let s = job.setup in
-    let part = kept_both (part_line p.material p.thickness p.radius job.q ∷ []) (map face_line p.faces) refl (kept_map face_line (λ x. refl) p.faces) in
-    let frames = kept_both (bed_line s.bed ∷ []) (map frame_line s.frames) refl (kept_map frame_line (λ x. refl) s.frames) in
-    let upper = kept_both (bed_line s.bed ∷ map frame_line s.frames) (map upper_line s.upper) frames (kept_map upper_line (λ x. refl) s.upper) in
-    let fixtures = kept_both (bed_line s.bed ∷ map frame_line s.frames ++ map upper_line s.upper) (map lower_line s.lower) upper (kept_map lower_line (λ x. refl) s.lower) in
-    let bare = record s { gang = false; force = pos 0; fine = 0 } in
-    let same : bare ≡ s = λ i. record s { gang = sym is.gang i; force = sym is.force i; fine = sym is.fine i } in
-    let rules : kept (rule_lines s) ≡ rule_lines s = subst (λ (x : SetupData). kept (rule_lines x) ≡ rule_lines x) same refl in
-    kept_both ((part_lines p job.q ++ fixture_lines s) ++ rule_lines s) (flat_map stage_lines s.stages)
-    (kept_both (part_lines p job.q ++ fixture_lines s) (rule_lines s) (kept_both (part_lines p job.q) (fixture_lines s) part fixtures) rules) (kept_stages s.stages is.loads)
-
-full_job : (format : Format) (job : JobData) → JobIn format job → full_all format (lines_of_format format (job_lines job)) ≡ job_lines job
-full_job Version1 job is = kept_job job is
-full_job Version2 job is = alone_all Version2 new_alone (job_lines job)
-full_job Table job is = alone_all Table table_alone (job_lines job)
-
-has_all : (format : Format) (lines : List CertLine) → AllOf format (lines_of_format format lines)
-has_all Version1 [] = tt
-has_all Version1 (line ∷ lines) = by_test (is_of_version1 line) refl (has_all Version1 lines)
+    let (none, nothing) = at_first format in
+    let is = all_lead format (no_lines format) t lines refl e none tt in
+    (sym (ap (λ (ls : List CertLine). lines_of_format format ls) (sym (complete_shown t.section t complete)) ∙ (is.shown sound).1 ∙ ap (λ (ls : List CertLine). ls ++ lines) nothing), is.told)
   where
-    by_test : (b : Bool) → is_of_version1 line ≡ b → AllOf Version1 (filter is_of_version1 lines) → AllOf Version1 (cond b (line ∷ filter is_of_version1 lines) (filter is_of_version1 lines))
-    by_test true is more = (is, more)
-    by_test false is more = more
-has_all Version2 [] = tt
-has_all Version2 (line ∷ lines) = (refl, has_all Version2 lines)
-has_all Table [] = tt
-has_all Table (line ∷ lines) = (refl, has_all Table lines)
+    at_first : (f : Format) → JobIn f (job_of (no_lines f)) × (lines_of_format f [] ≡ [])
+    at_first Version1 = (record { gang = refl; force = refl; fine = refl; loads = All-nil HasNoLoad }, refl)
+    at_first Version2 = (tt, refl)
+    at_first Table = (tt, refl)
+
+-- lines that are written in a format lead from one state to another
+record Runs (f : Format) (s : JobLinesData) (lines : List CertLine) (t : JobLinesData) : Type 0 where
+  taken : all_by take s (lines_of_format f lines) ≡ Some t
+
+all_both : (s t u : JobLinesData) (xs ys : List CertLine) → all_by take s xs ≡ Some t → all_by take t ys ≡ Some u → all_by take s (xs ++ ys) ≡ Some u
+all_both s t u [] ys one two = let same : s ≡ t = cc in subst (λ (x : JobLinesData). all_by take x ys ≡ Some u) (sym same) two
+all_both s t u (x ∷ xs) ys one two =
+    let (v, first, rest) = then_some (take s x) (λ v. all_by take v xs) t one in
+    ap (λ (o : Option JobLinesData). o >>= λ v. all_by take v (xs ++ ys)) first ∙ all_both v t u xs ys rest two
+
+infixl 5 ◌then◌
+◌then◌ : {f : Format} {s t u : JobLinesData} {xs ys : List CertLine} → Runs f s xs t → Runs f t ys u → Runs f s (xs ++ ys) u
+◌then◌ {f} {s} {t} {u} {xs} {ys} one two = record { taken = rw (lines_append f xs ys) (all_both s t u (lines_of_format f xs) (lines_of_format f ys) one.taken two.taken) }
+
+nothing : (f : Format) (s : JobLinesData) → Runs f s [] s
+nothing Version1 s = record { taken = refl }
+nothing Version2 s = record { taken = refl }
+nothing Table s = record { taken = refl }
+
+-- a line that each format has, and by which it says all
+in_any : (f : Format) (s : JobLinesData) (line : CertLine) → is_of_version1 line ≡ true → added_in Version1 s line ≡ added s line
+    → (lines_of_format f (line ∷ []) ≡ line ∷ []) × (has_line f line ≡ true) × (added_in f s line ≡ added s line)
+in_any Version1 s line old plain = (ap (λ (b : Bool). cond b (line ∷ []) []) old, old, plain)
+in_any Version2 s line old plain = (refl, refl, refl)
+in_any Table s line old plain = (refl, refl, refl)
+
+-- such a line is taken where it may stand and there is room
+one : (s : JobLinesData) (line : CertLine) → is_of_version1 line ≡ true → added_in Version1 s line ≡ added s line → admits s.section line ≡ true → has_room s line ≡ true → Runs s.format s (line ∷ []) (added s line)
+unfolding take
+one s line old plain may room =
+    let (alone, has, same) = in_any s.format s line old plain in
+    record { taken = rw (alone, has, may, room, same) refl }
+
+-- an element of a list, by what stands before it
+split : {A : Type 0} (before : List A) (x : A) (behind xs : List A) (d : A) → before ++ x ∷ behind ≡ xs → (length before < length xs) × (get_or xs (length before) d ≡ x)
+split before x behind xs d same = (
+  omega (arith, ap length same, length-append before (x ∷ behind)),
+  subst (λ ys. get_or ys (length before) d ≡ x) same (get_or-append_seam before x behind d),
+)
+
+-- lines of a list, where those of each element lead on from what is read before it
+list_run : {A : Type 0} (f : Format) (lines : List A → List CertLine) (of : A → List CertLine) → lines [] ≡ [] → ((x : A) (xs : List A) → lines (x ∷ xs) ≡ of x ++ lines xs) → (st : List A → JobLinesData) (done rest : List A)
+    → ((before : List A) (x : A) (behind : List A) → before ++ x ∷ behind ≡ done ++ rest → Runs f (st before) (of x) (st (before ++ x ∷ []))) → Runs f (st done) (lines rest) (st (done ++ rest))
+list_run f lines of none more st done [] step = rw (none, append-nil done) (nothing f (st done))
+list_run f lines of none more st done (x ∷ rest) step =
+    let moved = append_assoc done (x ∷ []) rest in
+    let there = list_run f lines of none more st (done ++ x ∷ []) rest (λ before y behind same. step before y behind (same ∙ moved)) in
+    rw (more x rest, ← moved) (step done x rest refl then there)
+
+few_run : {A : Type 0} (f : Format) (line : A → CertLine) (st : List A → JobLinesData) (most : ℕ) (xs : List A) → length xs ≤ most
+    → ((before : List A) (x : A) → nat_lt (length before) most ≡ true → Runs f (st before) (line x ∷ []) (st (before ++ x ∷ []))) → Runs f (st []) (map line xs) (st xs)
+few_run f line st most xs few step =
+    list_run f (map line) (λ x. line x ∷ []) refl (λ x xs. refl) st [] xs (λ before x behind same. step before x (lt-ltb (length before) most (omega (arith, (split before x behind xs x same).0, few))))
+
+-- a stage
+abbrev no_stage : StageData
+no_stage = begun_stage (pos 0) (pos 0)
+
+abbrev bare_punch : PunchData → List Rect → PunchData
+bare_punch p boxes = record (begun_punch p.name p.height p.nose) { body = boxes }
+
+abbrev bare_die : DieData → List Rect → DieData
+bare_die d boxes = record (begun_die d.name d.height d.v d.least_flange) { body = boxes }
+
+-- its tools have neither stock nor a limit
+stage_same : (s : StageData) → IsStage s → (record s { punch = bare_punch s.punch s.punch.body; die = bare_die s.die s.die.body }) ≡ s
+stage_same s is i = record s {
+  punch = record s.punch { sections = sym is.no_punch_sections i; limit = sym is.no_punch_limit i };
+  die = record s.die { sections = sym is.no_die_sections i; limit = sym is.no_die_limit i };
+}
+
+complete_admits : (at : JobSection) (x0 x1 : ℤ) → is_complete at ≡ true → admits at (stage_line x0 x1) ≡ true
+complete_admits sections.Rules x0 x1 is = refl
+complete_admits sections.Stages x0 x1 is = refl
+complete_admits _ x0 x1 is = absurd (false≢true is)
+
+-- its pieces and its load, which version 1 leaves out where it is 0
+load_run : (f : Format) (s : JobLinesData) (pieces : List ℤ) (load limit : ℤ) → s.format ≡ f → admits s.section (pieces_line pieces) ≡ true → nat_lt (length s.setup.stages) most_stages ≡ true
+    → (f ≡ Version1 → (load ≡ pos 0) × (limit ≡ pos 0)) → Runs f s (pieces_line pieces ∷ load_line load limit ∷ []) (added (added s (pieces_line pieces)) (load_line load limit))
+unfolding take has_room with_values
+load_run Version1 s pieces load limit is may room none = record { taken = simp (is, may, room, (none refl).0, (none refl).1) }
+load_run Version2 s pieces load limit is may room none = record { taken = simp (is, may, room) }
+load_run Table s pieces load limit is may room none = record { taken = simp (is, may, room) }
+
+stage_run : (f : Format) (at : JobSection) (p : PartData) (q : ℤ) (su : SetupData) (s : StageData) → is_complete at ≡ true → nat_lt (length su.stages) most_stages ≡ true → IsStage s → (f ≡ Version1 → HasNoLoad s)
+    → Runs f (state f at p q su no_stage true) (stage_lines s) (state f sections.Stages p q (record su { stages = su.stages ++ s ∷ [] }) no_stage true)
+unfolding has_room with_values
+stage_run f at p q su s complete room is none =
+    let st : JobSection → StageData → JobLinesData = λ to stage. state f to p q su stage true in
+    let sg = begun_stage s.x0 s.x1 in
+    let sgp : List Rect → StageData = λ boxes. record sg { punch = bare_punch s.punch boxes } in
+    let sgd : List Rect → StageData = λ boxes. record (sgp s.punch.body) { die = bare_die s.die boxes } in
+    let range = one (st at no_stage) (stage_line s.x0 s.x1) refl refl (complete_admits at s.x0 s.x1 complete) room in
+    let punch = one (st sections.Stage sg) (punch_line s.punch.name s.punch.height s.punch.nose) refl refl refl refl in
+    let punch_boxes = few_run f box_line (λ boxes. st sections.Punch (sgp boxes)) most_body_boxes s.punch.body is.punch.lists.few_boxes (λ before x less. one (st sections.Punch (sgp before)) (box_line x) refl refl refl less) in
+    let die = one (st sections.Punch (sgp s.punch.body)) (die_line s.die.name s.die.height s.die.v s.die.least_flange) refl refl refl refl in
+    let die_boxes = few_run f box_line (λ boxes. st sections.Die (sgd boxes)) most_body_boxes s.die.body is.die.lists.few_boxes (λ before x less. one (st sections.Die (sgd before)) (box_line x) refl refl refl less) in
+    let end = load_run f (st sections.Die (sgd s.die.body)) s.pieces s.load s.limit refl refl room none in
+    subst (λ (x : StageData). Runs f (st at no_stage) (stage_lines s) (state f sections.Stages p q (record su { stages = su.stages ++ x ∷ [] }) no_stage true)) (stage_same s is)
+    (range then (punch then punch_boxes) then (die then die_boxes) then end)
+
+-- the section behind some stages
+abbrev stages_end : JobSection → List StageData → JobSection
+stages_end at [] = at
+stages_end at (s ∷ stages) = sections.Stages
+
+end_complete : (at : JobSection) (stages : List StageData) → is_complete at ≡ true → is_complete (stages_end at stages) ≡ true
+end_complete at [] complete = complete
+end_complete at (s ∷ stages) complete = refl
+
+one_more : (at : JobSection) (before : List StageData) (s : StageData) → stages_end at (before ++ s ∷ []) ≡ sections.Stages
+one_more at [] s = refl
+one_more at (b ∷ before) s = refl
+
+stages_run : (f : Format) (at : JobSection) (p : PartData) (q : ℤ) (su : SetupData) (stages : List StageData) → is_complete at ≡ true → length stages ≤ most_stages → All IsStage stages → (f ≡ Version1 → All HasNoLoad stages)
+    → Runs f (state f at p q (record su { stages = [] }) no_stage true) (flat_map stage_lines stages) (state f (stages_end at stages) p q (record su { stages = stages }) no_stage true)
+stages_run f at p q su stages complete few each none =
+    let st : JobSection → List StageData → JobLinesData = λ to xs. state f to p q (record su { stages = xs }) no_stage true in
+    list_run f (flat_map stage_lines) stage_lines refl (λ x xs. refl) (λ xs. st (stages_end at xs) xs) [] stages (λ before s behind same.
+    let (inside, is) = split before s behind stages s same in
+    let room = lt-ltb (length before) most_stages (omega (arith, inside, few)) in
+    subst (λ (to : JobSection). Runs f (st (stages_end at before) before) (stage_lines s) (st to (before ++ s ∷ []))) (sym (one_more at before s))
+    (stage_run f (stages_end at before) p q (record su { stages = before }) s (end_complete at before complete) room (subst IsStage is (each (length before) s inside)) (λ old. subst HasNoLoad is (none old (length before) s inside))))
+
+-- the part
+face_fits : (p : PartData) → IsPart p → (b : ℕ) → b < length p.faces → stands_behind b (face_at p.faces b).joint ≡ true
+face_fits p is zero within = ap (λ (joint : Option Joint). stands_behind 0 joint) ((is.each_face 0 within).placed.joined.root refl)
+face_fits p is (suc b) within =
+    let (joint, on) = (is.each_face (suc b) within).placed.joined.joint (omega arith) in
+    ap (λ (j : Option Joint). stands_behind (suc b) j) on.has ∙ lt-ltb joint.on (suc b) on.earlier
+
+part_run : (f : Format) (p : PartData) (q : ℤ) → IsPart p → Runs f (no_lines f) (part_line p.material p.thickness p.radius q ∷ map face_line p.faces) (state f sections.Part p q (begun_setup (pos 0, pos 0)) no_stage true)
+unfolding has_room with_values
+part_run f p q is =
+    let st : List FaceData → JobLinesData = λ faces. state f sections.Part (record p { faces = faces }) q (begun_setup (pos 0, pos 0)) no_stage true in
+    let sheet = one (no_lines f) (part_line p.material p.thickness p.radius q) refl refl refl refl in
+    sheet then list_run f (map face_line) (λ x. face_line x ∷ []) refl (λ x xs. refl) st [] p.faces (λ before x behind same.
+    let (inside, here) = split before x behind p.faces no_face same in
+    let less : nat_lt (length before) most_faces ≡ true = lt-ltb (length before) most_faces (omega (arith, inside, is.few_faces)) in
+    let fits : stands_behind (length before) x.joint ≡ true = subst (λ (y : FaceData). stands_behind (length before) y.joint ≡ true) here (face_fits p is (length before) inside) in
+    one (st before) (face_line x) refl refl refl (rw (less, fits) refl))
+
+-- the rules, of which version 1 leaves out that there are no gangs and no force
+rules_run : (f : Format) (p : PartData) (q : ℤ) (su s : SetupData) → (f ≡ Version1 → (s.gang ≡ false) × (s.force ≡ pos 0))
+    → Runs f (state f sections.Fixtures p q su no_stage true) (plain_rules s) (state f sections.Rules p q (record su { uncovered = s.uncovered; gauge = s.gauge; cost = s.cost; gang = s.gang; force = s.force }) no_stage true)
+unfolding take has_room with_values
+rules_run Version1 p q su s none = record { taken = simp (costs_back s.cost, (none refl).0, (none refl).1) }
+rules_run Version2 p q su s none = record { taken = simp (costs_back s.cost, gang_back s.gang) }
+rules_run Table p q su s none = record { taken = simp (costs_back s.cost, gang_back s.gang) }
+
+-- the depth, which version 1 hasn't
+fine_back : (n : ℕ) → suc n ≤ 12 → fine_of (pos (suc n)) ≡ Some (suc n)
+fine_back n few =
+    let within = (within_decided (pos 1) (pos 12) (pos (suc n))).1 (record { bottom = omega (arith, ints); top = omega (arith, ints, few) }) in
+    ap (λ (b : Bool). if b then Some (suc n) else None) within
+
+depth_run : (f : Format) (p : PartData) (q : ℤ) (su : SetupData) (depth : ℕ) → (f ≡ Version1 → depth ≡ 0) → depth ≤ 12
+    → (end : JobSection) × (is_complete end ≡ true) × Runs f (state f sections.Rules p q (record su { fine = 0 }) no_stage true) (fine_lines depth) (state f end p q (record su { fine = depth }) no_stage true)
+unfolding take has_room with_values
+depth_run f p q su zero old few = (sections.Rules, refl, nothing f (state f sections.Rules p q (record su { fine = 0 }) no_stage true))
+depth_run Version1 p q su (suc n) old few = absurd (omega (arith, old refl))
+depth_run Version2 p q su (suc n) old few = (sections.Stages, refl, record { taken = simp (eqb-suc-zero n, fine_back n few) })
+depth_run Table p q su (suc n) old few = (sections.Stages, refl, record { taken = simp (eqb-suc-zero n, fine_back n few) })
 
 -- the lines of a valid job of which a format tells all are taken one after the other, and give the job
 pub written : (format : Format) (job : JobData) → IsJob job → JobIn format job
     → (end : JobSection) × (is_complete end ≡ true) × (all_by take (no_lines format) (lines_of_format format (job_lines job)) ≡ Some (state format end job.part job.q job.setup (begun_stage (pos 0) (pos 0)) true))
-written format job valid is =
-    let (end, complete, e) = full_written format job valid in (
-      end,
-      complete,
-      taken_full (no_lines format) (lines_of_format format (job_lines job)) (has_all format (job_lines job)) ∙ ap (λ (ls : List CertLine). all_by take_full (no_lines format) ls) (full_job format job is) ∙ e,
-    )
+unfolding has_room with_values job_lines
+written f job valid told =
+    let p = job.part in
+    let q = job.q in
+    let s = job.setup in
+    let fixed = valid.setup.fixtures in
+    let at = sections.Fixtures in
+    let st : JobSection → SetupData → JobLinesData = λ to su. state f to p q su no_stage true in
+    let su0 = begun_setup (pos 0, pos 0) in
+    let su1 = begun_setup s.bed in
+    let su2 = record su1 { frames = s.frames } in
+    let su3 = record su2 { upper = s.upper } in
+    let su4 = record su3 { lower = s.lower } in
+    let su5 = record su4 { uncovered = s.uncovered; gauge = s.gauge; cost = s.cost; gang = s.gang; force = s.force } in
+    let su6 = record su5 { fine = s.fine } in
+    let bed = one (st sections.Part su0) (bed_line s.bed) refl refl refl (lt-ltb 0 (length p.faces) valid.part.some_face) in
+    let frames = few_run f frame_line (λ xs. st at (record su1 { frames = xs })) most_frames s.frames fixed.few_frames (λ before x less. one (st at (record su1 { frames = before })) (frame_line x) refl refl refl (rw less refl)) in
+    let upper = few_run f upper_line (λ xs. st at (record su2 { upper = xs })) most_fixed_boxes s.upper fixed.few_upper (λ before x less. one (st at (record su2 { upper = before })) (upper_line x) refl refl refl (rw less refl)) in
+    let lower = few_run f lower_line (λ xs. st at (record su3 { lower = xs })) most_fixed_boxes s.lower fixed.few_lower (λ before x less. one (st at (record su3 { lower = before })) (lower_line x) refl refl refl less) in
+    let rules = rules_run f p q su4 s (λ old. let is = old_job f old told in (is.gang, is.force)) in
+    let (rules_end, complete, depth) = depth_run f p q su5 s.fine (λ old. (old_job f old told).fine) valid.setup.rules.fine in
+    let stages = stages_run f rules_end p q su6 s.stages complete valid.setup.stages.few_stages valid.setup.stages.each (λ old. (old_job f old told).loads) in
+    (stages_end rules_end s.stages, end_complete rules_end s.stages complete, (part_run f p q valid.part then (bed then frames then upper then lower) then (rules then depth) then stages).taken)
+  where
+    old_job : (f : Format) → f ≡ Version1 → JobIn f job → IsJobOfVersion1 job
+    old_job f is told = subst (λ (x : Format). JobIn x job) is told

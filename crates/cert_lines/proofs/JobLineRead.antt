@@ -6,6 +6,7 @@ use Rattle.std.specs.Fmt.{signed_decimal}
 use Rattle.std.proofs.lemmas.Grind.{flat_map-append}
 use Rattle.std.proofs.lemmas.Slice.Eq.{bytes_eq-Decides}
 use Rattle.toml_fields.specs.Fields.{is_name, checked_name}
+use Rattle.brake_base.specs.declared.plane.Rect.{Rect}
 use Rattle.part_file.specs.Bounds.{most_faces}
 use Rattle.part_file.specs.declared.part.Side.{Side}
 use Rattle.part_file.specs.declared.part.Side.TheVariants.{N, E, S, W}
@@ -20,12 +21,12 @@ use Rattle.cert_words.specs.LineWords.{◌>>=◌, then_in, signed_at, pair_at, s
 use Rattle.cert_words.specs.JobWords.{numbers_in, named_in, parent_at, standing_in, face_of, child_in}
 use Rattle.cert_lines.specs.Lines.{CertLine, part_line, face_line, bed_line, frame_line, upper_line, lower_line, uncovered_line, gauge_line, cost_line, gang_line, force_line, fine_line, stage_line, punch_line, die_line, box_line, pieces_line, load_line, number, side_word, dir_word, face_words, keyword_of, words_of, spaced}
 use Rattle.cert_lines.specs.LineReading.{keyword_in, behind_keyword}
-use Rattle.cert_lines.specs.JobLineReading.{single, pair, triple, rect_of, fixed_of, gauge_of, costs_line_of, pieces_line_of, stage_line_of, rule_line_of, fixture_line_of, part_line_in, punch_line_in, die_line_in, root_in, face_line_in, number_line_in, words_line_in, line_in}
+use Rattle.cert_lines.specs.JobLineReading.{CostNumbers, cost_line_of, single, pair, triple, rect_of, fixed_of, gauge_of, cost_numbers, pieces_of, numbered, named, root_of, root_in, face_in, Form, form, number_forms, word_forms, by_form, number_line_in, words_line_in, line_in}
 use Rattle.cert_lines.proofs.Each.{Each, Any, each_then, each_weaker}
 use Rattle.cert_lines.proofs.WordsRead.{spelled, Ends, IsShort, IsSmall, word_read, checked, signed_read, kind_read, side_back, dir_back, side_plain, dir_plain, signed_plain, name_plain}
 use Rattle.cert_lines.proofs.TextLines.{line_bytes, ArePlain}
 use Rattle.cert_lines.proofs.Spelling.{signed_is, side_is, dir_is, name_is, each_line}
-use Rattle.cert_lines.proofs.Readers.{ReadsWords, ReadsAll, ReadsLines, both_reads, alone_reads, then_reads, kind_reads, any_kind, IsCount, count_reads}
+use Rattle.cert_lines.proofs.Readers.{ReadsWords, ReadsAll, ReadsLines, made_reads, both_reads, alone_reads, then_reads, kind_reads, any_kind, IsCount, count_reads}
 
 -- each of the numbers is small
 abbrev pub AllSmall : List ℤ → Type 0
@@ -82,31 +83,31 @@ pair_reads : ReadsWords (λ (p : ℤ × ℤ). IsSmall p.0 × IsSmall p.1) (λ p.
 unfolding pair_at
 pair_reads = both_reads signed_reads signed_reads
 
-abbrev numbered : List ℤ → List ℕ
-numbered ns = spelled (map signed_decimal ns)
+abbrev numbers_text : List ℤ → List ℕ
+numbers_text ns = spelled (map signed_decimal ns)
 
 abbrev AreNumbers : ℕ → List ℤ → Type 0
 AreNumbers most ns = (length ns ≤ most) × AllSmall ns
 
-numbered_end : (zs : List ℤ) → Ends (numbered zs)
-numbered_end [] = tt
-numbered_end (z ∷ zs) = refl
+numbers_end : (zs : List ℤ) → Ends (numbers_text zs)
+numbers_end [] = tt
+numbers_end (z ∷ zs) = refl
 
-numbers_back : (most : ℕ) (zs : List ℤ) → AreNumbers most zs → numbers_in most (numbered zs) ≡ Some zs
+numbers_back : (most : ℕ) (zs : List ℤ) → AreNumbers most zs → numbers_in most (numbers_text zs) ≡ Some zs
 numbers_back zero [] are = refl
 numbers_back (suc most) [] are = refl
 numbers_back zero (z ∷ zs) are = absurd (omega (arith, are.0))
 numbers_back (suc most) (z ∷ zs) are =
-    ap (λ (o : Option (ℤ × List ℕ)). o >>= λ n. numbers_in most n.1 >>= λ numbers. Some (n.0 ∷ numbers)) (signed_read z (numbered zs) are.1.0 (numbered_end zs))
+    ap (λ (o : Option (ℤ × List ℕ)). o >>= λ n. numbers_in most n.1 >>= λ numbers. Some (n.0 ∷ numbers)) (signed_read z (numbers_text zs) are.1.0 (numbers_end zs))
     ∙ ap (λ (o : Option (List ℤ)). o >>= λ numbers. Some (z ∷ numbers)) (numbers_back most zs (omega (arith, are.0), are.1.1))
 
-numbers_only : (most : ℕ) (text : List ℕ) → Each (λ (ns : List ℤ). AreNumbers most ns × (text ≡ numbered ns)) (numbers_in most text)
+numbers_only : (most : ℕ) (text : List ℕ) → Each (λ (ns : List ℤ). AreNumbers most ns × (text ≡ numbers_text ns)) (numbers_in most text)
 numbers_only most [] = ((omega arith, tt), refl)
 numbers_only zero (byte ∷ text) = tt
 numbers_only (suc most) (byte ∷ text) =
-    let Is : List ℤ → Type 0 = λ ns. AreNumbers (suc most) ns × (byte ∷ text ≡ numbered ns) in
+    let Is : List ℤ → Type 0 = λ ns. AreNumbers (suc most) ns × (byte ∷ text ≡ numbers_text ns) in
     each_then (λ (n : ℤ × List ℕ). IsSmall n.0 × (byte ∷ text ≡ spelled (signed_decimal n.0 ∷ []) ++ n.1)) Is (signed_at (byte ∷ text)) (λ n. numbers_in most n.1 >>= λ numbers. Some (n.0 ∷ numbers)) (signed_reads.only (byte ∷ text))
-    (λ n one. each_then (λ (ns : List ℤ). AreNumbers most ns × (n.1 ≡ numbered ns)) Is (numbers_in most n.1) (λ numbers. Some (n.0 ∷ numbers)) (numbers_only most n.1)
+    (λ n one. each_then (λ (ns : List ℤ). AreNumbers most ns × (n.1 ≡ numbers_text ns)) Is (numbers_in most n.1) (λ numbers. Some (n.0 ∷ numbers)) (numbers_only most n.1)
     (λ ns more. ((omega (arith, more.0.0), (one.0, more.0.1)), one.1 ∙ ap (λ (t : List ℕ). spelled (signed_decimal n.0 ∷ []) ++ t) more.1 ∙ sym (flat_map-append spaced (signed_decimal n.0 ∷ []) (map signed_decimal ns)))))
 
 numbers_plain : (ns : List ℤ) → AllSmall ns → ArePlain (map signed_decimal ns)
@@ -172,24 +173,104 @@ child_only text =
     each_then (λ (x : Child). IsChild most_faces x × (text ≡ spelled (words_of (face_line (face_of x))))) (IsFace text) (then_in (kind_at checked_name) (then_in (parent_at most_faces) standing_in) text) (λ x. Some (face_of x)) ((child_reads most_faces).only text)
     (λ x is. let parent = is.0.1.0.0 in let standing = is.0.1.1.0 in ((record { name = is.0.0; width = standing.1.0; long = standing.1.1; at = standing.0; on = parent.short }, parent.high), is.1))
 
--- lines with a name
-named_only : {A : Type 0} (P : List ℕ → A → Type 0) (behind : List ℕ × List ℤ → Option A) → ((name : List ℕ) (ns : List ℤ) → is_name name ≡ true → AllSmall ns → Each (P (spelled (named_words (name, ns)))) (behind (name, ns)))
-    → (text : List ℕ) → Each (P text) (named_in text >>= behind)
-named_only P behind is text =
-    each_then (λ (x : List ℕ × List ℤ). IsNamed x × (text ≡ spelled (named_words x))) (P text) (named_in text) behind (named_reads.only text) (λ x of. subst (λ (t : List ℕ). Each (P t) (behind x)) (sym of.1) (is x.0 x.1 of.0.0 of.0.1.1))
+abbrev two_of : ℤ × ℤ → List ℤ
+two_of x = x.0 ∷ x.1 ∷ []
+
+abbrev three_of : ℤ × ℤ × ℤ → List ℤ
+three_of x = x.0 ∷ x.1 ∷ x.2 ∷ []
+
+abbrev one_of : ℤ → List ℤ
+one_of n = n ∷ []
+
+abbrev four_of : Rect → List ℤ
+four_of r = r.y0 ∷ r.y1 ∷ r.z0 ∷ r.z1 ∷ []
+
+abbrev six_of : CostNumbers → List ℤ
+six_of n = n.0.0 ∷ n.0.1 ∷ n.1.0.0 ∷ n.1.0.1 ∷ n.1.1.0 ∷ n.1.1.1 ∷ []
+
+-- what is read of numbers, alone or behind a name
+abbrev Inverts : {A : Type 0} → (A → List ℤ) → (List ℤ → Option A) → Type 0
+Inverts to read = (ns : List ℤ) → Each (λ x. ns ≡ to x) (read ns)
+
+one_number : Inverts one_of single
+one_number (n ∷ []) = refl
+one_number _ = tt
+
+two_numbers : Inverts two_of pair
+two_numbers (m ∷ n ∷ []) = refl
+two_numbers _ = tt
+
+three_numbers : Inverts three_of triple
+three_numbers (l ∷ m ∷ n ∷ []) = refl
+three_numbers _ = tt
+
+four_numbers : Inverts four_of rect_of
+four_numbers (y0 ∷ y1 ∷ z0 ∷ z1 ∷ []) = refl
+four_numbers _ = tt
+
+fixed_back : Inverts fixed_numbers fixed_of
+fixed_back (x0 ∷ x1 ∷ y0 ∷ y1 ∷ z0 ∷ z1 ∷ []) = refl
+fixed_back _ = tt
+
+gauge_back : Inverts gauge_numbers gauge_of
+gauge_back (a ∷ b ∷ c ∷ d ∷ e ∷ f ∷ g ∷ h ∷ []) = refl
+gauge_back _ = tt
+
+costs_back : Inverts six_of cost_numbers
+costs_back (a ∷ b ∷ c ∷ d ∷ e ∷ f ∷ []) = refl
+costs_back _ = tt
+
+behind_name : {A : Type 0} (to : A → List ℤ) (read : List ℤ → Option A) → Inverts to read → (words : List ℕ × List ℤ) → Each (λ (x : List ℕ × A). words ≡ (x.0, to x.1)) (read words.1 >>= λ sizes. Some (words.0, sizes))
+behind_name {A} to read inverts words =
+    each_then (λ x. words.1 ≡ to x) (λ (x : List ℕ × A). words ≡ (x.0, to x.1)) (read words.1) (λ sizes. Some (words.0, sizes)) (inverts words.1) (λ x e. ap (λ (ns : List ℤ). (words.0, ns)) e)
+
+abbrev ReadsNumbers : {A : Type 0} → (A → List ℤ) → (List ℤ → Option A) → Type 0
+ReadsNumbers to read = ReadsAll (λ x. AreNumbers 32 (to x)) (λ x. map signed_decimal (to x)) (numbered read)
+
+abbrev ReadsNamed : {A : Type 0} → (A → List ℤ) → (List ℤ → Option A) → Type 0
+ReadsNamed {A} to read = ReadsAll (λ (x : List ℕ × A). IsNamed (x.0, to x.1)) (λ x. named_words (x.0, to x.1)) (named read)
+
+numbers_are : {A : Type 0} (to : A → List ℤ) (read : List ℤ → Option A) → ((x : A) → read (to x) ≡ Some x) → Inverts to read → ReadsNumbers to read
+unfolding numbered
+numbers_are to read same inverts = made_reads read to same inverts numbers_read
+
+names_are : {A : Type 0} (to : A → List ℤ) (read : List ℤ → Option A) → ((x : A) → read (to x) ≡ Some x) → Inverts to read → ReadsNamed to read
+unfolding named
+names_are {A} to read same inverts =
+    made_reads (λ words. read words.1 >>= λ sizes. Some (words.0, sizes)) (λ x. (x.0, to x.1)) (λ x. ap (λ (o : Option A). o >>= λ sizes. Some (x.0, sizes)) (same x.1)) (behind_name to read inverts) named_reads
+
+one_read : ReadsNumbers one_of single
+one_read = numbers_are one_of single (λ n. refl) one_number
+
+pair_read : ReadsNumbers two_of pair
+pair_read = numbers_are two_of pair (λ x. refl) two_numbers
+
+rect_read : ReadsNumbers four_of rect_of
+rect_read = numbers_are four_of rect_of (λ r. refl) four_numbers
+
+fixed_read : ReadsNumbers fixed_numbers fixed_of
+fixed_read = numbers_are fixed_numbers fixed_of (λ f. refl) fixed_back
+
+gauge_read : ReadsNumbers gauge_numbers gauge_of
+gauge_read = numbers_are gauge_numbers gauge_of (λ g. refl) gauge_back
+
+costs_read : ReadsNumbers six_of cost_numbers
+costs_read = numbers_are six_of cost_numbers (λ n. refl) costs_back
+
+named_pair_read : ReadsNamed two_of pair
+named_pair_read = names_are two_of pair (λ x. refl) two_numbers
+
+named_triple_read : ReadsNamed three_of triple
+named_triple_read = names_are three_of triple (λ x. refl) three_numbers
 
 root_only : (text : List ℕ) → Each (IsFace text) (root_in text)
 unfolding root_in
-root_only text = named_only IsFace (λ named. pair named.1 >>= λ sizes. Some (record { name = named.0; width = sizes.0; length = sizes.1; joint = None })) is text
-  where
-    is : (name : List ℕ) (ns : List ℤ) → is_name name ≡ true → AllSmall ns → Each (IsFace (spelled (named_words (name, ns)))) (pair ns >>= λ sizes. Some (record { name = name; width = sizes.0; length = sizes.1; joint = None }))
-    is name (a ∷ b ∷ []) named small = ((named, small), refl)
-    is name _ named small = tt
+root_only text = each_then (λ (x : List ℕ × (ℤ × ℤ)). IsNamed (x.0, two_of x.1) × (text ≡ spelled (named_words (x.0, two_of x.1)))) (IsFace text) (named pair text) (λ root. Some (root_of root)) (named_pair_read.only text) (λ root is. ((is.0.0, is.0.1.1), is.1))
 
 root_back : (f : FaceData) → f.joint ≡ None → IsToldFace f None → root_in (spelled (face_words f None)) ≡ Some f
 unfolding root_in
 root_back f none is =
-    ap (λ (o : Option (List ℕ × List ℤ)). o >>= λ named. pair named.1 >>= λ sizes. Some (record { name = named.0; width = sizes.0; length = sizes.1; joint = None })) (named_reads.back (f.name, f.width ∷ f.length ∷ []) (is.0, (omega arith, is.1)))
+    ap (λ (o : Option (List ℕ × (ℤ × ℤ))). o >>= λ root. Some (root_of root)) (named_pair_read.back (f.name, (f.width, f.length)) (is.0, (omega arith, is.1)))
     ∙ ap (λ (j : Option Joint). Some (record { name = f.name; width = f.width; length = f.length; joint = j })) (sym none)
 
 -- a face that stands on another isn't read as one that stands on none: a side is no number
@@ -206,176 +287,137 @@ no_numbers on side rest short ends =
     ∙ ap (λ (o : Option (ℤ × List ℕ)). (o >>= λ n. numbers_in 30 n.1 >>= λ numbers. Some (n.0 ∷ numbers)) >>= λ numbers. Some (pos on ∷ numbers)) (no_side side rest ends)
 
 no_root : (name : List ℕ) (on : ℕ) (side : Side) (rest : List ℕ) → is_name name ≡ true → IsShort on → Ends rest → root_in (spaced name ++ (spaced (number on) ++ (spaced (side_word side) ++ rest))) ≡ None
-unfolding root_in named_in
+unfolding root_in named named_in
 no_root name on side rest is short ends = rw (kind_read checked_name name (spaced (number on) ++ (spaced (side_word side) ++ rest)) name (checked name is) (name_plain name is) refl, no_numbers on side rest short ends) refl
 
-face_back : (f : FaceData) (joint : Option Joint) → f.joint ≡ joint → IsToldFace f joint → face_line_in (spelled (face_words f joint)) ≡ Some (face_line f)
-unfolding face_line_in
-face_back f None has is = ap (λ (o : Option FaceData). option_or o (child_in most_faces (spelled (face_words f None))) >>= λ face. Some (face_line face)) (root_back f has is)
+face_back : (f : FaceData) (joint : Option Joint) → f.joint ≡ joint → IsToldFace f joint → face_in (spelled (face_words f joint)) ≡ Some f
+unfolding face_in
+face_back f None has is = ap (λ (o : Option FaceData). option_or o (child_in most_faces (spelled (face_words f None)))) (root_back f has is)
 face_back f (Some joint) has is =
     let text = spelled (face_words f (Some joint)) in
     let rest = spelled (signed_decimal joint.at ∷ signed_decimal f.width ∷ signed_decimal f.length ∷ dir_word joint.dir ∷ []) in
-    ap (λ (o : Option FaceData). option_or o (child_in most_faces text) >>= λ face. Some (face_line face)) (no_root f.name joint.on joint.side rest is.0.name is.0.on refl)
-    ∙ ap (λ (o : Option FaceData). o >>= λ face. Some (face_line face)) (child_back f joint has is)
-
--- what is told of a line that is read, by its keyword and the text behind it
-abbrev IsTold : List ℕ → List ℕ → CertLine → Type 0
-IsTold keyword text line = IsJobLine line × (keyword ≡ keyword_of line) × (text ≡ spelled (words_of line))
+    ap (λ (o : Option FaceData). option_or o (child_in most_faces text)) (no_root f.name joint.on joint.side rest is.0.name is.0.on refl) ∙ child_back f joint has is
 
 each_or : {A : Type 0} (P : A → Type 0) (x y : Option A) → Each P x → Each P y → Each P (option_or x y)
 each_or P None y one two = two
 each_or P (Some x) y one two = one
 
-face_only : (text : List ℕ) → Each (IsTold (codes "face") text) (face_line_in text)
-unfolding face_line_in
-face_only text =
-    each_then (IsFace text) (IsTold (codes "face") text) (option_or (root_in text) (child_in most_faces text)) (λ face. Some (face_line face)) (each_or (IsFace text) (root_in text) (child_in most_faces text) (root_only text) (child_only text))
-    (λ face is. (is.0, refl, is.1))
+face_only : (text : List ℕ) → Each (IsFace text) (face_in text)
+unfolding face_in
+face_only text = each_or (IsFace text) (root_in text) (child_in most_faces text) (root_only text) (child_only text)
 
-part_only : (text : List ℕ) → Each (IsTold (codes "part") text) (part_line_in text)
-unfolding part_line_in
-part_only text = named_only (IsTold (codes "part")) (λ named. triple named.1 >>= λ sizes. Some (part_line named.0 sizes.0 sizes.1 sizes.2)) is text
+-- what is told of a line that is read, by its keyword and the text behind it
+abbrev IsTold : List ℕ → List ℕ → CertLine → Type 0
+IsTold keyword text line = IsJobLine line × (keyword ≡ keyword_of line) × (text ≡ spelled (words_of line))
+
+-- a form reads nothing but the lines of its keyword
+abbrev IsToldBy : Form → Type 0
+IsToldBy one = (text : List ℕ) → Each (IsTold one.0 text) (one.1 text)
+
+abbrev AreToldBy : List Form → Type 0
+AreToldBy [] = Unit {0}
+AreToldBy (one ∷ forms) = IsToldBy one × AreToldBy forms
+
+told : {A : Type 0} {Fits : A → Type 0} {words : A → List (List ℕ)} {read : List ℕ → Option A} (keyword : List ℕ) (line : A → CertLine) → ReadsAll Fits words read → ((x : A) → Fits x → IsTold keyword (spelled (words x)) (line x)) → IsToldBy (form keyword read line)
+told {A} {Fits} {words} {read} keyword line reads is text =
+    each_then (λ (x : A). Fits x × (text ≡ spelled (words x))) (IsTold keyword text) (read text) (λ x. Some (line x)) (reads.only text) (λ x has. subst (λ (t : List ℕ). IsTold keyword t (line x)) (sym has.1) (is x has.0))
+
+pieces_told : IsToldBy (form (codes "pieces") (numbered pieces_of) pieces_line)
+unfolding numbered
+pieces_told text =
+    let Is : List ℤ → Type 0 = λ ps. (0 < length ps) × AreNumbers 32 ps × (text ≡ numbers_text ps) in
+    each_then Is (IsTold (codes "pieces") text) (numbers_in 32 text >>= pieces_of) (λ ps. Some (pieces_line ps))
+    (each_then (λ (ns : List ℤ). AreNumbers 32 ns × (text ≡ numbers_text ns)) Is (numbers_in 32 text) pieces_of (numbers_read.only text) some)
+    (λ ps is. ((is.0, is.1.0, is.1.1), refl, is.2))
   where
-    is : (name : List ℕ) (ns : List ℤ) → is_name name ≡ true → AllSmall ns → Each (IsTold (codes "part") (spelled (named_words (name, ns)))) (triple ns >>= λ sizes. Some (part_line name sizes.0 sizes.1 sizes.2))
-    is name (a ∷ b ∷ c ∷ []) named small = ((named, small), refl, refl)
-    is name _ named small = tt
+    some : (ns : List ℤ) → AreNumbers 32 ns × (text ≡ numbers_text ns) → Each (λ (ps : List ℤ). (0 < length ps) × AreNumbers 32 ps × (text ≡ numbers_text ps)) (pieces_of ns)
+    some [] is = tt
+    some (n ∷ ns) is = (omega arith, is.0, is.1)
 
-punch_only : (text : List ℕ) → Each (IsTold (codes "punch") text) (punch_line_in text)
-unfolding punch_line_in
-punch_only text = named_only (IsTold (codes "punch")) (λ named. pair named.1 >>= λ sizes. Some (punch_line named.0 sizes.0 sizes.1)) is text
+face_told : IsToldBy (form (codes "face") face_in face_line)
+face_told text = each_then (IsFace text) (IsTold (codes "face") text) (face_in text) (λ face. Some (face_line face)) (face_only text) (λ face is. (is.0, refl, is.1))
+
+infixr 4 ◌and◌
+abbrev ◌and◌ : {P Q : Type 0} → P → Q → P × Q
+p and q = (p, q)
+
+number_forms_told : AreToldBy number_forms
+number_forms_told =
+    told (codes "bed") bed_line pair_read (λ x are. (are.1, refl, refl))
+    and told (codes "frame") frame_line pair_read (λ x are. (are.1, refl, refl))
+    and told (codes "upper") upper_line fixed_read (λ x are. (are.1, refl, refl))
+    and told (codes "lower") lower_line fixed_read (λ x are. (are.1, refl, refl))
+    and told (codes "uncovered") uncovered_line one_read (λ x are. (are.1, refl, refl))
+    and told (codes "gauge") gauge_line gauge_read (λ x are. (are.1, refl, refl))
+    and told (codes "cost") cost_line_of costs_read (λ x are. (are.1, refl, refl))
+    and told (codes "gang") gang_line one_read (λ x are. (are.1, refl, refl))
+    and told (codes "force") force_line one_read (λ x are. (are.1, refl, refl))
+    and told (codes "fine") fine_line one_read (λ x are. (are.1, refl, refl))
+    and told (codes "stage") (λ x. stage_line x.0 x.1) pair_read (λ x are. (are.1, refl, refl))
+    and told (codes "box") box_line rect_read (λ x are. (are.1, refl, refl))
+    and pieces_told
+    and told (codes "load") (λ x. load_line x.0 x.1) pair_read (λ x are. (are.1, refl, refl))
+    and tt
+
+word_forms_told : AreToldBy word_forms
+word_forms_told =
+    told (codes "part") (λ x. part_line x.0 x.1.0 x.1.1 x.1.2) named_triple_read (λ x is. ((is.0, is.1.1), refl, refl))
+    and face_told
+    and told (codes "punch") (λ x. punch_line x.0 x.1.0 x.1.1) named_pair_read (λ x is. ((is.0, is.1.1), refl, refl))
+    and told (codes "die") (λ x. die_line x.0 x.1.0 x.1.1 x.1.2) named_triple_read (λ x is. ((is.0, is.1.1), refl, refl))
+    and tt
+
+-- the line at a keyword
+by_key : (keyword text : List ℕ) (forms : List Form) (other : List ℕ → List ℕ → Option CertLine) → AreToldBy forms → Each (IsTold keyword text) (other keyword text) → Each (IsTold keyword text) (by_form forms other keyword text)
+by_key keyword text [] other told else_told = else_told
+by_key keyword text (one ∷ forms) other told else_told = by_test (bytes_eq keyword one.0) refl (by_key keyword text forms other told.1 else_told)
   where
-    is : (name : List ℕ) (ns : List ℤ) → is_name name ≡ true → AllSmall ns → Each (IsTold (codes "punch") (spelled (named_words (name, ns)))) (pair ns >>= λ sizes. Some (punch_line name sizes.0 sizes.1))
-    is name (a ∷ b ∷ []) named small = ((named, small), refl, refl)
-    is name _ named small = tt
-
-die_only : (text : List ℕ) → Each (IsTold (codes "die") text) (die_line_in text)
-unfolding die_line_in
-die_only text = named_only (IsTold (codes "die")) (λ named. triple named.1 >>= λ sizes. Some (die_line named.0 sizes.0 sizes.1 sizes.2)) is text
-  where
-    is : (name : List ℕ) (ns : List ℤ) → is_name name ≡ true → AllSmall ns → Each (IsTold (codes "die") (spelled (named_words (name, ns)))) (triple ns >>= λ sizes. Some (die_line name sizes.0 sizes.1 sizes.2))
-    is name (a ∷ b ∷ c ∷ []) named small = ((named, small), refl, refl)
-    is name _ named small = tt
-
--- lines of numbers alone: of one number, of two, of a rectangle, of a fixed box, and others
-one_only : (keyword : List ℕ) (line : ℤ → CertLine) → ((n : ℤ) → AllSmall (n ∷ []) → IsTold keyword (numbered (n ∷ [])) (line n)) → (ns : List ℤ) → AllSmall ns → Each (IsTold keyword (numbered ns)) (single ns >>= λ n. Some (line n))
-one_only keyword line is (n ∷ []) small = is n small
-one_only keyword line is _ small = tt
-
-two_only : (keyword : List ℕ) (line : ℤ × ℤ → CertLine) → ((m n : ℤ) → AllSmall (m ∷ n ∷ []) → IsTold keyword (numbered (m ∷ n ∷ [])) (line (m, n))) → (ns : List ℤ) → AllSmall ns → Each (IsTold keyword (numbered ns)) (pair ns >>= λ x. Some (line x))
-two_only keyword line is (m ∷ n ∷ []) small = is m n small
-two_only keyword line is _ small = tt
-
-box_only : (ns : List ℤ) → AllSmall ns → Each (IsTold (codes "box") (numbered ns)) (rect_of ns >>= λ box. Some (box_line box))
-box_only (y0 ∷ y1 ∷ z0 ∷ z1 ∷ []) small = (small, refl, refl)
-box_only _ small = tt
-
-fixed_only : (keyword : List ℕ) (line : Fixed → CertLine) → ((f : Fixed) → AllSmall (fixed_numbers f) → IsTold keyword (numbered (fixed_numbers f)) (line f)) → (ns : List ℤ) → AllSmall ns → Each (IsTold keyword (numbered ns)) (fixed_of ns >>= λ box. Some (line box))
-fixed_only keyword line is (x0 ∷ x1 ∷ y0 ∷ y1 ∷ z0 ∷ z1 ∷ []) small = is (record { x0 = x0; x1 = x1; rect = record { y0 = y0; y1 = y1; z0 = z0; z1 = z1 } }) small
-fixed_only keyword line is _ small = tt
-
-gauge_only : (ns : List ℤ) → AllSmall ns → Each (IsTold (codes "gauge") (numbered ns)) (gauge_of ns >>= λ gauge. Some (gauge_line gauge))
-gauge_only (a ∷ b ∷ c ∷ d ∷ e ∷ f ∷ g ∷ h ∷ []) small = (small, refl, refl)
-gauge_only _ small = tt
-
-costs_only : (ns : List ℤ) → AllSmall ns → Each (IsTold (codes "cost") (numbered ns)) (costs_line_of ns)
-costs_only (a ∷ b ∷ c ∷ d ∷ e ∷ f ∷ []) small = (small, refl, refl)
-costs_only _ small = tt
-
-pieces_only : (ns : List ℤ) → AreNumbers 32 ns → Each (IsTold (codes "pieces") (numbered ns)) (pieces_line_of ns)
-pieces_only [] are = tt
-pieces_only (n ∷ ns) are = ((omega arith, are.0, are.1), refl, refl)
-
--- the line at a keyword among others
-by_key : (keyword code text : List ℕ) (x other : Option CertLine) → Each (IsTold code text) x → Each (IsTold keyword text) other → Each (IsTold keyword text) (if bytes_eq keyword code then x else other)
-by_key keyword code text x other here there = by_test (bytes_eq keyword code) refl
-  where
-    by_test : (b : Bool) → bytes_eq keyword code ≡ b → Each (IsTold keyword text) (if b then x else other)
-    by_test true e = subst (λ (w : List ℕ). Each (IsTold w text) x) (sym ((bytes_eq-Decides keyword code).0 e)) here
-    by_test false e = there
-
-stage_only : (keyword : List ℕ) (ns : List ℤ) → AreNumbers 32 ns → Each (IsTold keyword (numbered ns)) (stage_line_of keyword ns)
-unfolding stage_line_of
-stage_only keyword ns are = let text = numbered ns in
-    by_key keyword (codes "stage") text (pair ns >>= λ range. Some (stage_line range.0 range.1)) _ (two_only (codes "stage") (λ range. stage_line range.0 range.1) (λ m n small. (small, refl, refl)) ns are.1)
-    (by_key keyword (codes "box") text (rect_of ns >>= λ box. Some (box_line box)) _ (box_only ns are.1)
-    (by_key keyword (codes "pieces") text (pieces_line_of ns) _ (pieces_only ns are)
-    (by_key keyword (codes "load") text (pair ns >>= λ load. Some (load_line load.0 load.1)) None (two_only (codes "load") (λ load. load_line load.0 load.1) (λ m n small. (small, refl, refl)) ns are.1) tt)))
-
-rule_only : (keyword : List ℕ) (ns : List ℤ) → AreNumbers 32 ns → Each (IsTold keyword (numbered ns)) (rule_line_of keyword ns)
-unfolding rule_line_of
-rule_only keyword ns are = let text = numbered ns in
-    by_key keyword (codes "uncovered") text (single ns >>= λ n. Some (uncovered_line n)) _ (one_only (codes "uncovered") uncovered_line (λ n small. (small, refl, refl)) ns are.1)
-    (by_key keyword (codes "gauge") text (gauge_of ns >>= λ gauge. Some (gauge_line gauge)) _ (gauge_only ns are.1)
-    (by_key keyword (codes "cost") text (costs_line_of ns) _ (costs_only ns are.1)
-    (by_key keyword (codes "gang") text (single ns >>= λ n. Some (gang_line n)) _ (one_only (codes "gang") gang_line (λ n small. (small, refl, refl)) ns are.1)
-    (by_key keyword (codes "force") text (single ns >>= λ n. Some (force_line n)) _ (one_only (codes "force") force_line (λ n small. (small, refl, refl)) ns are.1)
-    (by_key keyword (codes "fine") text (single ns >>= λ n. Some (fine_line n)) _ (one_only (codes "fine") fine_line (λ n small. (small, refl, refl)) ns are.1) (stage_only keyword ns are))))))
-
-fixture_only : (keyword : List ℕ) (ns : List ℤ) → AreNumbers 32 ns → Each (IsTold keyword (numbered ns)) (fixture_line_of keyword ns)
-unfolding fixture_line_of
-fixture_only keyword ns are = let text = numbered ns in
-    by_key keyword (codes "bed") text (pair ns >>= λ bed. Some (bed_line bed)) _ (two_only (codes "bed") bed_line (λ m n small. (small, refl, refl)) ns are.1)
-    (by_key keyword (codes "frame") text (pair ns >>= λ frame. Some (frame_line frame)) _ (two_only (codes "frame") frame_line (λ m n small. (small, refl, refl)) ns are.1)
-    (by_key keyword (codes "upper") text (fixed_of ns >>= λ box. Some (upper_line box)) _ (fixed_only (codes "upper") upper_line (λ f small. (small, refl, refl)) ns are.1)
-    (by_key keyword (codes "lower") text (fixed_of ns >>= λ box. Some (lower_line box)) _ (fixed_only (codes "lower") lower_line (λ f small. (small, refl, refl)) ns are.1) (rule_only keyword ns are))))
-
-numbers_line_only : (keyword text : List ℕ) → Each (IsTold keyword text) (number_line_in keyword text)
-unfolding number_line_in
-numbers_line_only keyword text =
-    each_then (λ (ns : List ℤ). AreNumbers 32 ns × (text ≡ numbered ns)) (IsTold keyword text) (numbers_in 32 text) (λ ns. fixture_line_of keyword ns) (numbers_read.only text)
-    (λ ns is. subst (λ (t : List ℕ). Each (IsTold keyword t) (fixture_line_of keyword ns)) (sym is.1) (fixture_only keyword ns is.0))
-
-words_only : (keyword text : List ℕ) → Each (IsTold keyword text) (words_line_in keyword text)
-unfolding words_line_in
-words_only keyword text =
-    by_key keyword (codes "part") text (part_line_in text) _ (part_only text)
-    (by_key keyword (codes "face") text (face_line_in text) _ (face_only text)
-    (by_key keyword (codes "punch") text (punch_line_in text) _ (punch_only text)
-    (by_key keyword (codes "die") text (die_line_in text) (number_line_in keyword text) (die_only text) (numbers_line_only keyword text))))
+    by_test : (b : Bool) → bytes_eq keyword one.0 ≡ b → Each (IsTold keyword text) (by_form forms other keyword text) → Each (IsTold keyword text) (if b then one.1 text else by_form forms other keyword text)
+    by_test true e more = subst (λ (w : List ℕ). Each (IsTold w text) (one.1 text)) (sym ((bytes_eq-Decides keyword one.0).0 e)) (told.0 text)
+    by_test false e more = more
 
 line_only : (text : List ℕ) → Each (λ (line : CertLine). IsJobLine line × (text ≡ line_bytes line)) (line_in text)
-unfolding line_in
+unfolding line_in words_line_in number_line_in
 line_only text =
-    each_weaker (IsTold (keyword_in text) (behind_keyword text)) (λ (line : CertLine). IsJobLine line × (text ≡ line_bytes line)) (words_line_in (keyword_in text) (behind_keyword text)) (λ line is. (is.0, each_line text line is.1 is.2)) (words_only (keyword_in text) (behind_keyword text))
+    let keyword = keyword_in text in
+    let rest = behind_keyword text in
+    each_weaker (IsTold keyword rest) (λ (line : CertLine). IsJobLine line × (text ≡ line_bytes line)) (by_form word_forms number_line_in keyword rest) (λ line is. (is.0, each_line text line is.1 is.2))
+    (by_key keyword rest word_forms number_line_in word_forms_told (by_key keyword rest number_forms (λ keyword text. None) number_forms_told tt))
 
 -- what is written is read
-number_back : (keyword : List ℕ) (ns : List ℤ) (line : CertLine) → AreNumbers 32 ns → fixture_line_of keyword ns ≡ Some line → number_line_in keyword (numbered ns) ≡ Some line
-unfolding number_line_in
-number_back keyword ns line are is = ap (λ (o : Option (List ℤ)). o >>= λ m. fixture_line_of keyword m) (numbers_read.back ns are) ∙ is
-
-named_back : (name : List ℕ) (ns : List ℤ) (behind : List ℕ × List ℤ → Option CertLine) → is_name name ≡ true → AreNumbers 32 ns → (named_in (spelled (named_words (name, ns))) >>= behind) ≡ behind (name, ns)
-named_back name ns behind is are = ap (λ (o : Option (List ℕ × List ℤ)). o >>= behind) (named_reads.back (name, ns) (is, are))
+there : {A : Type 0} (line : A → CertLine) {o : Option A} {x : A} → o ≡ Some x → (o >>= λ y. Some (line y)) ≡ Some (line x)
+there {A} line is = ap (λ (o : Option A). o >>= λ y. Some (line y)) is
 
 pieces_back : (ps : List ℤ) → IsJobLine (pieces_line ps) → line_in (line_bytes (pieces_line ps)) ≡ Some (pieces_line ps)
-unfolding line_in words_line_in fixture_line_of rule_line_of stage_line_of
+unfolding line_in words_line_in number_line_in numbered
 pieces_back [] is = absurd (omega (arith, is.0))
-pieces_back (p ∷ ps) is = number_back (codes "pieces") (p ∷ ps) (pieces_line (p ∷ ps)) (is.1, is.2) refl
+pieces_back (p ∷ ps) is = ap (λ (o : Option (List ℤ)). (o >>= pieces_of) >>= λ x. Some (pieces_line x)) (numbers_read.back (p ∷ ps) (is.1, is.2))
 
 told_face_back : (f : FaceData) (joint : Option Joint) → f.joint ≡ joint → IsToldFace f joint → line_in (codes "face" ++ spelled (face_words f joint)) ≡ Some (face_line f)
 unfolding line_in words_line_in
-told_face_back f None has is = face_back f None has is
-told_face_back f (Some joint) has is = face_back f (Some joint) has is
+told_face_back f None has is = there face_line (face_back f None has is)
+told_face_back f (Some joint) has is = there face_line (face_back f (Some joint) has is)
 
 line_back : (line : CertLine) → IsJobLine line → line_in (line_bytes line) ≡ Some line
-unfolding line_in words_line_in fixture_line_of rule_line_of stage_line_of part_line_in punch_line_in die_line_in
-line_back (part_line m t r q) is = named_back m (t ∷ r ∷ q ∷ []) (λ named. triple named.1 >>= λ sizes. Some (part_line named.0 sizes.0 sizes.1 sizes.2)) is.0 (omega arith, is.1)
+unfolding line_in words_line_in number_line_in
+line_back (part_line m t r q) is = there (λ x. part_line x.0 x.1.0 x.1.1 x.1.2) (named_triple_read.back (m, (t, r, q)) (is.0, (omega arith, is.1)))
 line_back (face_line f) is = told_face_back f f.joint refl is
-line_back (bed_line b) is = number_back (codes "bed") (b.0 ∷ b.1 ∷ []) (bed_line b) (omega arith, is) refl
-line_back (frame_line b) is = number_back (codes "frame") (b.0 ∷ b.1 ∷ []) (frame_line b) (omega arith, is) refl
-line_back (upper_line f) is = number_back (codes "upper") (fixed_numbers f) (upper_line f) (omega arith, is) refl
-line_back (lower_line f) is = number_back (codes "lower") (fixed_numbers f) (lower_line f) (omega arith, is) refl
-line_back (uncovered_line n) is = number_back (codes "uncovered") (n ∷ []) (uncovered_line n) (omega arith, is) refl
-line_back (gauge_line g) is = number_back (codes "gauge") (gauge_numbers g) (gauge_line g) (omega arith, is) refl
-line_back (cost_line a b c d e f) is = number_back (codes "cost") (a ∷ b ∷ c ∷ d ∷ e ∷ f ∷ []) (cost_line a b c d e f) (omega arith, is) refl
-line_back (gang_line n) is = number_back (codes "gang") (n ∷ []) (gang_line n) (omega arith, is) refl
-line_back (force_line n) is = number_back (codes "force") (n ∷ []) (force_line n) (omega arith, is) refl
-line_back (fine_line n) is = number_back (codes "fine") (n ∷ []) (fine_line n) (omega arith, is) refl
-line_back (stage_line a b) is = number_back (codes "stage") (a ∷ b ∷ []) (stage_line a b) (omega arith, is) refl
-line_back (punch_line name h n) is = named_back name (h ∷ n ∷ []) (λ named. pair named.1 >>= λ sizes. Some (punch_line named.0 sizes.0 sizes.1)) is.0 (omega arith, is.1)
-line_back (die_line name h v l) is = named_back name (h ∷ v ∷ l ∷ []) (λ named. triple named.1 >>= λ sizes. Some (die_line named.0 sizes.0 sizes.1 sizes.2)) is.0 (omega arith, is.1)
-line_back (box_line r) is = number_back (codes "box") (r.y0 ∷ r.y1 ∷ r.z0 ∷ r.z1 ∷ []) (box_line r) (omega arith, is) refl
+line_back (bed_line b) is = there bed_line (pair_read.back b (omega arith, is))
+line_back (frame_line b) is = there frame_line (pair_read.back b (omega arith, is))
+line_back (upper_line f) is = there upper_line (fixed_read.back f (omega arith, is))
+line_back (lower_line f) is = there lower_line (fixed_read.back f (omega arith, is))
+line_back (uncovered_line n) is = there uncovered_line (one_read.back n (omega arith, is))
+line_back (gauge_line g) is = there gauge_line (gauge_read.back g (omega arith, is))
+line_back (cost_line a b c d e f) is = there cost_line_of (costs_read.back ((a, b), ((c, d), (e, f))) (omega arith, is))
+line_back (gang_line n) is = there gang_line (one_read.back n (omega arith, is))
+line_back (force_line n) is = there force_line (one_read.back n (omega arith, is))
+line_back (fine_line n) is = there fine_line (one_read.back n (omega arith, is))
+line_back (stage_line a b) is = there (λ x. stage_line x.0 x.1) (pair_read.back (a, b) (omega arith, is))
+line_back (punch_line name h n) is = there (λ x. punch_line x.0 x.1.0 x.1.1) (named_pair_read.back (name, (h, n)) (is.0, (omega arith, is.1)))
+line_back (die_line name h v l) is = there (λ x. die_line x.0 x.1.0 x.1.1 x.1.2) (named_triple_read.back (name, (h, v, l)) (is.0, (omega arith, is.1)))
+line_back (box_line r) is = there box_line (rect_read.back r (omega arith, is))
 line_back (pieces_line ps) is = pieces_back ps is
-line_back (load_line a b) is = number_back (codes "load") (a ∷ b ∷ []) (load_line a b) (omega arith, is) refl
+line_back (load_line a b) is = there (λ x. load_line x.0 x.1) (pair_read.back (a, b) (omega arith, is))
 line_back _ is = absurd is
 
 -- its words are plain

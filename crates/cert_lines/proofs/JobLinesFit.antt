@@ -1,8 +1,9 @@
 -- The lines of a valid job are job lines that can be told and read.
-use Rattle.std.proofs.Common.{ℕ, zero, suc, ◌==◌, ◌<◌, ◌≤◌, ℤ, pos, ◌+ℤ◌, ◌≤ℤ◌, Bool, true, false, List, [], ◌∷◌, ◌++◌, length, map, filter, cond, get_or, All, Option, Some, refl, sym, subst, arith}
+use Rattle.std.proofs.Common.{ℕ, zero, suc, ◌==◌, ◌<◌, ◌≤◌, ℤ, pos, ◌+ℤ◌, ◌≤ℤ◌, Bool, true, false, List, [], ◌∷◌, ◌++◌, length, map, filter, cond, get_or, All, Option, Some, rules, refl, sym, subst, arith}
 use Rattle.std.specs.Prelude.{if◌then◌else◌}
 use Rattle.std.specs.List.{flat_map, AllByRecursion}
 use Rattle.std.proofs.lemmas.Int.{ints}
+use Rattle.std.proofs.lemmas.List.{get_or_default}
 use Rattle.toml_fields.specs.Ranges.{IsWithin}
 use Rattle.brake_base.specs.declared.plane.Rect.{Rect}
 use Rattle.part_file.specs.declared.part.Side.{Side}
@@ -12,16 +13,14 @@ use Rattle.part_file.specs.Part.{FaceData, PartData, no_face, face_at, side_leng
 use Rattle.unfolder.specs.Extent.{IsNear}
 use Rattle.fold_boxes.proofs.PartBounds.{small_numbers}
 use Rattle.machine_file.specs.declared.machine.Fixed.{Fixed}
-use Rattle.machine_file.specs.declared.machine.GaugeRule.{GaugeRule}
-use Rattle.machine_file.specs.declared.machine.Costs.{Costs}
-use Rattle.machine_file.specs.Machine.{IsPiece, IsCosts}
+use Rattle.machine_file.specs.Machine.{IsPiece}
 use Rattle.job_setup.specs.Setup.{StageData, JobData, shape_of}
-use Rattle.job_setup.specs.Near.{IsNearBox, IsNearProfile, IsNearGauge, IsNearStage, HasNearTools}
+use Rattle.job_setup.specs.Near.{IsNearBox, IsNearProfile, IsNearStage, HasNearTools}
 use Rattle.job_setup.specs.ValidJob.{IsStage, IsJob}
 use Rattle.job_setup.proofs.Near.{setup_near}
 use Rattle.cert_lines.specs.declared.format.Format.{Format}
 use Rattle.cert_lines.specs.declared.format.Format.TheVariants.{Version1, Version2, Table}
-use Rattle.cert_lines.specs.Lines.{CertLine, face_line, frame_line, upper_line, lower_line, fine_line, box_line, pieces_line, load_line}
+use Rattle.cert_lines.specs.Lines.{CertLine, face_line, frame_line, upper_line, lower_line, gauge_line, fine_line, box_line, pieces_line, load_line}
 use Rattle.cert_lines.specs.JobText.{costs_line, gang_number, part_lines, fixture_lines, fine_lines, rule_lines, punch_lines, die_lines, stage_lines, job_lines}
 use Rattle.cert_lines.specs.Lines.{is_of_version1, lines_of_format}
 use Rattle.cert_lines.proofs.WordsRead.{IsSmall}
@@ -36,13 +35,9 @@ both [] ys one two = two
 both (x ∷ xs) ys one two = (one.0, both xs ys one.1 two)
 
 -- a line for each item
-by_index : {A : Type 0} (line : A → CertLine) (xs : List A) (d : A) → ((k : ℕ) → k < length xs → IsJobLine (line (get_or xs k d))) → AreJobLines (map line xs)
-by_index line [] d each = tt
-by_index line (x ∷ xs) d each = (each 0 (omega arith), by_index line xs d (λ k within. each (suc k) (omega arith)))
-
-by_all : {A : Type 0} (line : A → CertLine) (P : A → Type 0) → ((x : A) → P x → IsJobLine (line x)) → (xs : List A) → All P xs → AreJobLines (map line xs)
-by_all line P is [] all = tt
-by_all line P is (x ∷ xs) all = (is x (all 0 x (omega arith)), by_all line P is xs (λ k d within. all (suc k) d (omega arith)))
+of_each : {A : Type 0} (line : A → CertLine) (xs : List A) → All (λ x. IsJobLine (line x)) xs → AreJobLines (map line xs)
+of_each line [] each = tt
+of_each line (x ∷ xs) each = (each 0 x (omega arith), of_each line xs (λ k d within. each (suc k) d (omega arith)))
 
 -- numbers near 0, and between two that aren't below 0
 near_small : (z : ℤ) → IsNear z → IsSmall z
@@ -89,34 +84,25 @@ face_told faces few rules (suc b) within =
 part_told : (p : PartData) (q : ℤ) → IsPart p → IsSmall q → AreJobLines (part_lines p q)
 part_told p q is small = (
   (is.sheet.material, (literal 2 50000 p.thickness (omega arith) is.sheet.thickness.range, (literal 1 50000 p.radius (omega arith) is.sheet.radius, (small, tt)))),
-  by_index face_line p.faces no_face (λ k within. face_told p.faces is.few_faces is.each_face k within),
+  of_each face_line p.faces (λ k d within. subst (λ face. IsJobLine (face_line face)) (get_or_default p.faces k no_face d within) (face_told p.faces is.few_faces is.each_face k within)),
 )
 
 -- what is fixed on the machine
 fixed_small : (f : Fixed) → IsNearBox f → IsJobLine (upper_line f)
-fixed_small f near = (near_small f.x0 near.x0, (near_small f.x1 near.x1, (near_small f.rect.y0 near.y0, (near_small f.rect.y1 near.y1, (near_small f.rect.z0 near.z0, (near_small f.rect.z1 near.z1, tt))))))
+fixed_small f near = search (rules, near_small)
 
 fixtures_told : (job : JobData) → IsJob job → AreJobLines (fixture_lines job.setup)
 fixtures_told job valid =
     let s = job.setup in
     let near = setup_near job valid in
-    let frames = by_index frame_line s.frames (pos 0, pos 0) (λ k within. (near_small (get_or s.frames k (pos 0, pos 0)).0 (near.frames_from k (pos 0, pos 0) within), (near_small (get_or s.frames k (pos 0, pos 0)).1 (near.frames_to k (pos 0, pos 0) within), tt))) in
-    let upper = by_all upper_line IsNearBox fixed_small s.upper near.upper in
-    let lower = by_all lower_line IsNearBox fixed_small s.lower near.lower in
+    let frames = of_each frame_line s.frames (λ k d within. (near_small (get_or s.frames k d).0 (near.frames_from k d within), (near_small (get_or s.frames k d).1 (near.frames_to k d within), tt))) in
+    let upper = of_each upper_line s.upper (λ k d within. fixed_small (get_or s.upper k d) (near.upper k d within)) in
+    let lower = of_each lower_line s.lower (λ k d within. fixed_small (get_or s.lower k d) (near.lower k d within)) in
     ((near_small s.bed.0 near.bed_from, (near_small s.bed.1 near.bed_to, tt)), both (map frame_line s.frames ++ map upper_line s.upper) (map lower_line s.lower) (both (map frame_line s.frames) (map upper_line s.upper) frames upper) lower)
 
 -- the rules
-gauge_small : (g : GaugeRule) → IsNearGauge g → AllSmall (g.near ∷ g.far ∷ g.inset ∷ g.finger ∷ g.gap ∷ g.depth ∷ g.above ∷ g.below ∷ [])
-gauge_small g near = (
-  near_small g.near near.near,
-  (near_small g.far near.far, (near_small g.inset near.inset, (near_small g.finger near.finger, (near_small g.gap near.gap, (near_small g.depth near.depth, (near_small g.above near.above, (near_small g.below near.below, tt))))))),
-)
-
 short_cost : (n : ℕ) → n ≤ 1000000 → IsSmall (pos n)
 short_cost n few = omega (arith, few)
-
-costs_small : (c : Costs) → IsCosts c → IsJobLine (costs_line c)
-costs_small c is = (short_cost c.stroke is.stroke, (short_cost c.quarter is.quarter, (short_cost c.half is.half, (short_cost c.flip is.flip, (short_cost c.roll is.roll, (short_cost c.stage is.stage, tt))))))
 
 gang_small : (gang : Bool) → IsSmall (gang_number gang)
 gang_small true = omega arith
@@ -132,14 +118,17 @@ fine_told depth few = by_test (depth == 0)
 rules_told : (job : JobData) → IsJob job → AreJobLines (rule_lines job.setup)
 rules_told job valid =
     let s = job.setup in
-    let rules = valid.setup.rules in (
-      (literal 0 1000000 s.uncovered (omega arith) rules.uncovered, tt),
-      (gauge_small s.gauge (setup_near job valid).gauge, (costs_small s.cost rules.cost, ((gang_small s.gang, tt), ((literal 0 100000000 s.force (omega arith) rules.force, tt), fine_told s.fine rules.fine)))),
+    let near = (setup_near job valid).gauge in
+    let fit = valid.setup.rules in
+    let gauge : IsJobLine (gauge_line s.gauge) = search (rules, near_small) in
+    let costs : IsJobLine (costs_line s.cost) = search (rules, short_cost) in (
+      (literal 0 1000000 s.uncovered (omega arith) fit.uncovered, tt),
+      (gauge, (costs, ((gang_small s.gang, tt), ((literal 0 100000000 s.force (omega arith) fit.force, tt), fine_told s.fine fit.fine)))),
     )
 
 -- the stages
 box_small : (r : Rect) → IsNearProfile r → IsJobLine (box_line r)
-box_small r near = (near_small r.y0 near.y0, (near_small r.y1 near.y1, (near_small r.z0 near.z0, (near_small r.z1 near.z1, tt))))
+box_small r near = search (rules, near_small)
 
 pieces_small : (zs : List ℤ) → All IsPiece zs → AllSmall zs
 pieces_small [] all = tt
@@ -150,10 +139,10 @@ stage_told s is near tools =
     let sizes = is.punch.sizes in
     let die = is.die.sizes in
     let nose : IsSmall s.punch.nose = omega (arith, ints, sizes.height.top, sizes.nose.bottom, sizes.nose.top) in
-    let punch_is : AreJobLines (punch_lines s.punch) = ((is.punch.name, (literal 1 1000000 s.punch.height (omega arith) sizes.height, (nose, tt))), by_all box_line IsNearProfile box_small s.punch.body tools.punch) in
+    let punch_is : AreJobLines (punch_lines s.punch) = ((is.punch.name, (literal 1 1000000 s.punch.height (omega arith) sizes.height, (nose, tt))), of_each box_line s.punch.body (λ k d within. box_small (get_or s.punch.body k d) (tools.punch k d within))) in
     let die_is : AreJobLines (die_lines s.die) = (
       (is.die.name, (literal 1 1000000 s.die.height (omega arith) die.height, (literal 2 1000000 s.die.v (omega arith) die.v.range, (literal 0 1000000 s.die.least_flange (omega arith) die.least_flange, tt)))),
-      by_all box_line IsNearProfile box_small s.die.body tools.die,
+      of_each box_line s.die.body (λ k d within. box_small (get_or s.die.body k d) (tools.die k d within)),
     ) in
     let load_is : AreJobLines (pieces_line s.pieces ∷ load_line s.load s.limit ∷ []) = (
       (is.some_piece, is.few_pieces, pieces_small s.pieces is.pieces),
@@ -180,16 +169,13 @@ job_told job valid =
     both ((p ++ f) ++ r) (flat_map stage_lines job.setup.stages) (both (p ++ f) r (both p f (part_told job.part job.q valid.part small) (fixtures_told job valid)) (rules_told job valid)) (stages_told job.setup.stages valid.setup.stages.each near.stages near.tools)
 
 -- those of the lines that a format has
+kept : (b : Bool) (line : CertLine) (lines : List CertLine) → IsJobLine line → AreJobLines lines → AreJobLines (cond b (line ∷ lines) lines)
+kept true line lines one more = (one, more)
+kept false line lines one more = more
+
 pub told_of_format : (format : Format) (lines : List CertLine) → AreJobLines lines → AreJobLines (lines_of_format format lines)
-told_of_format Version1 lines are = old lines are
-  where
-    old : (lines : List CertLine) → AreJobLines lines → AreJobLines (filter is_of_version1 lines)
-    old [] are = tt
-    old (line ∷ lines) are = by_test (is_of_version1 line) (old lines are.1)
-      where
-        by_test : (b : Bool) → AreJobLines (filter is_of_version1 lines) → AreJobLines (cond b (line ∷ filter is_of_version1 lines) (filter is_of_version1 lines))
-        by_test true more = (are.0, more)
-        by_test false more = more
+told_of_format Version1 [] are = tt
+told_of_format Version1 (line ∷ lines) are = kept (is_of_version1 line) line (filter is_of_version1 lines) are.0 (told_of_format Version1 lines are.1)
 told_of_format Version2 lines are = are
 told_of_format Table lines are = are
 

@@ -55,6 +55,4 @@ job_written job part q setup stages a b c d e part_is q_is setup_is are first se
     joined a (lines_text (part_lines part q)) (lines_text (fixture_lines setup)) (lines_text (rule_lines setup)) (lines_text (flat_map stage_lines setup.stages)) b c d e
     first second third (fourth ∙ ap (λ (t : List ℕ). d ++ t) all)
     ∙ ap (λ (t : List ℕ). a ++ t) (sym (four (part_lines part q) (fixture_lines setup) (rule_lines setup) (flat_map stage_lines setup.stages)))
-    ∙ ap (λ (p : PartData). a ++ lines_text (part_lines p q ++ fixture_lines setup ++ rule_lines setup ++ flat_map stage_lines setup.stages)) part_is
-    ∙ ap (λ (n : ℤ). a ++ lines_text (part_lines job.part n ++ fixture_lines setup ++ rule_lines setup ++ flat_map stage_lines setup.stages)) q_is
-    ∙ ap (λ (s : SetupData). a ++ lines_text (part_lines job.part job.q ++ fixture_lines s ++ rule_lines s ++ flat_map stage_lines s.stages)) setup_is
+    ∙ λ i. a ++ job_text (record { part = part_is i; q = q_is i; setup = setup_is i })

@@ -7,7 +7,6 @@ pub mod Readers
 pub mod FormatLines
 pub mod Naturals
 pub mod FoldShown
-pub mod FoldWritten
 pub mod FoldFormats
 pub mod WordsRead
 pub mod TextLines

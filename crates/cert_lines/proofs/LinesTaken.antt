@@ -10,11 +10,6 @@ use Rattle.cert_lines.proofs.Readers.{ReadsLines}
 abbrev pub Leads : {T : Type 0} → (CertLine → Option T) → List ℕ → T → Type 0
 Leads take text t = (line : CertLine) × (text ≡ line_bytes line) × (take line ≡ Some t)
 
--- what is nothing of any numbers is nothing
-pub no_numbers : {A B : Type 0} (x : Option A) (of : A → Option B) → ((a : A) → of a ≡ None) → (x >>= of) ≡ None
-no_numbers None of none = refl
-no_numbers (Some a) of none = none a
-
 -- what is written is taken as the line is
 pub taken_written : {T : Type 0} {Fits : CertLine → Type 0} {read : List ℕ → Option CertLine} → ReadsLines Fits read → (take : CertLine → Option T) (line : CertLine) → Fits line → (read (line_bytes line) >>= take) ≡ take line
 taken_written reads take line is = ap (λ (o : Option CertLine). o >>= take) (reads.back line is)

@@ -1,34 +1,21 @@
 -- Costs, gangs and depths are numbers that are kept in another form.
-use Rattle.std.proofs.Common.{◌≡◌, ℕ, ◌==◌, ◌≤◌, ℤ, pos, negsuc, Bool, true, false, Some, None, refl, sym, arith}
+use Rattle.std.proofs.Common.{◌≡◌, ℕ, ◌==◌, ◌≤◌, ◌≤ℤ◌, ℤ, pos, Bool, true, false, Some, None, refl, arith}
 use Rattle.std.specs.Prelude.{if◌then◌else◌, int_le, unsigned_abs}
 use Rattle.std.specs.Ordering.{int_eq}
-use Rattle.std.proofs.lemmas.Bool.{false≢true}
 use Rattle.std.proofs.lemmas.Bool.Decides.{Decides-int_eq}
 use Rattle.std.proofs.lemmas.Grind.{common_steps}
 use Rattle.std.proofs.lemmas.Int.{ints}
-use Rattle.toml_fields.specs.Ranges.{IsWithin, is_within}
-use Rattle.toml_fields.proofs.Decided.{within_decided}
+use Rattle.toml_fields.specs.Ranges.{is_within}
+use Rattle.toml_fields.proofs.Decided.{at_most_decided, within_decided}
 use Rattle.machine_file.specs.declared.machine.Costs.{Costs}
 use Rattle.cert_words.specs.LineWords.{◌>>=◌}
 use Rattle.cert_words.specs.JobWords.{natural, naturals, costs_of, gang_of, fine_of}
 use Rattle.cert_lines.specs.Lines.{cost_line}
 use Rattle.cert_lines.specs.JobText.{costs_line, gang_number}
-use Rattle.cert_lines.proofs.Each.{Each, each_then}
+use Rattle.cert_lines.proofs.Each.{Each, each_then, each_if}
 
 natural_is : (z : ℤ) → Each (λ n. z ≡ pos n) (natural z)
-natural_is (pos n) = by_test (int_le (pos 0) (pos n))
-  where
-    by_test : (b : Bool) → Each (λ m. pos n ≡ pos m) (if b then Some (unsigned_abs (pos n)) else None)
-    by_test true = refl
-    by_test false = tt
-natural_is (negsuc n) = by_test (int_le (pos 0) (negsuc n)) none
-  where
-    none : int_le (pos 0) (negsuc n) ≡ false
-    none = grind (arith, ints, common_steps)
-
-    by_test : (b : Bool) → b ≡ false → Each (λ m. negsuc n ≡ pos m) (if b then Some (unsigned_abs (negsuc n)) else None)
-    by_test true e = absurd (false≢true (sym e))
-    by_test false e = tt
+natural_is z = each_if (λ n. z ≡ pos n) (int_le (pos 0) z) (Some (unsigned_abs z)) None (λ t. omega (arith, ints, (at_most_decided (pos 0) z).0 t)) (λ f. tt)
 
 naturals_are : (pair : ℤ × ℤ) → Each (λ (n : ℕ × ℕ). (pair.0 ≡ pos n.0) × (pair.1 ≡ pos n.1)) (naturals pair)
 unfolding naturals
@@ -49,33 +36,21 @@ costs_are a b c d e f =
     (λ r three i. cost_line (one.0 i) (one.1 i) (two.0 i) (two.1 i) (three.0 i) (three.1 i))))
 
 pub gang_is : (n : ℤ) → Each (λ gang. n ≡ gang_number gang) (gang_of n)
-gang_is n = by_tests (int_eq n (pos 0)) (int_eq n (pos 1)) refl refl
-  where
-    by_tests : (is_zero is_one : Bool) → int_eq n (pos 0) ≡ is_zero → int_eq n (pos 1) ≡ is_one → Each (λ gang. n ≡ gang_number gang) (if is_zero then Some false else if is_one then Some true else None)
-    by_tests true is_one e f = (Decides-int_eq n (pos 0)).0 e
-    by_tests false true e f = (Decides-int_eq n (pos 1)).0 f
-    by_tests false false e f = tt
+gang_is n =
+    let Is : Bool → Type 0 = λ gang. n ≡ gang_number gang in
+    each_if Is (int_eq n (pos 0)) (Some false) (if int_eq n (pos 1) then Some true else None) (λ t. (Decides-int_eq n (pos 0)).0 t)
+    (λ f. each_if Is (int_eq n (pos 1)) (Some true) None (λ t. (Decides-int_eq n (pos 1)).0 t) (λ f. tt))
 
 not_zero : (m : ℕ) → 1 ≤ m → (m == 0) ≡ false
 not_zero m some = grind (arith, common_steps)
 
 pub fine_is : (n : ℤ) → Each (λ depth. ((depth == 0) ≡ false) × (n ≡ pos depth)) (fine_of n)
-fine_is (pos m) = by_test (is_within (pos 1) (pos 12) (pos m)) refl
-  where
-    some : IsWithin (pos 1) (pos 12) (pos m) → (m == 0) ≡ false
-    some h = not_zero m (omega (arith, ints, h.bottom))
-
-    by_test : (b : Bool) → is_within (pos 1) (pos 12) (pos m) ≡ b → Each (λ depth. ((depth == 0) ≡ false) × (pos m ≡ pos depth)) (if b then Some m else None)
-    by_test true e = (some ((within_decided (pos 1) (pos 12) (pos m)).0 e), refl)
-    by_test false e = tt
-fine_is (negsuc m) = by_test (is_within (pos 1) (pos 12) (negsuc m)) refl
-  where
-    none : IsWithin (pos 1) (pos 12) (negsuc m) → ⊥
-    none h = omega (arith, ints, h.bottom)
-
-    by_test : (b : Bool) → is_within (pos 1) (pos 12) (negsuc m) ≡ b → Each (λ depth. ((depth == 0) ≡ false) × (negsuc m ≡ pos depth)) (if b then Some (unsigned_abs (negsuc m)) else None)
-    by_test true e = absurd (none ((within_decided (pos 1) (pos 12) (negsuc m)).0 e))
-    by_test false e = tt
+fine_is n =
+    each_if (λ depth. ((depth == 0) ≡ false) × (n ≡ pos depth)) (is_within (pos 1) (pos 12) n) (Some (unsigned_abs n)) None
+    (λ t.
+    let low : pos 1 ≤ℤ n = ((within_decided (pos 1) (pos 12) n).0 t).bottom in
+    (not_zero (unsigned_abs n) (omega (arith, ints, low)), omega (arith, ints, low)))
+    (λ f. tt)
 
 -- and the other way round
 natural_back : (n : ℕ) → natural (pos n) ≡ Some n

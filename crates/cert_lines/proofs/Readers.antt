@@ -106,6 +106,18 @@ then_reads {A} {B} {P} {Q} {v} {w} {f} {g} one two = record {
     Both : List ℕ → A × B → Type 0
     Both text x = (P x.0 × Q x.1) × (text ≡ spelled (v x.0 ++ w x.1))
 
+-- what is read, made into something else, which another function undoes
+pub made_reads : {A B : Type 0} {P : A → Type 0} {v : A → List (List ℕ)} {f : List ℕ → Option A} (make : A → Option B) (from : B → A) → ((b : B) → make (from b) ≡ Some b) → ((a : A) → Each (λ b. a ≡ from b) (make a)) → ReadsAll P v f
+    → ReadsAll (λ b. P (from b)) (λ b. v (from b)) (λ text. f text >>= make)
+made_reads {A} {B} {P} {v} {f} make from same undone one = record {
+  back = λ b fits. ap (λ (o : Option A). o >>= make) (one.back (from b) fits) ∙ same b;
+  only = λ text.
+      let Is : B → Type 0 = λ b. P (from b) × (text ≡ spelled (v (from b))) in
+      each_then (λ (a : A). P a × (text ≡ spelled (v a))) Is (f text) make (one.only text)
+      (λ a is. each_weaker (λ b. a ≡ from b) Is (make a) (λ b e. subst (λ (x : A). P x × (text ≡ spelled (v x))) e is) (undone a));
+  plain = λ b fits. one.plain (from b) fits;
+}
+
 -- a word by its spelling
 one_word : (word rest : List ℕ) → spelled (word ∷ []) ++ rest ≡ spaced word ++ rest
 one_word word rest = ap (λ (t : List ℕ). t ++ rest) (append-nil (spaced word))

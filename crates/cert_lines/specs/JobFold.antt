@@ -6,7 +6,7 @@ use Rattle.part_file.specs.declared.part.Joint.{Joint}
 use Rattle.part_file.specs.Bounds.{most_faces}
 use Rattle.machine_file.specs.Bounds.{most_frames, most_fixed_boxes, most_stages}
 use Rattle.tool_library.specs.Bounds.{most_body_boxes}
-use Rattle.job_setup.specs.Setup.{StageData, SetupData}
+use Rattle.job_setup.specs.Setup.{StageData}
 use Rattle.cert_lines.specs.declared.format.Format.{Format}
 use Rattle.cert_lines.specs.declared.format.Format.TheVariants.{Version1}
 use Rattle.cert_lines.specs.declared.job_section.JobSection.{JobSection}
@@ -63,10 +63,6 @@ abbrev pub body_of : JobSection → StageData → List Rect
 body_of sections.Punch stage = stage.punch.body
 body_of _ stage = stage.die.body
 
--- there is room for another stage
-abbrev pub has_room_for_stage : JobLinesData → Bool
-has_room_for_stage s = nat_lt (length s.setup.stages) most_stages
-
 -- the values so far have room for what a line says: the bed stands behind a face, frames stand
 -- before the fixed boxes, and those above the bed before those of it
 unfoldable pub has_room : JobLinesData → CertLine → Bool
@@ -80,9 +76,9 @@ has_room s (upper_line box) =
     nat_lt (length s.setup.upper) most_fixed_boxes && (length s.setup.lower == 0)
 has_room s (lower_line box) = nat_lt (length s.setup.lower) most_fixed_boxes
 has_room s (box_line box) = nat_lt (length (body_of s.section s.stage)) most_body_boxes
-has_room s (stage_line x0 x1) = has_room_for_stage s
-has_room s (pieces_line pieces) = has_room_for_stage s
-has_room s (load_line load limit) = has_room_for_stage s
+has_room s (stage_line x0 x1) = nat_lt (length s.setup.stages) most_stages
+has_room s (pieces_line pieces) = nat_lt (length s.setup.stages) most_stages
+has_room s (load_line load limit) = nat_lt (length s.setup.stages) most_stages
 has_room s _ = true
 
 -- the stage with one more box of the tool whose lines are read
@@ -92,70 +88,86 @@ with_box sections.Punch stage box =
 with_box _ stage box =
     record stage { die = record stage.die { body = stage.die.body ++ box ∷ [] } }
 
--- the job lines in a section, with this setup
-abbrev pub in_setup : JobLinesData → JobSection → SetupData → JobLinesData
-in_setup s to setup = record s { section = to; setup = setup }
-
--- the job lines in a section, with this stage
-abbrev pub in_stage : JobLinesData → JobSection → StageData → JobLinesData
-in_stage s to stage = record s { section = to; stage = stage }
-
--- what a line adds; a cost below 0, a gang but 0 and 1 and a depth but 1 to 12 make no job
-unfoldable pub added : JobLinesData → CertLine → JobLinesData
-added s (part_line material thickness radius q) =
-    record s { section = sections.Part; part = begun_part material thickness radius; q = q }
-added s (face_line face) =
+-- the values with what a line says; a cost below 0, a gang but 0 and 1 and a depth but 1 to 12 make
+-- no job
+unfoldable pub with_values : JobLinesData → CertLine → JobLinesData
+with_values s (part_line material thickness radius q) =
+    record s { part = begun_part material thickness radius; q = q }
+with_values s (face_line face) =
     record s { part = record s.part { faces = s.part.faces ++ face ∷ [] } }
-added s (bed_line bed) = in_setup s sections.Fixtures (begun_setup bed)
-added s (frame_line frame) =
+with_values s (bed_line bed) = record s { setup = begun_setup bed }
+with_values s (frame_line frame) =
     record s { setup = record s.setup { frames = s.setup.frames ++ frame ∷ [] } }
-added s (upper_line box) =
+with_values s (upper_line box) =
     record s { setup = record s.setup { upper = s.setup.upper ++ box ∷ [] } }
-added s (lower_line box) =
+with_values s (lower_line box) =
     record s { setup = record s.setup { lower = s.setup.lower ++ box ∷ [] } }
-added s (uncovered_line n) = in_setup s sections.Uncovered (record s.setup { uncovered = n })
-added s (gauge_line rule) = in_setup s sections.Gauge (record s.setup { gauge = rule })
-added s (cost_line stroke quarter half flip roll stage) =
+with_values s (uncovered_line n) = record s { setup = record s.setup { uncovered = n } }
+with_values s (gauge_line rule) = record s { setup = record s.setup { gauge = rule } }
+with_values s (cost_line stroke quarter half flip roll stage) =
     let costs = costs_of ((stroke, quarter), ((half, flip), (roll, stage))) in
-    record (in_setup s sections.Costs (record s.setup { cost = unwrap_or costs s.setup.cost })) {
+    record s {
+      setup = record s.setup { cost = unwrap_or costs s.setup.cost };
       is_sound = is_some costs && s.is_sound;
     }
-added s (gang_line n) =
+with_values s (gang_line n) =
     let gang = unwrap_or (gang_of n) s.setup.gang in
-    record (in_setup s sections.Gang (record s.setup { gang = gang })) {
+    record s {
+      setup = record s.setup { gang = gang };
       is_sound = is_some (gang_of n) && s.is_sound;
     }
-added s (force_line n) = in_setup s sections.Rules (record s.setup { force = n })
-added s (fine_line n) =
+with_values s (force_line n) = record s { setup = record s.setup { force = n } }
+with_values s (fine_line n) =
     let fine = unwrap_or (fine_of n) s.setup.fine in
-    record (in_setup s sections.Stages (record s.setup { fine = fine })) {
+    record s {
+      setup = record s.setup { fine = fine };
       is_sound = is_some (fine_of n) && s.is_sound;
     }
-added s (stage_line x0 x1) = in_stage s sections.Stage (begun_stage x0 x1)
-added s (punch_line name height nose) =
-    in_stage s sections.Punch (record s.stage { punch = begun_punch name height nose })
-added s (die_line name height v least_flange) =
-    in_stage s sections.Die (record s.stage { die = begun_die name height v least_flange })
-added s (box_line box) = record s { stage = with_box s.section s.stage box }
-added s (pieces_line pieces) = in_stage s sections.Pieces (record s.stage { pieces = pieces })
-added s (load_line load limit) =
+with_values s (stage_line x0 x1) = record s { stage = begun_stage x0 x1 }
+with_values s (punch_line name height nose) =
+    record s { stage = record s.stage { punch = begun_punch name height nose } }
+with_values s (die_line name height v least_flange) =
+    record s { stage = record s.stage { die = begun_die name height v least_flange } }
+with_values s (box_line box) = record s { stage = with_box s.section s.stage box }
+with_values s (pieces_line pieces) = record s { stage = record s.stage { pieces = pieces } }
+with_values s (load_line load limit) =
     let stage = record s.stage { load = load; limit = limit } in
-    record (in_setup s sections.Stages (record s.setup { stages = s.setup.stages ++ stage ∷ [] })) {
+    record s {
+      setup = record s.setup { stages = s.setup.stages ++ stage ∷ [] };
       stage = begun_stage (pos 0) (pos 0);
     }
-added s _ = s
+with_values s _ = s
 
--- the job lines with one more line of version 2, where it may stand there
-unfoldable pub take_full : JobLinesData → CertLine → Option JobLinesData
-take_full s line = only_if (admits s.section line && has_room s line) (Some (added s line))
+-- the section that a line leads to
+abbrev pub section_behind : JobSection → CertLine → JobSection
+section_behind at (part_line material thickness radius q) = sections.Part
+section_behind at (bed_line bed) = sections.Fixtures
+section_behind at (uncovered_line n) = sections.Uncovered
+section_behind at (gauge_line rule) = sections.Gauge
+section_behind at (cost_line stroke quarter half flip roll stage) = sections.Costs
+section_behind at (gang_line n) = sections.Gang
+section_behind at (force_line n) = sections.Rules
+section_behind at (fine_line n) = sections.Stages
+section_behind at (stage_line x0 x1) = sections.Stage
+section_behind at (punch_line name height nose) = sections.Punch
+section_behind at (die_line name height v least_flange) = sections.Die
+section_behind at (pieces_line pieces) = sections.Pieces
+section_behind at (load_line load limit) = sections.Stages
+section_behind at _ = at
 
--- the lines of version 2 for which a line stands: version 1 doesn't say that there are no gangs, no
--- force and no load
-abbrev pub full_lines : CertLine → Format → List CertLine
-full_lines (cost_line stroke quarter half flip roll stage) Version1 =
-    cost_line stroke quarter half flip roll stage ∷ gang_line (pos 0) ∷ force_line (pos 0) ∷ []
-full_lines (pieces_line pieces) Version1 = pieces_line pieces ∷ load_line (pos 0) (pos 0) ∷ []
-full_lines line _ = line ∷ []
+-- what a line adds: what it says, and its section
+abbrev pub added : JobLinesData → CertLine → JobLinesData
+added s line = record (with_values s line) { section = section_behind s.section line }
+
+-- what a line adds in a format: of its costs version 1 leaves out that there are no gangs and no
+-- force, and of its pieces that there is no load
+abbrev pub added_in : Format → JobLinesData → CertLine → JobLinesData
+added_in Version1 s (cost_line stroke quarter half flip roll stage) =
+    added (added (added s (cost_line stroke quarter half flip roll stage)) (gang_line (pos 0)))
+    (force_line (pos 0))
+added_in Version1 s (pieces_line pieces) =
+    added (added s (pieces_line pieces)) (load_line (pos 0) (pos 0))
+added_in _ s line = added s line
 
 -- the lines that a format has
 abbrev pub has_line : Format → CertLine → Bool
@@ -168,10 +180,11 @@ abbrev pub all_by : (JobLinesData → CertLine → Option JobLinesData) → JobL
 all_by rule s [] = Some s
 all_by rule s (line ∷ lines) = rule s line >>= λ taken. all_by rule taken lines
 
--- the job lines with one more line, where it may stand there
+-- the job lines with one more line, where the format has it, it may stand there and there is room
 unfoldable pub take : JobLinesData → CertLine → Option JobLinesData
 take s line =
-    only_if (has_line s.format line) (all_by take_full s (full_lines line s.format))
+    only_if (has_line s.format line && (admits s.section line && has_room s line))
+    (Some (added_in s.format s line))
 
 -- the job lines with one more line, where it is a job line that may stand there
 unfoldable pub take_line : JobLinesData → List ℕ → Option JobLinesData

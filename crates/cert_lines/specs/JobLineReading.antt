@@ -17,29 +17,35 @@ use Rattle.cert_lines.specs.Lines.{force_line, fine_line, stage_line, punch_line
 use Rattle.cert_lines.specs.Lines.{pieces_line, load_line}
 use Rattle.cert_lines.specs.LineReading.{keyword_in, behind_keyword}
 
+-- six costs, in three pairs
+abbrev pub CostNumbers : Type 0
+CostNumbers = (ℤ × ℤ) × ((ℤ × ℤ) × (ℤ × ℤ))
+
+abbrev pub cost_line_of : CostNumbers → CertLine
+cost_line_of n = cost_line n.0.0 n.0.1 n.1.0.0 n.1.0.1 n.1.1.0 n.1.1.1
+
 -- a job line as a line of a certificate
 abbrev pub line_of : JobLine → CertLine
 line_of (lines.Part material thickness radius q) = part_line material.bytes thickness radius q
 line_of (lines.Face face) = face_line (face_data face)
-line_of (lines.Bed from to) = bed_line (from, to)
-line_of (lines.Frame from to) = frame_line (from, to)
+line_of (lines.Bed bed) = bed_line bed
+line_of (lines.Frame frame) = frame_line frame
 line_of (lines.Upper box) = upper_line box
 line_of (lines.Lower box) = lower_line box
 line_of (lines.Uncovered uncovered) = uncovered_line uncovered
 line_of (lines.Gauge gauge) = gauge_line gauge
-line_of (lines.Cost stroke quarter half flip roll stage) =
-    cost_line stroke quarter half flip roll stage
+line_of (lines.Cost costs) = cost_line_of costs
 line_of (lines.Gang gang) = gang_line gang
 line_of (lines.Force force) = force_line force
 line_of (lines.Fine depth) = fine_line depth
-line_of (lines.Stage x0 x1) = stage_line x0 x1
+line_of (lines.Stage range) = stage_line range.0 range.1
 line_of (lines.Punch name height nose) = punch_line name.bytes height nose
 line_of (lines.Die name height v least_flange) = die_line name.bytes height v least_flange
 line_of (lines.Box box) = box_line box
 line_of (lines.Pieces pieces) = pieces_line pieces.items
-line_of (lines.Load load limit) = load_line load limit
+line_of (lines.Load load) = load_line load.0 load.1
 
--- the numbers, where there are just so many
+-- what numbers are, where there are just so many
 abbrev pub single : List ℤ → Option ℤ
 single (n ∷ []) = Some n
 single _ = None
@@ -76,99 +82,88 @@ gauge_of (near ∷ far ∷ inset ∷ finger ∷ gap ∷ depth ∷ above ∷ belo
     })
 gauge_of _ = None
 
-abbrev pub costs_line_of : List ℤ → Option CertLine
-costs_line_of (stroke ∷ quarter ∷ half ∷ flip ∷ roll ∷ stage ∷ []) =
-    Some (cost_line stroke quarter half flip roll stage)
-costs_line_of _ = None
+abbrev pub cost_numbers : List ℤ → Option CostNumbers
+cost_numbers (stroke ∷ quarter ∷ half ∷ flip ∷ roll ∷ stage ∷ []) =
+    Some ((stroke, quarter), ((half, flip), (roll, stage)))
+cost_numbers _ = None
 
 -- 1 to 32 pieces, since no line has more numbers
-abbrev pub pieces_line_of : List ℤ → Option CertLine
-pieces_line_of [] = None
-pieces_line_of pieces = Some (pieces_line pieces)
+abbrev pub pieces_of : List ℤ → Option (List ℤ)
+pieces_of [] = None
+pieces_of pieces = Some pieces
 
--- the line of a stage's part by its keyword and its numbers
-unfoldable pub stage_line_of : List ℕ → List ℤ → Option CertLine
-stage_line_of keyword numbers = if bytes_eq keyword (codes "stage")
-    then (pair numbers >>= λ range. Some (stage_line range.0 range.1))
-    else if bytes_eq keyword (codes "box") then (rect_of numbers >>= λ box. Some (box_line box))
-    else if bytes_eq keyword (codes "pieces") then pieces_line_of numbers
-    else if bytes_eq keyword (codes "load")
-    then (pair numbers >>= λ load. Some (load_line load.0 load.1))
-    else None
+-- what numbers alone are
+unfoldable pub numbered : {A : Type 0} → (List ℤ → Option A) → List ℕ → Option A
+numbered read text = numbers_in 32 text >>= read
 
--- the line of one of the machine's rules, or of a stage's part
-unfoldable pub rule_line_of : List ℕ → List ℤ → Option CertLine
-rule_line_of keyword numbers = if bytes_eq keyword (codes "uncovered")
-    then (single numbers >>= λ uncovered. Some (uncovered_line uncovered))
-    else if bytes_eq keyword (codes "gauge")
-    then (gauge_of numbers >>= λ gauge. Some (gauge_line gauge))
-    else if bytes_eq keyword (codes "cost") then costs_line_of numbers
-    else if bytes_eq keyword (codes "gang") then (single numbers >>= λ gang. Some (gang_line gang))
-    else if bytes_eq keyword (codes "force")
-    then (single numbers >>= λ force. Some (force_line force))
-    else if bytes_eq keyword (codes "fine")
-    then (single numbers >>= λ depth. Some (fine_line depth))
-    else stage_line_of keyword numbers
-
--- the line of what is fixed on the machine, or of one of the rules
-unfoldable pub fixture_line_of : List ℕ → List ℤ → Option CertLine
-fixture_line_of keyword numbers = if bytes_eq keyword (codes "bed")
-    then (pair numbers >>= λ bed. Some (bed_line bed))
-    else if bytes_eq keyword (codes "frame")
-    then (pair numbers >>= λ frame. Some (frame_line frame))
-    else if bytes_eq keyword (codes "upper")
-    then (fixed_of numbers >>= λ box. Some (upper_line box))
-    else if bytes_eq keyword (codes "lower")
-    then (fixed_of numbers >>= λ box. Some (lower_line box))
-    else rule_line_of keyword numbers
-
--- the sheet: its material, its thickness and its radius, and the half deduction
-unfoldable pub part_line_in : List ℕ → Option CertLine
-part_line_in text = do
-  named ← named_in text
-  sizes ← triple named.1
-  Some (part_line named.0 sizes.0 sizes.1 sizes.2)
-
--- a punch: its name, its height and the size of its nose
-unfoldable pub punch_line_in : List ℕ → Option CertLine
-punch_line_in text = do
-  named ← named_in text
-  sizes ← pair named.1
-  Some (punch_line named.0 sizes.0 sizes.1)
-
--- a die: its name, its height and its opening, and the shortest flange
-unfoldable pub die_line_in : List ℕ → Option CertLine
-die_line_in text = do
-  named ← named_in text
-  sizes ← triple named.1
-  Some (die_line named.0 sizes.0 sizes.1 sizes.2)
+-- a name, and what the numbers behind it are
+unfoldable pub named : {A : Type 0} → (List ℤ → Option A) → List ℕ → Option (List ℕ × A)
+named read text = do
+  words ← named_in text
+  sizes ← read words.1
+  Some (words.0, sizes)
 
 -- face 0: its name and its sizes
+abbrev pub root_of : List ℕ × (ℤ × ℤ) → FaceData
+root_of x = record { name = x.0; width = x.1.0; length = x.1.1; joint = None }
+
 unfoldable pub root_in : List ℕ → Option FaceData
-root_in text = do
-  named ← named_in text
-  sizes ← pair named.1
-  Some (record { name = named.0; width = sizes.0; length = sizes.1; joint = None })
+root_in text = named pair text >>= λ root. Some (root_of root)
 
 -- a face: face 0, or one that stands on a face of the numbers that a part may have
-unfoldable pub face_line_in : List ℕ → Option CertLine
-face_line_in text = do
-  face ← option_or (root_in text) (child_in most_faces text)
-  Some (face_line face)
+unfoldable pub face_in : List ℕ → Option FaceData
+face_in text = option_or (root_in text) (child_in most_faces text)
 
--- a line of numbers alone
+-- a kind of job line: its keyword, and the line of the text behind it
+abbrev pub Form : Type 0
+Form = List ℕ × (List ℕ → Option CertLine)
+
+-- a keyword, what is read behind it, and the line of that
+abbrev pub form : {A : Type 0} → List ℕ → (List ℕ → Option A) → (A → CertLine) → Form
+form keyword read line = (keyword, λ text. read text >>= λ x. Some (line x))
+
+-- the kinds of job line that have numbers alone
+abbrev pub number_forms : List Form
+number_forms =
+    form (codes "bed") (numbered pair) bed_line
+    ∷ form (codes "frame") (numbered pair) frame_line
+    ∷ form (codes "upper") (numbered fixed_of) upper_line
+    ∷ form (codes "lower") (numbered fixed_of) lower_line
+    ∷ form (codes "uncovered") (numbered single) uncovered_line
+    ∷ form (codes "gauge") (numbered gauge_of) gauge_line
+    ∷ form (codes "cost") (numbered cost_numbers) cost_line_of
+    ∷ form (codes "gang") (numbered single) gang_line
+    ∷ form (codes "force") (numbered single) force_line
+    ∷ form (codes "fine") (numbered single) fine_line
+    ∷ form (codes "stage") (numbered pair) (λ x. stage_line x.0 x.1)
+    ∷ form (codes "box") (numbered rect_of) box_line
+    ∷ form (codes "pieces") (numbered pieces_of) pieces_line
+    ∷ form (codes "load") (numbered pair) (λ x. load_line x.0 x.1)
+    ∷ []
+
+-- the kinds of job line that have other words too
+abbrev pub word_forms : List Form
+word_forms =
+    form (codes "part") (named triple) (λ x. part_line x.0 x.1.0 x.1.1 x.1.2)
+    ∷ form (codes "face") face_in face_line
+    ∷ form (codes "punch") (named pair) (λ x. punch_line x.0 x.1.0 x.1.1)
+    ∷ form (codes "die") (named triple) (λ x. die_line x.0 x.1.0 x.1.1 x.1.2)
+    ∷ []
+
+-- the line of a keyword and the text behind it, by the form of that keyword, else in another way
+abbrev pub by_form : List Form → (List ℕ → List ℕ → Option CertLine) → List ℕ → List ℕ
+    → Option CertLine
+by_form [] other keyword text = other keyword text
+by_form (one ∷ forms) other keyword text =
+    if bytes_eq keyword one.0 then one.1 text else by_form forms other keyword text
+
+-- the line of numbers alone
 unfoldable pub number_line_in : List ℕ → List ℕ → Option CertLine
-number_line_in keyword text = do
-  numbers ← numbers_in 32 text
-  fixture_line_of keyword numbers
+number_line_in keyword text = by_form number_forms (λ keyword text. None) keyword text
 
--- the line by its keyword and the text behind it
+-- the line of a keyword and the text behind it
 unfoldable pub words_line_in : List ℕ → List ℕ → Option CertLine
-words_line_in keyword text = if bytes_eq keyword (codes "part") then part_line_in text
-    else if bytes_eq keyword (codes "face") then face_line_in text
-    else if bytes_eq keyword (codes "punch") then punch_line_in text
-    else if bytes_eq keyword (codes "die") then die_line_in text
-    else number_line_in keyword text
+words_line_in keyword text = by_form word_forms number_line_in keyword text
 
 -- the job line that the text is, if it is one
 unfoldable pub line_in : List ℕ → Option CertLine

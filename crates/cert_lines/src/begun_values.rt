@@ -1,9 +1,11 @@
 //! What is begun of a part, a setup and a stage, before their other lines are read.
+#![tactic(auto, using(crate::proofs::Texts::pieces))]
+
 ghost use Rattle.std.specs.Prelude.{◌≡◌};
 ghost use Rattle.part_file.specs.Part.{part_data};
 ghost use Rattle.tool_library.specs.Tools.{punch_data, die_data};
 ghost use Rattle.job_setup.specs.Setup.{setup_data, stage_data};
-ghost use Rattle.cert_lines.specs.JobLines.{begun_part, begun_punch, begun_die, begun_stage, begun_setup, no_gauge, no_costs};
+ghost use Rattle.cert_lines.specs.JobLines.{begun_part, begun_punch, begun_die, begun_stage, begun_setup};
 
 use arrayvec::ArrayVec;
 use brake_base::Name;
@@ -13,7 +15,6 @@ use part_file::Part;
 use tool_library::{Die, Punch};
 
 /// A part without faces.
-#[tactic(auto, using(crate::proofs::Texts::pieces))]
 pub fn begun_part(material: Name, thickness: i64, radius: i64) -> Part
     ensures { part_data result ≡ begun_part material.bytes thickness radius }
 {
@@ -26,7 +27,6 @@ pub fn begun_part(material: Name, thickness: i64, radius: i64) -> Part
 }
 
 /// A punch without boxes.
-#[tactic(auto, using(crate::proofs::Texts::pieces))]
 pub fn begun_punch(name: Name, height: i64, nose: i64) -> Punch
     ensures { punch_data result ≡ begun_punch name.bytes height nose }
 {
@@ -41,7 +41,6 @@ pub fn begun_punch(name: Name, height: i64, nose: i64) -> Punch
 }
 
 /// A die without boxes.
-#[tactic(auto, using(crate::proofs::Texts::pieces))]
 pub fn begun_die(name: Name, height: i64, v: i64, least_flange: i64) -> Die
     ensures { die_data result ≡ begun_die name.bytes height v least_flange }
 {
@@ -57,7 +56,6 @@ pub fn begun_die(name: Name, height: i64, v: i64, least_flange: i64) -> Die
 }
 
 /// A stage of which only its range is known.
-#[tactic(auto, using(crate::proofs::Texts::pieces))]
 pub fn begun_stage(x0: i64, x1: i64) -> Stage
     ensures { stage_data result ≡ begun_stage x0 x1 }
 {
@@ -72,38 +70,7 @@ pub fn begun_stage(x0: i64, x1: i64) -> Stage
     }
 }
 
-/// A backgauge of which nothing is known.
-fn no_gauge() -> GaugeRule
-    ensures { result ≡ no_gauge }
-{
-    GaugeRule {
-        near: 0,
-        far: 0,
-        inset: 0,
-        finger: 0,
-        gap: 0,
-        depth: 0,
-        above: 0,
-        below: 0,
-    }
-}
-
-/// Costs of which nothing is known.
-fn no_costs() -> Costs
-    ensures { result ≡ no_costs }
-{
-    Costs {
-        stroke: 0,
-        quarter: 0,
-        half: 0,
-        flip: 0,
-        roll: 0,
-        stage: 0,
-    }
-}
-
 /// A setup of which only its bed is known.
-#[tactic(auto, using(crate::proofs::Texts::pieces))]
 pub fn begun_setup(bed: (i64, i64)) -> Setup
     ensures { setup_data result ≡ begun_setup bed }
 {
@@ -113,8 +80,8 @@ pub fn begun_setup(bed: (i64, i64)) -> Setup
         upper: ArrayVec::new(),
         lower: ArrayVec::new(),
         uncovered: 0,
-        gauge: no_gauge(),
-        cost: no_costs(),
+        gauge: GaugeRule::default(),
+        cost: Costs::default(),
         stages: ArrayVec::new(),
         gang: false,
         force: 0,

@@ -1,8 +1,9 @@
 //! A job line: which one a text is, by its keyword and its words.
-ghost use Rattle.std.specs.Prelude.{◌≡◌, length};
+ghost use Rattle.std.specs.Prelude.{◌≡◌};
 ghost use Rattle.part_file.specs.Part.{face_data};
 ghost use Rattle.cert_words.specs.LineWords.{Reads};
-ghost use Rattle.cert_lines.specs.JobLineReading.{line_of, single, pair, triple, rect_of, fixed_of, gauge_of, costs_line_of, pieces_line_of, stage_line_of, rule_line_of, fixture_line_of, part_line_in, punch_line_in, die_line_in, root_in, face_line_in, number_line_in, words_line_in, line_in};
+ghost use Rattle.cert_lines.specs.Lines.{part_line, punch_line, die_line};
+ghost use Rattle.cert_lines.specs.JobLineReading.{line_of, single, pair, triple, rect_of, fixed_of, gauge_of, cost_numbers, pieces_of, numbered, named, root_in, face_in, number_line_in, words_line_in, line_in};
 
 use arrayvec::ArrayVec;
 use brake_base::{Name, Rect};
@@ -10,6 +11,9 @@ use cert_words::{child, named, signed_numbers, split_word};
 use machine_file::bounds::MOST_PIECES;
 use machine_file::{Fixed, GaugeRule};
 use part_file::{Face, MOST_FACES};
+
+/// Six costs, in three pairs.
+pub type CostNumbers = ((i64, i64), ((i64, i64), (i64, i64)));
 
 /// A job line, with what its words say. Lengths are in micrometres, costs in tenths of a second,
 /// forces in newtons.
@@ -22,24 +26,17 @@ pub enum JobLine {
         q: i64,
     },
     Face(Face),
-    Bed(i64, i64),
-    Frame(i64, i64),
+    Bed((i64, i64)),
+    Frame((i64, i64)),
     Upper(Fixed),
     Lower(Fixed),
     Uncovered(i64),
     Gauge(GaugeRule),
-    Cost {
-        stroke: i64,
-        quarter: i64,
-        half: i64,
-        flip: i64,
-        roll: i64,
-        stage: i64,
-    },
+    Cost(CostNumbers),
     Gang(i64),
     Force(i64),
     Fine(i64),
-    Stage(i64, i64),
+    Stage((i64, i64)),
     Punch {
         name: Name,
         height: i64,
@@ -53,21 +50,11 @@ pub enum JobLine {
     },
     Box(Rect),
     Pieces(ArrayVec<i64, MOST_PIECES>),
-    Load(i64, i64),
-}
-
-/// One number.
-fn single(numbers: &[i64]) -> Option<i64>
-    ensures { result ≡ single numbers.now }
-{
-    match *numbers {
-        [n] => Some(n),
-        _ => None,
-    }
+    Load((i64, i64)),
 }
 
 /// Two numbers.
-fn pair(numbers: &[i64]) -> Option<(i64, i64)>
+fn two(numbers: &[i64]) -> Option<(i64, i64)>
     ensures { result ≡ pair numbers.now }
 {
     match *numbers {
@@ -77,7 +64,7 @@ fn pair(numbers: &[i64]) -> Option<(i64, i64)>
 }
 
 /// Three numbers.
-fn triple(numbers: &[i64]) -> Option<(i64, i64, i64)>
+fn three(numbers: &[i64]) -> Option<(i64, i64, i64)>
     ensures { result ≡ triple numbers.now }
 {
     match *numbers {
@@ -86,21 +73,43 @@ fn triple(numbers: &[i64]) -> Option<(i64, i64, i64)>
     }
 }
 
-/// A rectangle.
-fn rect(numbers: &[i64]) -> Option<Rect>
-    ensures { result ≡ rect_of numbers.now }
+/// A number alone.
+#[tactic(auto, unfolding(crate::specs::JobLineReading::numbered))]
+fn single(text: &[u8]) -> Option<i64>
+    ensures { result ≡ numbered single text.now }
 {
-    match *numbers {
+    match *signed_numbers(text)?.as_slice() {
+        [n] => Some(n),
+        _ => None,
+    }
+}
+
+/// Two numbers alone.
+#[tactic(auto, unfolding(crate::specs::JobLineReading::numbered))]
+fn pair(text: &[u8]) -> Option<(i64, i64)>
+    ensures { result ≡ numbered pair text.now }
+{
+    let numbers = signed_numbers(text)?;
+    two(numbers.as_slice())
+}
+
+/// A rectangle alone.
+#[tactic(auto, unfolding(crate::specs::JobLineReading::numbered))]
+fn rect(text: &[u8]) -> Option<Rect>
+    ensures { result ≡ numbered rect_of text.now }
+{
+    match *signed_numbers(text)?.as_slice() {
         [y0, y1, z0, z1] => Some(Rect { y0, y1, z0, z1 }),
         _ => None,
     }
 }
 
-/// A fixed box.
-fn fixed(numbers: &[i64]) -> Option<Fixed>
-    ensures { result ≡ fixed_of numbers.now }
+/// A fixed box alone.
+#[tactic(auto, unfolding(crate::specs::JobLineReading::numbered))]
+fn fixed(text: &[u8]) -> Option<Fixed>
+    ensures { result ≡ numbered fixed_of text.now }
 {
-    match *numbers {
+    match *signed_numbers(text)?.as_slice() {
         [x0, x1, y0, y1, z0, z1] => Some(Fixed {
             x0,
             x1,
@@ -110,11 +119,12 @@ fn fixed(numbers: &[i64]) -> Option<Fixed>
     }
 }
 
-/// The backgauge.
-fn gauge(numbers: &[i64]) -> Option<GaugeRule>
-    ensures { result ≡ gauge_of numbers.now }
+/// The backgauge alone.
+#[tactic(auto, unfolding(crate::specs::JobLineReading::numbered))]
+fn gauge(text: &[u8]) -> Option<GaugeRule>
+    ensures { result ≡ numbered gauge_of text.now }
 {
-    match *numbers {
+    match *signed_numbers(text)?.as_slice() {
         [near, far, inset, finger, gap, depth, above, below] => Some(GaugeRule {
             near,
             far,
@@ -129,151 +139,58 @@ fn gauge(numbers: &[i64]) -> Option<GaugeRule>
     }
 }
 
-/// The costs.
-fn costs(numbers: &[i64]) -> Option<JobLine>
-    ensures { Reads line_of result (costs_line_of numbers.now) }
+/// The costs alone.
+#[tactic(auto, unfolding(crate::specs::JobLineReading::numbered))]
+fn costs(text: &[u8]) -> Option<CostNumbers>
+    ensures { result ≡ numbered cost_numbers text.now }
 {
-    match *numbers {
-        [stroke, quarter, half, flip, roll, stage] => Some(JobLine::Cost {
-            stroke,
-            quarter,
-            half,
-            flip,
-            roll,
-            stage,
-        }),
+    match *signed_numbers(text)?.as_slice() {
+        [stroke, quarter, half, flip, roll, stage] => {
+            Some(((stroke, quarter), ((half, flip), (roll, stage))))
+        }
         _ => None,
     }
 }
 
-/// The pieces, of which there is one.
-fn pieces(numbers: ArrayVec<i64, 32>) -> Option<JobLine>
-    ensures { Reads line_of result (pieces_line_of numbers.items) }
+/// The pieces alone, of which there is one.
+#[tactic(auto, unfolding(crate::specs::JobLineReading::numbered))]
+fn pieces(text: &[u8]) -> Option<ArrayVec<i64, MOST_PIECES>>
+    ensures { Reads (λ pieces. pieces.items) result (numbered pieces_of text.now) }
 {
+    let numbers = signed_numbers(text)?;
     if numbers.is_empty() {
         None
     } else {
-        Some(JobLine::Pieces(numbers))
+        Some(numbers)
     }
 }
 
-/// The line of a stage's part.
-#[tactic(auto, unfolding(crate::specs::JobLineReading::stage_line_of), using(crate::proofs::Texts::pieces))]
-fn stage_line(keyword: &[u8], numbers: ArrayVec<i64, 32>) -> Option<JobLine>
-    ensures { Reads line_of result (stage_line_of keyword.now numbers.items) }
-{
-    if keyword == b"stage".as_slice() {
-        let (x0, x1) = pair(numbers.as_slice())?;
-        Some(JobLine::Stage(x0, x1))
-    } else if keyword == b"box".as_slice() {
-        let rect = rect(numbers.as_slice())?;
-        Some(JobLine::Box(rect))
-    } else if keyword == b"pieces".as_slice() {
-        pieces(numbers)
-    } else if keyword == b"load".as_slice() {
-        let (load, limit) = pair(numbers.as_slice())?;
-        Some(JobLine::Load(load, limit))
-    } else {
-        None
-    }
-}
-
-/// The line of one of the machine's rules, or of one behind them.
-#[tactic(auto, unfolding(crate::specs::JobLineReading::rule_line_of), using(crate::proofs::Texts::pieces))]
-fn rule_line(keyword: &[u8], numbers: ArrayVec<i64, 32>) -> Option<JobLine>
-    ensures { Reads line_of result (rule_line_of keyword.now numbers.items) }
-{
-    if keyword == b"uncovered".as_slice() {
-        let uncovered = single(numbers.as_slice())?;
-        Some(JobLine::Uncovered(uncovered))
-    } else if keyword == b"gauge".as_slice() {
-        let gauge = gauge(numbers.as_slice())?;
-        Some(JobLine::Gauge(gauge))
-    } else if keyword == b"cost".as_slice() {
-        costs(numbers.as_slice())
-    } else if keyword == b"gang".as_slice() {
-        let gang = single(numbers.as_slice())?;
-        Some(JobLine::Gang(gang))
-    } else if keyword == b"force".as_slice() {
-        let force = single(numbers.as_slice())?;
-        Some(JobLine::Force(force))
-    } else if keyword == b"fine".as_slice() {
-        let depth = single(numbers.as_slice())?;
-        Some(JobLine::Fine(depth))
-    } else {
-        stage_line(keyword, numbers)
-    }
-}
-
-/// The line of what is fixed on the machine, or of one behind it.
-#[tactic(auto, unfolding(crate::specs::JobLineReading::fixture_line_of), using(crate::proofs::Texts::pieces))]
-fn fixture_line(keyword: &[u8], numbers: ArrayVec<i64, 32>) -> Option<JobLine>
-    ensures { Reads line_of result (fixture_line_of keyword.now numbers.items) }
-{
-    if keyword == b"bed".as_slice() {
-        let (from, to) = pair(numbers.as_slice())?;
-        Some(JobLine::Bed(from, to))
-    } else if keyword == b"frame".as_slice() {
-        let (from, to) = pair(numbers.as_slice())?;
-        Some(JobLine::Frame(from, to))
-    } else if keyword == b"upper".as_slice() {
-        let upper = fixed(numbers.as_slice())?;
-        Some(JobLine::Upper(upper))
-    } else if keyword == b"lower".as_slice() {
-        let lower = fixed(numbers.as_slice())?;
-        Some(JobLine::Lower(lower))
-    } else {
-        rule_line(keyword, numbers)
-    }
-}
-
-/// The sheet and the half deduction.
-#[tactic(auto, unfolding(crate::specs::JobLineReading::part_line_in), using(crate::proofs::Texts::pieces))]
-fn part_line(text: &[u8]) -> Option<JobLine>
-    ensures { Reads line_of result (part_line_in text.now) }
-{
-    let (material, numbers) = named(text)?;
-    let (thickness, radius, q) = triple(numbers.as_slice())?;
-    Some(JobLine::Part {
-        material,
-        thickness,
-        radius,
-        q,
-    })
-}
-
-/// A punch.
-#[tactic(auto, unfolding(crate::specs::JobLineReading::punch_line_in), using(crate::proofs::Texts::pieces))]
-fn punch_line(text: &[u8]) -> Option<JobLine>
-    ensures { Reads line_of result (punch_line_in text.now) }
+/// A name and two numbers.
+#[tactic(auto, unfolding(crate::specs::JobLineReading::named))]
+fn named_pair(text: &[u8]) -> Option<(Name, (i64, i64))>
+    ensures { Reads (λ x. (x.0.bytes, x.1)) result (named pair text.now) }
 {
     let (name, numbers) = named(text)?;
-    let (height, nose) = pair(numbers.as_slice())?;
-    Some(JobLine::Punch { name, height, nose })
+    let sizes = two(numbers.as_slice())?;
+    Some((name, sizes))
 }
 
-/// A die.
-#[tactic(auto, unfolding(crate::specs::JobLineReading::die_line_in), using(crate::proofs::Texts::pieces))]
-fn die_line(text: &[u8]) -> Option<JobLine>
-    ensures { Reads line_of result (die_line_in text.now) }
+/// A name and three numbers.
+#[tactic(auto, unfolding(crate::specs::JobLineReading::named))]
+fn named_triple(text: &[u8]) -> Option<(Name, (i64, i64, i64))>
+    ensures { Reads (λ x. (x.0.bytes, x.1)) result (named triple text.now) }
 {
     let (name, numbers) = named(text)?;
-    let (height, v, least_flange) = triple(numbers.as_slice())?;
-    Some(JobLine::Die {
-        name,
-        height,
-        v,
-        least_flange,
-    })
+    let sizes = three(numbers.as_slice())?;
+    Some((name, sizes))
 }
 
 /// Face 0, which stands on none.
-#[tactic(auto, unfolding(crate::specs::JobLineReading::root_in), using(crate::proofs::Texts::pieces))]
+#[tactic(auto, unfolding(crate::specs::JobLineReading::root_in))]
 fn root(text: &[u8]) -> Option<Face>
     ensures { Reads face_data result (root_in text.now) }
 {
-    let (name, numbers) = named(text)?;
-    let (width, length) = pair(numbers.as_slice())?;
+    let (name, (width, length)) = named_pair(text)?;
     Some(Face {
         name,
         width,
@@ -283,47 +200,113 @@ fn root(text: &[u8]) -> Option<Face>
 }
 
 /// A face: face 0, or one that stands on a face of the numbers that a part may have.
-#[tactic(auto, unfolding(crate::specs::JobLineReading::face_line_in))]
-fn face_line(text: &[u8]) -> Option<JobLine>
-    ensures { Reads line_of result (face_line_in text.now) }
+#[tactic(auto, unfolding(crate::specs::JobLineReading::face_in))]
+fn face(text: &[u8]) -> Option<Face>
+    ensures { Reads face_data result (face_in text.now) }
 {
-    if let Some(face) = root(text) {
-        return Some(JobLine::Face(face));
-    }
-    let face = child(text, MOST_FACES as u8)?;
-    Some(JobLine::Face(face))
-}
-
-/// A line of numbers alone.
-#[tactic(auto, unfolding(crate::specs::JobLineReading::number_line_in))]
-fn number_line(keyword: &[u8], text: &[u8]) -> Option<JobLine>
-    ensures { Reads line_of result (number_line_in keyword.now text.now) }
-{
-    let numbers = signed_numbers(text)?;
-    fixture_line(keyword, numbers)
-}
-
-/// The line by its keyword and the text behind it.
-#[tactic(auto, unfolding(crate::specs::JobLineReading::words_line_in))]
-fn words_line(keyword: &[u8], text: &[u8]) -> Option<JobLine>
-    ensures { Reads line_of result (words_line_in keyword.now text.now) }
-{
-    match keyword {
-        b"part" => part_line(text),
-        b"face" => face_line(text),
-        b"punch" => punch_line(text),
-        b"die" => die_line(text),
-        _ => number_line(keyword, text),
+    match root(text) {
+        Some(face) => Some(face),
+        None => child(text, MOST_FACES as u8),
     }
 }
 
 impl JobLine {
+    /// The line of the sheet: its material, its sizes and the half deduction.
+    fn part(sheet: (Name, (i64, i64, i64))) -> JobLine
+        ensures { line_of result ≡ part_line sheet.0.bytes sheet.1.0 sheet.1.1 sheet.1.2 }
+    {
+        let (material, (thickness, radius, q)) = sheet;
+        JobLine::Part {
+            material,
+            thickness,
+            radius,
+            q,
+        }
+    }
+
+    /// The line of a punch: its name, its height and the size of its nose.
+    fn punch(tool: (Name, (i64, i64))) -> JobLine
+        ensures { line_of result ≡ punch_line tool.0.bytes tool.1.0 tool.1.1 }
+    {
+        let (name, (height, nose)) = tool;
+        JobLine::Punch { name, height, nose }
+    }
+
+    /// The line of a die: its name, its height, its opening and the shortest flange.
+    fn die(tool: (Name, (i64, i64, i64))) -> JobLine
+        ensures { line_of result ≡ die_line tool.0.bytes tool.1.0 tool.1.1 tool.1.2 }
+    {
+        let (name, (height, v, least_flange)) = tool;
+        JobLine::Die {
+            name,
+            height,
+            v,
+            least_flange,
+        }
+    }
+
+    /// A line of numbers alone.
+    #[tactic(auto, unfolding(crate::specs::JobLineReading::number_line_in))]
+    fn of_numbers(keyword: &[u8], text: &[u8]) -> Option<JobLine>
+        ensures { Reads line_of result (number_line_in keyword.now text.now) }
+    {
+        if keyword == b"bed".as_slice() {
+            Some(JobLine::Bed(pair(text)?))
+        } else if keyword == b"frame".as_slice() {
+            Some(JobLine::Frame(pair(text)?))
+        } else if keyword == b"upper".as_slice() {
+            Some(JobLine::Upper(fixed(text)?))
+        } else if keyword == b"lower".as_slice() {
+            Some(JobLine::Lower(fixed(text)?))
+        } else if keyword == b"uncovered".as_slice() {
+            Some(JobLine::Uncovered(single(text)?))
+        } else if keyword == b"gauge".as_slice() {
+            Some(JobLine::Gauge(gauge(text)?))
+        } else if keyword == b"cost".as_slice() {
+            Some(JobLine::Cost(costs(text)?))
+        } else if keyword == b"gang".as_slice() {
+            Some(JobLine::Gang(single(text)?))
+        } else if keyword == b"force".as_slice() {
+            Some(JobLine::Force(single(text)?))
+        } else if keyword == b"fine".as_slice() {
+            Some(JobLine::Fine(single(text)?))
+        } else if keyword == b"stage".as_slice() {
+            Some(JobLine::Stage(pair(text)?))
+        } else if keyword == b"box".as_slice() {
+            Some(JobLine::Box(rect(text)?))
+        } else if keyword == b"pieces".as_slice() {
+            Some(JobLine::Pieces(pieces(text)?))
+        } else if keyword == b"load".as_slice() {
+            Some(JobLine::Load(pair(text)?))
+        } else {
+            None
+        }
+    }
+
+    /// The line by its keyword and the text behind it.
+    #[tactic(auto, unfolding(crate::specs::JobLineReading::words_line_in))]
+    fn of_words(keyword: &[u8], text: &[u8]) -> Option<JobLine>
+        ensures { Reads line_of result (words_line_in keyword.now text.now) }
+    {
+        if keyword == b"part".as_slice() {
+            Some(JobLine::part(named_triple(text)?))
+        } else if keyword == b"face".as_slice() {
+            Some(JobLine::Face(face(text)?))
+        } else if keyword == b"punch".as_slice() {
+            Some(JobLine::punch(named_pair(text)?))
+        } else if keyword == b"die".as_slice() {
+            Some(JobLine::die(named_triple(text)?))
+        } else {
+            JobLine::of_numbers(keyword, text)
+        }
+    }
+
     /// The job line that the text is, without its line feed.
     #[tactic(auto, unfolding(crate::specs::JobLineReading::line_in))]
     pub fn read(line: &[u8]) -> Option<JobLine>
         ensures { Reads line_of result (line_in line.now) }
     {
         let (keyword, text) = split_word(line);
-        words_line(keyword, text)
+        JobLine::of_words(keyword, text)
     }
 }

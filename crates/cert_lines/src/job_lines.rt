@@ -1,4 +1,6 @@
 //! The lines of a job.
+#![tactic(auto, using(crate::proofs::Texts::pieces), unfolding(crate::specs::Lines::line_text))]
+
 ghost use Rattle.std.specs.Prelude.{◌≡◌, ◌++◌, [], ◌∷◌, codes, OnOk, Some};
 ghost use Rattle.std.specs.List.{flat_map};
 ghost use Rattle.std.specs.Fmt.{signed_decimal};
@@ -7,7 +9,7 @@ ghost use Rattle.tool_library.specs.Tools.{punch_data, die_data};
 ghost use Rattle.machine_file.specs.Machine.{IsCosts};
 ghost use Rattle.job_setup.specs.Setup.{stage_data, setup_data};
 ghost use Rattle.job_setup.specs.ValidJob.{IsJob};
-ghost use Rattle.cert_lines.specs.Lines.{number, side_word, dir_word, spaced, face_words, fixed_words, text_line, line_text, lines_text, face_line, bed_line, frame_line, upper_line, lower_line, gauge_line, box_line};
+ghost use Rattle.cert_lines.specs.Lines.{number, side_word, dir_word, spaced, face_words, fixed_words, text_line, line_text, lines_text, face_line, bed_line, frame_line, gauge_line, box_line};
 ghost use Rattle.cert_lines.specs.JobText.{costs_line, part_lines, fixture_lines, fine_lines, rule_lines, punch_lines, die_lines, stage_lines, job_text};
 
 use crate::words::{put_count, put_named_line, put_number_line, put_numbers, put_spaced};
@@ -42,7 +44,6 @@ fn dir_word(dir: Dir) -> &'static [u8]
 }
 
 /// The number and the side of the face on which a face stands.
-#[tactic(auto, using(crate::proofs::Texts::pieces))]
 fn put_parent(out: &mut Vec<u8>, joint: &Joint) -> Result<(), AllocError>
     ensures { OnOk result (out.new.items
         ≡ out.old.items ++ flat_map spaced (number joint.now.on ∷ side_word joint.now.side ∷ [])) }
@@ -52,7 +53,6 @@ fn put_parent(out: &mut Vec<u8>, joint: &Joint) -> Result<(), AllocError>
 }
 
 /// Where on that side the face stands, its sizes, and the direction of the bend between them.
-#[tactic(auto, using(crate::proofs::Texts::pieces))]
 fn put_standing(out: &mut Vec<u8>, face: &Face, joint: &Joint) -> Result<(), AllocError>
     ensures { OnOk result (out.new.items
         ≡ out.old.items ++ flat_map spaced (signed_decimal joint.now.at
@@ -64,7 +64,6 @@ fn put_standing(out: &mut Vec<u8>, face: &Face, joint: &Joint) -> Result<(), All
 }
 
 /// The line of a face that stands on another one.
-#[tactic(auto, using(crate::proofs::Texts::pieces))]
 fn put_child(out: &mut Vec<u8>, face: &Face, joint: &Joint) -> Result<(), AllocError>
     ensures { OnOk result (out.new.items
         ≡ out.old.items ++ text_line (codes "face")
@@ -78,7 +77,6 @@ fn put_child(out: &mut Vec<u8>, face: &Face, joint: &Joint) -> Result<(), AllocE
 }
 
 /// The line of a face.
-#[tactic(auto, using(crate::proofs::Texts::pieces), unfolding(crate::specs::Lines::line_text))]
 fn put_face(out: &mut Vec<u8>, face: &Face) -> Result<(), AllocError>
     ensures { OnOk result (out.new.items
         ≡ out.old.items ++ line_text (face_line (face_data face.now))) }
@@ -106,7 +104,6 @@ fn put_faces(out: &mut Vec<u8>, faces: &[Face]) -> Result<(), AllocError>
 }
 
 /// The lines of a part and its half deduction.
-#[tactic(auto, using(crate::proofs::Texts::pieces), unfolding(crate::specs::Lines::line_text))]
 fn put_part(out: &mut Vec<u8>, part: &Part, q: i64) -> Result<(), AllocError>
     ensures { OnOk result (out.new.items
         ≡ out.old.items ++ lines_text (part_lines (part_data part.now) q)) }
@@ -121,7 +118,6 @@ fn put_part(out: &mut Vec<u8>, part: &Part, q: i64) -> Result<(), AllocError>
 }
 
 /// A line for each side frame.
-#[tactic(auto, using(crate::proofs::Texts::pieces), unfolding(crate::specs::Lines::line_text))]
 fn put_frames(out: &mut Vec<u8>, frames: &[(i64, i64)]) -> Result<(), AllocError>
     ensures { OnOk result (out.new.items
         ≡ out.old.items ++ flat_map (λ frame. line_text (frame_line frame)) frames.now) }
@@ -156,26 +152,7 @@ fn put_all_fixed(out: &mut Vec<u8>, keyword: &[u8], boxes: &[Fixed]) -> Result<(
     Ok(())
 }
 
-/// A line for each fixed box above the bed.
-#[tactic(auto, unfolding(crate::specs::Lines::line_text))]
-fn put_upper(out: &mut Vec<u8>, boxes: &[Fixed]) -> Result<(), AllocError>
-    ensures { OnOk result (out.new.items
-        ≡ out.old.items ++ flat_map (λ fixed. line_text (upper_line fixed)) boxes.now) }
-{
-    put_all_fixed(out, b"upper", boxes)
-}
-
-/// A line for each fixed box of the bed.
-#[tactic(auto, unfolding(crate::specs::Lines::line_text))]
-fn put_lower(out: &mut Vec<u8>, boxes: &[Fixed]) -> Result<(), AllocError>
-    ensures { OnOk result (out.new.items
-        ≡ out.old.items ++ flat_map (λ fixed. line_text (lower_line fixed)) boxes.now) }
-{
-    put_all_fixed(out, b"lower", boxes)
-}
-
 /// The line of the bed.
-#[tactic(auto, using(crate::proofs::Texts::pieces), unfolding(crate::specs::Lines::line_text))]
 fn put_bed(out: &mut Vec<u8>, bed: &(i64, i64)) -> Result<(), AllocError>
     ensures { OnOk result (out.new.items ≡ out.old.items ++ line_text (bed_line bed.now)) }
 {
@@ -189,13 +166,12 @@ fn put_fixtures(out: &mut Vec<u8>, setup: &Setup) -> Result<(), AllocError>
 {
     put_bed(out, &setup.bed)?;
     put_frames(out, setup.frames.as_slice())?;
-    put_upper(out, setup.upper.as_slice())?;
-    put_lower(out, setup.lower.as_slice())?;
+    put_all_fixed(out, b"upper", setup.upper.as_slice())?;
+    put_all_fixed(out, b"lower", setup.lower.as_slice())?;
     Ok(())
 }
 
 /// The line of the backgauge.
-#[tactic(auto, using(crate::proofs::Texts::pieces), unfolding(crate::specs::Lines::line_text))]
 fn put_gauge(out: &mut Vec<u8>, gauge: &GaugeRule) -> Result<(), AllocError>
     ensures { OnOk result (out.new.items ≡ out.old.items ++ line_text (gauge_line gauge.now)) }
 {
@@ -216,7 +192,6 @@ fn put_gauge(out: &mut Vec<u8>, gauge: &GaugeRule) -> Result<(), AllocError>
 }
 
 /// The line of the handling costs.
-#[tactic(auto, using(crate::proofs::Texts::pieces), unfolding(crate::specs::Lines::line_text))]
 fn put_costs(out: &mut Vec<u8>, cost: &Costs) -> Result<(), AllocError>
     requires { IsCosts cost.now }
     ensures { OnOk result (out.new.items ≡ out.old.items ++ line_text (costs_line cost.now)) }
@@ -236,7 +211,6 @@ fn put_costs(out: &mut Vec<u8>, cost: &Costs) -> Result<(), AllocError>
 }
 
 /// The line that says how often in a row a piece may be halved, where it may at all.
-#[tactic(auto, using(crate::proofs::Texts::pieces), unfolding(crate::specs::Lines::line_text))]
 fn put_fine(out: &mut Vec<u8>, fine: u8) -> Result<(), AllocError>
     ensures { OnOk result (out.new.items ≡ out.old.items ++ lines_text (fine_lines fine)) }
 {
@@ -247,7 +221,6 @@ fn put_fine(out: &mut Vec<u8>, fine: u8) -> Result<(), AllocError>
 }
 
 /// The lines of the machine's rules and costs.
-#[tactic(auto, using(crate::proofs::Texts::pieces), unfolding(crate::specs::Lines::line_text))]
 fn put_rules(out: &mut Vec<u8>, setup: &Setup) -> Result<(), AllocError>
     requires { IsCosts setup.now.cost }
     ensures { OnOk result (out.new.items
@@ -262,7 +235,6 @@ fn put_rules(out: &mut Vec<u8>, setup: &Setup) -> Result<(), AllocError>
 }
 
 /// The line of a box of a tool.
-#[tactic(auto, using(crate::proofs::Texts::pieces), unfolding(crate::specs::Lines::line_text))]
 fn put_box(out: &mut Vec<u8>, rect: &Rect) -> Result<(), AllocError>
     ensures { OnOk result (out.new.items ≡ out.old.items ++ line_text (box_line rect.now)) }
 {
@@ -281,7 +253,6 @@ fn put_boxes(out: &mut Vec<u8>, boxes: &[Rect]) -> Result<(), AllocError>
 }
 
 /// The lines of a punch.
-#[tactic(auto, using(crate::proofs::Texts::pieces), unfolding(crate::specs::Lines::line_text))]
 fn put_punch(out: &mut Vec<u8>, punch: &Punch) -> Result<(), AllocError>
     ensures { OnOk result (out.new.items
         ≡ out.old.items ++ lines_text (punch_lines (punch_data punch.now))) }
@@ -296,7 +267,6 @@ fn put_punch(out: &mut Vec<u8>, punch: &Punch) -> Result<(), AllocError>
 }
 
 /// The lines of a die.
-#[tactic(auto, using(crate::proofs::Texts::pieces), unfolding(crate::specs::Lines::line_text))]
 fn put_die(out: &mut Vec<u8>, die: &Die) -> Result<(), AllocError>
     ensures { OnOk result (out.new.items
         ≡ out.old.items ++ lines_text (die_lines (die_data die.now))) }
@@ -311,7 +281,6 @@ fn put_die(out: &mut Vec<u8>, die: &Die) -> Result<(), AllocError>
 }
 
 /// The lines of a stage.
-#[tactic(auto, using(crate::proofs::Texts::pieces), unfolding(crate::specs::Lines::line_text))]
 fn put_stage(out: &mut Vec<u8>, stage: &Stage) -> Result<(), AllocError>
     ensures { OnOk result (out.new.items
         ≡ out.old.items ++ lines_text (stage_lines (stage_data stage.now))) }

@@ -1,4 +1,6 @@
 //! The words of a line.
+#![tactic(auto, using(crate::proofs::Texts::pieces))]
+
 ghost use Rattle.std.specs.Prelude.{◌≡◌, ◌++◌, ◌∷◌, ◌<◌, ◌^◌, map, OnOk};
 ghost use Rattle.std.specs.List.{flat_map};
 ghost use Rattle.std.specs.Fmt.{signed_decimal};
@@ -8,7 +10,6 @@ use brake_text::{put_number, put_word};
 use std::alloc::AllocError;
 
 /// A word behind a space.
-#[tactic(auto, using(crate::proofs::Texts::pieces))]
 pub fn put_spaced(out: &mut Vec<u8>, word: &[u8]) -> Result<(), AllocError>
     ensures { OnOk result (out.new.items ≡ out.old.items ++ spaced word.now) }
 {
@@ -17,7 +18,6 @@ pub fn put_spaced(out: &mut Vec<u8>, word: &[u8]) -> Result<(), AllocError>
 }
 
 /// A signed number behind a space.
-#[tactic(auto, using(crate::proofs::Texts::pieces))]
 pub fn put_signed(out: &mut Vec<u8>, value: i64) -> Result<(), AllocError>
     ensures { OnOk result (out.new.items ≡ out.old.items ++ spaced_number value) }
 {
@@ -35,7 +35,6 @@ fn put_digit(out: &mut Vec<u8>, digit: u8) -> Result<(), AllocError>
 }
 
 /// A number behind a space. Most have one digit, which is put without a division.
-#[tactic(auto, using(crate::proofs::Texts::pieces))]
 pub fn put_count(out: &mut Vec<u8>, value: u64) -> Result<(), AllocError>
     requires { value < 2 ^ 63 }
     ensures { OnOk result (out.new.items ≡ out.old.items ++ spaced (number value)) }
@@ -57,7 +56,6 @@ fn put_all_signed(out: &mut Vec<u8>, values: &[i64]) -> Result<(), AllocError>
 }
 
 /// Signed numbers as words of a line.
-#[tactic(auto, using(crate::proofs::Texts::pieces))]
 pub fn put_numbers(out: &mut Vec<u8>, values: &[i64]) -> Result<(), AllocError>
     ensures { OnOk result (out.new.items
         ≡ out.old.items ++ flat_map spaced (map signed_decimal values.now)) }
@@ -66,7 +64,6 @@ pub fn put_numbers(out: &mut Vec<u8>, values: &[i64]) -> Result<(), AllocError>
 }
 
 /// A line of a keyword and signed numbers.
-#[tactic(auto, using(crate::proofs::Texts::pieces))]
 pub fn put_number_line(out: &mut Vec<u8>, keyword: &[u8], values: &[i64]) -> Result<(), AllocError>
     ensures { OnOk result (out.new.items
         ≡ out.old.items ++ text_line keyword.now (map signed_decimal values.now)) }
@@ -77,7 +74,6 @@ pub fn put_number_line(out: &mut Vec<u8>, keyword: &[u8], values: &[i64]) -> Res
 }
 
 /// A line of a keyword, a name and signed numbers.
-#[tactic(auto, using(crate::proofs::Texts::pieces))]
 pub fn put_named_line(
     out: &mut Vec<u8>,
     keyword: &[u8],

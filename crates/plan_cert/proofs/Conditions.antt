@@ -1,5 +1,5 @@
 -- The condition on rows, row by row and number by number.
-use Rattle.std.proofs.Common.{◌≡◌, inl, inr, ℕ, ◌+◌, ◌^◌, ◌<◌, List, length, map, get_or, Some, arith, refl, sym, ◌∙◌, ap, subst}
+use Rattle.std.proofs.Common.{◌≡◌, inl, inr, ℕ, ◌<◌, ◌≤◌, List, length, map, get_or, Some, arith, refl, sym, ◌∙◌, ap, subst}
 use Rattle.std.specs.Prelude.{slice_get, option_map}
 use Rattle.std.proofs.lemmas.Bool.{cases_lt}
 use Rattle.std.proofs.lemmas.List.{length-map, get_or_default}
@@ -9,7 +9,7 @@ use Rattle.brake_base.specs.declared.stroke.Action.{Action}
 use Rattle.brake_base.specs.declared.stroke.Worth.{Worth}
 use Rattle.brake_base.specs.declared.reason.Reason.{Reason}
 use Rattle.brake_base.specs.declared.reason.Reason.TheVariants.{Cover}
-use Rattle.brake_base.specs.Actions.{IsActionAmong, number_of_action}
+use Rattle.brake_base.specs.Actions.{number_of_action}
 use Rattle.job_setup.specs.Setup.{JobData, bend_count, stage_count}
 use Rattle.job_setup.specs.ValidJob.{IsJob}
 use Rattle.handling_cost.specs.StepCost.{IsActionAt, IsFull}
@@ -19,6 +19,7 @@ use Rattle.handling_cost.proofs.Actions.{few_bends}
 use Rattle.handling_cost.proofs.Keys.{number_of_full}
 use Rattle.cert_lines.specs.declared.row_head.RowHead.{RowHead}
 use Rattle.plan_lines.specs.declared.note.Note.{Note}
+use Rattle.plan_lines.specs.LinesFit.{IsRow}
 use Rattle.cert_lines.specs.Lines.{action_at}
 use Rattle.plan_cert.specs.WellFormed.{NoteIsBefore, AreRowsOf, AreRows}
 use Rattle.plan_cert.specs.KeyPlaces.{key_place}
@@ -81,11 +82,9 @@ module _ (job : JobData) (is_job : IsJob job) (heads : List RowHead) (notes : Li
   numbered : (head : RowHead) (action : Action) → IsActionAt job head.key action →
       (number : ℕ) × (action ≡ action_at (stage_count job) number) × IsTried job head number
   numbered head action at =
-      let few = few_bends job is_job in
-      let last = at.last in
-      let fits : IsActionAmong 12 (stage_count job) action = record { first = at.first; last = omega (arith, few, last); stage = at.stage } in
-      let wide = number_below 12 (stage_count job) action at.first (omega (arith, few, last)) at.stage in
-      let is = action_of_number (stage_count job) action fits (omega (arith, wide)) in
+      let last : action.bend ≤ 12 = omega (arith, few_bends job is_job, at.last) in
+      let wide = number_below 12 (stage_count job) action at.first last at.stage in
+      let is = action_of_number (stage_count job) action (record { first = at.first; last = last; stage = at.stage }) (omega (arith, wide)) in
       (number_of_action (stage_count job) action, is, (number_below (bend_count job) (stage_count job) action at.first at.last at.stage, subst (IsActionAt job head.key) is at))
 
   -- where each action at each row is accounted for, the rows meet their condition
@@ -113,21 +112,22 @@ module _ (job : JobData) (is_job : IsJob job) (heads : List RowHead) (notes : Li
       let first : Note = record { row = row; action = number; reason = a } in
       let second : Note = record { row = row; action = number; reason = b } in
       elim (cases_lt k l) [
-        | inl before ↦ absurd (apart first second refl refl (subst2_notes (get_or notes k first) (get_or notes l first) first second (are.note_order k l first before l_within) k_is (get_or_default notes l first second l_within ∙ l_is)))
+        | inl before ↦ absurd (apart k l first second before l_within k_is l_is refl refl)
         | inr after ↦ elim (cases_lt l k) [
-          | inl before ↦ absurd (apart second first refl refl (subst2_notes (get_or notes l second) (get_or notes k second) second first (are.note_order l k second before k_within) l_is (get_or_default notes k second first k_within ∙ k_is)))
+          | inl before ↦ absurd (apart l k second first before k_within l_is k_is refl refl)
           | inr again ↦
               let same : k ≡ l = omega (arith, after, again) in
               ap (λ (n : Note). n.reason) (sym k_is ∙ (ap (λ (n : ℕ). get_or notes n first) same ∙ (get_or_default notes l first second l_within ∙ l_is)))
         ]
       ]
     where
-      apart : (x y : Note) → x.row ≡ y.row → x.action ≡ y.action → NoteIsBefore x y → ⊥
-      apart x y rows actions (inl less) = omega (arith, rows, less)
-      apart x y rows actions (inr less) = let more = less.1 in omega (arith, actions, more)
+      in_order : (x y : Note) → x.row ≡ y.row → x.action ≡ y.action → NoteIsBefore x y → ⊥
+      in_order x y rows actions (inl less) = omega (arith, rows, less)
+      in_order x y rows actions (inr less) = omega (arith, actions, less.1)
 
-      subst2_notes : (p q x y : Note) → NoteIsBefore p q → p ≡ x → q ≡ y → NoteIsBefore x y
-      subst2_notes p q x y before one two = subst (λ (n : Note). NoteIsBefore n y) one (subst (NoteIsBefore p) two before)
+      apart : (i j : ℕ) (x y : Note) → i < j → j < length notes → get_or notes i x ≡ x → get_or notes j y ≡ y → x.row ≡ y.row → x.action ≡ y.action → ⊥
+      apart i j x y before within one two rows actions =
+          in_order x y rows actions (subst (λ (n : Note). NoteIsBefore n y) one (subst (NoteIsBefore (get_or notes i x)) (get_or_default notes j x y within ∙ two) (are.note_order i j x before within)))
 
   -- where the rows meet their condition, each action at each row is accounted for
   pub accounted : MeetsCondition job (HaveRow heads) (HaveNote job heads notes) → (i number : ℕ) (head : RowHead) → slice_get heads i ≡ Some head → IsTried job head number → IsAccounted job heads notes i head number
@@ -142,10 +142,6 @@ module _ (job : JobData) (is_job : IsJob job) (heads : List RowHead) (notes : Li
   pub no_full : (key : Key) (worth : Worth) → HaveRow heads key worth → IsFull job key → ⊥
   no_full key worth row full =
       let of = row_of job is_job heads rows_of key worth row in
-      let its = are.each_row of.0 no_row of.1 in
-      let same : (get_or heads of.0 no_row).key ≡ key = ap (λ (row : RowHead). row.key) (of.2 no_row) in
-      let mask : key.mask.0 + 1 < 2 ^ bend_count job = subst (λ (k : Key). k.mask.0 + 1 < 2 ^ bend_count job) same its.mask in
-      let attitude : key.attitude < 24 = subst (λ (k : Key). k.attitude < 24) same its.attitude in
-      let stage : key.stage < stage_count job = subst (λ (k : Key). k.stage < stage_count job) same its.stage in
-      let number = number_of_full job is_job key (record { mask = omega (arith, mask); attitude = attitude; stage = stage }) full in
-      omega (arith, mask, number)
+      let its : IsRow job (record { key = key; worth = worth }) = subst (IsRow job) (of.2 no_row) (are.each_row of.0 no_row of.1) in
+      let number = number_of_full job is_job key (record { mask = omega (arith, its.mask); attitude = its.attitude; stage = its.stage }) full in
+      omega (arith, its.mask, number)

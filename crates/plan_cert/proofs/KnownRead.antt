@@ -1,9 +1,7 @@
 -- Known notes that are taken at once: what is made of their answers, and that others stand behind them.
-use Rattle.std.proofs.Common.{◌≡◌, ℕ, ◌+◌, ◌-◌, ◌<◌, ◌==◌, Bool, List, [], ◌∷◌, ◌++◌, length, drop, map, get_or, Some, Result, refl, sym, ap, ◌∙◌, arith}
-use Rattle.std.specs.Prelude.{if◌then◌else◌, slice_get}
+use Rattle.std.proofs.Common.{◌≡◌, ℕ, ◌+◌, ◌<◌, ◌==◌, List, [], ◌∷◌, ◌++◌, length, drop, map, inl, inr, subst, Result, refl, sym, ap, ◌∙◌, arith}
 use Rattle.std.specs.List.{list_any}
-use Rattle.std.proofs.lemmas.List.{append_assoc, append-nil, length-append, length-drop, length-map, get_or-drop, get_or-map, get_or_append_left}
-use Rattle.std.proofs.lemmas.Option.{slice_get-get_or}
+use Rattle.std.proofs.lemmas.List.{append_assoc, append-nil, length-append, length-drop, length-map}
 use Rattle.stage_lanes.specs.declared.actions.ActionSet.{ActionSet}
 use Rattle.stage_lanes.specs.ActionSets.{IsNone, places_of}
 use Rattle.plan_lines.specs.declared.note.Note.{Note}
@@ -13,10 +11,12 @@ use Rattle.plan_lines.specs.declared.item.CertFault.{CertFault}
 use Rattle.plan_lines.specs.Reading.{Reading}
 use Rattle.plan_cert.specs.Cert.{CertData}
 use Rattle.plan_lines.specs.Items.{items}
-use Rattle.plan_cert.specs.CertReading.{cert_of, with_item, with_known, last_row, answers_left, AnswersLeft}
+use Rattle.plan_cert.specs.CertReading.{cert_of, with_item, with_known, last_row}
 use Rattle.plan_lines.specs.NoteLines.{note_by}
 use Rattle.plan_lines.specs.NoteLines.{KnownReasons, number_at, reason_at, or_cover, note_told}
-use Rattle.plan_cert.proofs.Collecting.{goes_on}
+use Rattle.std.proofs.lemmas.Bool.{false≢true}
+use Rattle.plan_cert.proofs.Runs.{Ends}
+use Rattle.plan_cert.proofs.Collecting.{ends_items, ends_at, some_by}
 use Rattle.plan_lines.proofs.NoteSets.{any_place}
 
 -- what is made of the answers of known notes
@@ -30,23 +30,20 @@ known_read known (place ∷ places) before left =
     (append_assoc before.notes (note_by (last_row before) known place ∷ []) (map (note_by (last_row before) known) places))
 
 -- behind known notes an answer is left
+ends_behind : (known : KnownReasons) (places : List ℕ) (left : List (Result Item CertFault)) → Ends (map (note_told known) places ++ left) → Ends left
+ends_behind known [] left ends = ends
+ends_behind known (place ∷ places) left (inl last) = absurd (false≢true last.0)
+ends_behind known (place ∷ places) left (inr rest) = ends_behind known places left rest.1
+
 pub known_behind : (r : Reading) (known : KnownReasons) (places : List ℕ) → 0 < length places
     → drop r.answered (items r.kind r.text) ≡ map (note_told known) places ++ drop (r.answered + length places) (items r.kind r.text) → r.answered + length places < length (items r.kind r.text)
 known_behind r known places some told =
     let all = items r.kind r.text in
-    let k = length places - 1 in
     let behind = drop (r.answered + length places) all in
-    let last = note_told known (get_or places k 0) in
-    let whole : length (drop r.answered all) ≡ length (map (note_told known) places ++ behind) = ap (λ (xs : List (Result Item CertFault)). length xs) told in
     let count = length-map places (note_told known) in
-    let within : r.answered + k < length all = omega (arith, whole, count, some, length-append (map (note_told known) places) behind, length-drop r.answered all) in
-    let short : k < length places = omega (arith, some) in
-    let here : get_or all (r.answered + k) last ≡ last =
-    sym (get_or-drop r.answered all k last) ∙ ap (λ (xs : List (Result Item CertFault)). get_or xs k last) told
-    ∙ get_or_append_left (map (note_told known) places) behind last k (omega (arith, short, count)) ∙ get_or-map (note_told known) places k 0 last short in
-    let at : slice_get all (r.answered + k) ≡ Some last = slice_get-get_or all (r.answered + k) last within ∙ ap Some here in
-    let more = goes_on r.kind r.text (r.answered + k) (given.Note (number_at known.stages (get_or places k 0)) (or_cover (reason_at known (get_or places k 0)))) at refl in
-    omega (arith, more, some)
+    let within : r.answered < length all = omega (arith, ap length told, count, some, length-append (map (note_told known) places) behind, length-drop r.answered all) in
+    let ends = ends_behind known places behind (subst (λ a. Ends a) told (ends_at all r.answered (ends_items r.kind r.text) within)) in
+    omega (arith, some_by behind ends, length-drop (r.answered + length places) all)
 
 -- a set that isn't empty has a place
 some_or_none : (places : List ℕ) → (places ≡ [] → ⊥) → 0 < length places

@@ -1,12 +1,11 @@
 -- A certificate has at most 2048 times 144 times 144 notes: each is on a bend that isn't folded at its row's key, so the key is known
 -- from its set of folded bends without that bend, of which there are 2048, from its attitude and its stage.
-use Rattle.std.proofs.Common.{◌≡◌, ◌≢◌, inl, inr, ℕ, suc, ◌+◌, ◌-◌, ◌*◌, ◌/◌, ◌%◌, ◌^◌, ◌<◌, ◌≤◌, ◌==◌, Bool, true, false, List, length, get_or, arith, sym, ◌∙◌, ap, subst, add-one}
+use Rattle.std.proofs.Common.{◌≡◌, ◌≢◌, inl, inr, ℕ, suc, ◌+◌, ◌-◌, ◌*◌, ◌/◌, ◌%◌, ◌^◌, ◌<◌, ◌≤◌, ◌==◌, true, false, List, length, get_or, arith, sym, ◌∙◌, ap, subst, add-one}
 use Rattle.std.specs.Prelude.{AllPairs}
 use Rattle.std.specs.Int.{bit_at}
 use Rattle.std.proofs.Math.Nat.{mod-lt, div-lt_iff_lt-mul, mul_assoc, pow-le-pow_right}
 use Rattle.std.proofs.lemmas.Grind.{common_steps}
-use Rattle.std.proofs.lemmas.Bool.Decides.{eqb_tells}
-use Rattle.std.proofs.lemmas.Nat.{mul-add-lt, mul-le, same_from_place, div-add-mod', pow-add}
+use Rattle.std.proofs.lemmas.Nat.{pow_pos, mul-add-lt, same_from_place, div-add-mod', pow-add}
 use Rattle.std.proofs.lemmas.Nat.Bits.{bit_at-lt}
 use Rattle.brake_base.specs.declared.mask.Mask.{Mask}
 use Rattle.brake_base.specs.declared.stroke.Key.{Key}
@@ -19,8 +18,10 @@ use Rattle.handling_cost.proofs.Pigeonhole.{at_most}
 use Rattle.cert_lines.specs.declared.row_head.RowHead.{RowHead}
 use Rattle.plan_lines.specs.declared.note.Note.{Note}
 use Rattle.plan_cert.specs.KeyPlaces.{key_place}
-use Rattle.plan_cert.specs.WellFormed.{NoteIsBefore, AreRowsOf, AreRows}
-use Rattle.plan_cert.proofs.ReadWell.{small_of}
+use Rattle.plan_cert.specs.WellFormed.{NoteIsBefore, AreRows}
+use Rattle.plan_lines.proofs.Actions.{few_actions}
+use Rattle.plan_lines.proofs.ActionNumbers.{bend_of_number}
+use Rattle.plan_cert.proofs.Runs.{small_of}
 use Rattle.plan_cert.proofs.RowOrder.{no_row, row_grows}
 
 -- ---- a number without the bit of this power of two
@@ -41,21 +42,9 @@ cut_apart p m n some lacks_m lacks_n same =
     let high : m / p ≡ n / p = let half = parts.0 in omega (arith, lacks_m, lacks_n, half) in
     sym (div-add-mod' m p) ∙ ap (λ (h : ℕ). h * p + m % p) high ∙ ap (λ (l : ℕ). n / p * p + l) parts.1 ∙ div-add-mod' n p
 
-some_power : (i : ℕ) → 0 < 2 ^ i
-some_power i =
-    let low : 0 ≤ i = omega arith in
-    let one : 2 ^ 0 ≤ 2 ^ i = pow-le-pow_right {n = 2} (omega arith) low in
-    omega (arith, one)
-
 -- ---- the bend of an action's number, less 1
 abbrev bend_place : ℕ → ℕ → ℕ
 bend_place stages number = number / stages / 2
-
-few_bend : (bends stages number : ℕ) → bends ≤ 12 → number < 2 * bends * stages → bend_place stages number < 12
-few_bend bends stages number few below =
-    let some : 0 < stages = grind (arith, common_steps) in
-    let side : number / stages < 2 * bends = (div-lt_iff_lt-mul some).1 below in
-    omega (arith, side, few)
 
 -- a number for a note, by its row's key and its action's number
 note_code : ℕ → Key → ℕ → ℕ
@@ -77,48 +66,35 @@ code_below stages key number fits =
     let i = bend_place stages number in
     let p = 2 ^ i in
     let q = 2 ^ (11 - i) in
-    let bend = fits.bend in
-    let there : 11 - i + i ≡ 11 = omega (arith, bend) in
-    let here : i + (11 - i) ≡ 11 = omega (arith, bend) in
+    let there : 11 - i + i ≡ 11 = omega (arith, fits.bend) in
+    let here : i + (11 - i) ≡ 11 = omega (arith, fits.bend) in
     let all : q * p ≡ 2048 = sym (pow-add 2 (11 - i) i) ∙ ap (λ (n : ℕ). 2 ^ n) there in
     let back : p * q ≡ 2048 = sym (pow-add 2 i (11 - i)) ∙ ap (λ (n : ℕ). 2 ^ n) here in
     let twice : 2 * q * p ≡ 4096 = mul_assoc 2 q p ∙ ap (λ (n : ℕ). 2 * n) all in
-    let mask : key.mask.0 < 2 * q * p = let m = fits.mask in omega (arith, m, twice) in
-    let short = cut_small p q key.mask.0 (some_power i) mask in
-    let attitude = fits.attitude in
-    let stage = fits.stage in
-    let few = fits.few_stages in
-    let number_fits = fits.number_fits in
-    omega (arith, short, back, attitude, stage, few, number_fits)
+    let short = cut_small p q key.mask.0 (pow_pos i) (omega (arith, fits.mask, twice)) in
+    omega (arith, short, back, fits.attitude, fits.stage, fits.few_stages, fits.number_fits)
 
 code_apart : (stages : ℕ) (a b : Key) (m n : ℕ) → Fits stages a m → Fits stages b n → note_code stages a m ≡ note_code stages b n → (a ≡ b) × (m ≡ n)
 unfolding note_code
 code_apart stages a b m n one other same =
     let high : Key → ℕ → ℕ = λ key number. cut (2 ^ bend_place stages number) key.mask.0 in
     let low : Key → ℕ = λ key. key.attitude * 6 + key.stage in
-    let few = one.few_stages in
-    let stage_a : a.stage < 6 = let s = one.stage in omega (arith, s, few) in
-    let stage_b : b.stage < 6 = let s = other.stage in omega (arith, s, few) in
-    let low_a : low a < 144 = let t = one.attitude in omega (arith, t, stage_a) in
-    let low_b : low b < 144 = let t = other.attitude in omega (arith, t, stage_b) in
+    let stage_a : a.stage < 6 = omega (arith, one.stage, one.few_stages) in
+    let stage_b : b.stage < 6 = omega (arith, other.stage, one.few_stages) in
+    let low_a : low a < 144 = omega (arith, one.attitude, stage_a) in
+    let low_b : low b < 144 = omega (arith, other.attitude, stage_b) in
     let outer = same_from_place (high a m * 144 + low a) m (high b n * 144 + low b) n 144 one.number_fits other.number_fits same in
     let inner = same_from_place (high a m) (low a) (high b n) (low b) 144 low_a low_b outer.0 in
     let turn = same_from_place a.attitude a.stage b.attitude b.stage 6 stage_a stage_b inner.1 in
     let place : bend_place stages n ≡ bend_place stages m = ap (bend_place stages) (sym outer.1) in
     let cuts : high a m ≡ cut (2 ^ bend_place stages m) b.mask.0 = inner.0 ∙ ap (λ (i : ℕ). cut (2 ^ i) b.mask.0) place in
     let lacks : bit_at b.mask.0 (bend_place stages m) ≡ 0 = subst (λ (i : ℕ). bit_at b.mask.0 i ≡ 0) place other.lacks in
-    let mask : a.mask.0 ≡ b.mask.0 = cut_apart (2 ^ bend_place stages m) a.mask.0 b.mask.0 (some_power (bend_place stages m)) one.lacks lacks cuts in
+    let mask : a.mask.0 ≡ b.mask.0 = cut_apart (2 ^ bend_place stages m) a.mask.0 b.mask.0 (pow_pos (bend_place stages m)) one.lacks lacks cuts in
     (λ j. record { mask = record { 0 = mask j }; attitude = turn.0 j; stage = turn.1 j }, outer.1)
 
 -- ---- the notes of a job's rows
 zero_bit : (n : ℕ) → n < 2 → (n == 1) ≡ false → n ≡ 0
-zero_bit n few other_one = elim (eqb_tells n 1) [
-  | inl one ↦ absurd (clash (n == 1) one.0 other_one)
-  | inr other ↦ let never = other.1 in omega (arith, few, never)
-]
-  where
-    clash : (b : Bool) → b ≡ true → b ≡ false → ⊥
-    clash b is isnt = absurd cc
+zero_bit n few other_one = grind (arith, common_steps)
 
 -- a bend that leads a stroke isn't folded
 unfolded : (job : JobData) (mask : Mask) (place : ℕ) → is_lead job mask (place + 1) ≡ true → bit_at mask.0 place ≡ 0
@@ -126,12 +102,6 @@ unfolding has
 unfolded job mask place lead =
     let flat : has mask (suc place) ≡ false = ap (has mask) (sym (add-one place)) ∙ (lead_is job mask (place + 1) lead).flat in
     zero_bit (bit_at mask.0 place) (bit_at-lt mask.0 place) flat
-
--- there are at most 144 actions
-few_number : (bends stages number : ℕ) → bends ≤ 12 → stages ≤ 6 → number < 2 * bends * stages → number < 144
-few_number bends stages number few stages_few below =
-    let most = mul-le (2 * bends) stages 24 6 (omega (arith, few)) stages_few in
-    omega (arith, below, most)
 
 module _ (job : JobData) (valid : IsJob job) (rows : List RowHead) (notes : List Note) (are : AreRows job rows notes) where
   abbrev row_of : Note → RowHead
@@ -148,20 +118,16 @@ module _ (job : JobData) (valid : IsJob job) (rows : List RowHead) (notes : List
       let row = are.each_row note.row no_row is.row in
       let small = small_of job valid in
       let masks : 2 ^ bend_count job ≤ 2 ^ 12 = pow-le-pow_right (omega arith) small.bends in
-      let bend = few_bend (bend_count job) (stage_count job) note.action small.bends is.action in
+      let among = bend_of_number (bend_count job) (stage_count job) note.action is.action in
       record {
         few_stages = small.stages;
-        mask = let m = row.mask in omega (arith, masks, m);
+        mask = omega (arith, masks, row.mask);
         attitude = row.attitude;
         stage = row.stage;
-        number_fits = few_number (bend_count job) (stage_count job) note.action small.bends small.stages is.action;
-        bend = bend;
+        number_fits = omega (arith, few_actions note.action (bend_count job) (stage_count job) small.bends is.action, small.stages);
+        bend = omega (arith, among.1, small.bends);
         lacks = unfolded job (row_of note).key.mask (bend_place (stage_count job) note.action) (is.lead no_row);
       }
-
-  -- rows in order
-  ordered : AreRowsOf job rows
-  ordered = record { each = are.each_row; order = are.row_order }
 
   apart : AllPairs (λ (a b : Note). code a ≢ code b) notes
   apart i j d less within same =
@@ -172,10 +138,9 @@ module _ (job : JobData) (valid : IsJob job) (rows : List RowHead) (notes : List
     where
       by_order : NoteIsBefore (get_or notes i d) (get_or notes j d) → ((row_of (get_or notes i d)).key ≡ (row_of (get_or notes j d)).key) × ((get_or notes i d).action ≡ (get_or notes j d).action) → ⊥
       by_order (inl rows_less) parts =
-          let keys = row_grows job valid rows ordered (get_or notes i d).row (get_or notes j d).row no_row rows_less (are.each_note j d within).row in
-          let places = ap key_place parts.0 in
-          omega (arith, keys, places)
-      by_order (inr later) parts = let more = later.1 in let numbers = parts.1 in omega (arith, more, numbers)
+          let keys = row_grows job valid rows (record { each = are.each_row; order = are.row_order }) (get_or notes i d).row (get_or notes j d).row no_row rows_less (are.each_note j d within).row in
+          omega (arith, keys, ap key_place parts.0)
+      by_order (inr later) parts = omega (arith, later.1, parts.1)
 
   pub few_notes : length notes ≤ 42467328
   few_notes = at_most code 42467328 notes apart (λ k d within. code_below (stage_count job) (row_of (get_or notes k d)).key (get_or notes k d).action (fits k d within))

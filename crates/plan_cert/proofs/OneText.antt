@@ -1,5 +1,5 @@
 -- Two valid jobs of one text are one: a certificate without rows, which claims that there is no plan, tells them apart.
-use Rattle.std.proofs.Common.{◌≡◌, ℕ, List, [], ◌∷◌, ◌++◌, Ok, inl, refl, sym, ap, ◌∙◌, append_assoc, arith}
+use Rattle.std.proofs.Common.{◌≡◌, ℕ, List, [], ◌∷◌, ◌++◌, Ok, inl, refl, sym, ap, ◌∙◌, append_assoc}
 use Rattle.std.specs.Result.{result_ok}
 use Rattle.std.proofs.lemmas.Grind.{flat_map-append}
 use Rattle.std.proofs.lemmas.List.Elements.{All-nil}
@@ -10,25 +10,16 @@ use Rattle.job_setup.specs.ValidJob.{IsJob}
 use Rattle.cert_lines.specs.declared.format.Format.TheVariants.{Version2}
 use Rattle.cert_lines.specs.Lines.{CertLine, format_line, claim_line, end_line, line_text, lines_text}
 use Rattle.cert_lines.specs.JobText.{job_lines, job_text}
-use Rattle.plan_lines.specs.LinesFit.{IsStep, IsRow}
-use Rattle.plan_cert.specs.WellFormed.{IsNote, IsWellFormed}
+use Rattle.plan_lines.specs.LinesFit.{IsStep}
+use Rattle.plan_cert.specs.WellFormed.{IsWellFormed}
 use Rattle.plan_cert.specs.CertText.{rows_lines, cert_text2}
 use Rattle.plan_cert.specs.CertReading.{CertFileData, no_cert, cert_file_of}
 use Rattle.plan_cert.specs.ExactTexts.{IsTextOf, IsOnlyJobOf}
+use Rattle.plan_cert.proofs.ReadWell.{none_are}
 use Rattle.plan_cert.proofs.Exactly.{text_gives}
 
 no_rows : (job : JobData) → IsWellFormed job no_cert
-no_rows job = record {
-  claim = tt;
-  has_steps = refl;
-  steps = All-nil (IsStep job);
-  rows = record {
-    each_row = All-nil (IsRow job);
-    row_order = λ i j d before within. absurd (omega (arith, within));
-    each_note = All-nil (IsNote job []);
-    note_order = λ i j d before within. absurd (omega (arith, within));
-  };
-}
+no_rows job = record { claim = tt; has_steps = refl; steps = All-nil (IsStep job); rows = none_are job }
 
 behind_job : List CertLine
 behind_job = claim_line Blocked ∷ end_line ∷ []

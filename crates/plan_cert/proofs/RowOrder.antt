@@ -13,7 +13,6 @@ use Rattle.job_setup.specs.Setup.{JobData, bend_count, stage_count}
 use Rattle.job_setup.specs.ValidJob.{IsJob}
 use Rattle.handling_cost.proofs.Actions.{few_bends}
 use Rattle.cert_lines.specs.declared.row_head.RowHead.{RowHead}
-use Rattle.plan_lines.specs.LinesFit.{IsRow}
 use Rattle.plan_cert.specs.WellFormed.{AreRowsOf}
 use Rattle.plan_cert.specs.GoodCert.{worths_in, HaveRow}
 use Rattle.plan_cert.specs.KeyPlaces.{key_place, key_count}
@@ -40,11 +39,8 @@ pub few_stages : (job : JobData) → IsJob job → stage_count job ≤ 6
 few_stages job is_job = is_job.setup.stages.few_stages
 
 module _ (job : JobData) (is_job : IsJob job) (rows : List RowHead) (are : AreRowsOf job rows) where
-  row_is : (i : ℕ) (d : RowHead) → i < length rows → IsRow job (get_or rows i d)
-  row_is i d within = are.each i d within
-
   small_stage : (i : ℕ) (d : RowHead) → i < length rows → (get_or rows i d).key.stage < 6
-  small_stage i d within = let some = (row_is i d within).stage in let few = few_stages job is_job in omega (arith, some, few)
+  small_stage i d within = omega (arith, (are.each i d within).stage, few_stages job is_job)
 
   -- the number of the key of an earlier row is less
   pub row_grows : (i j : ℕ) (d : RowHead) → i < j → j < length rows → key_place (get_or rows i d).key < key_place (get_or rows j d).key
@@ -54,34 +50,28 @@ module _ (job : JobData) (is_job : IsJob job) (rows : List RowHead) (are : AreRo
       let one : KeyIsBefore (get_or keys i d.key) (get_or keys j d.key) = are.order i j d.key before inside in
       let first = get_or-map (λ (row : RowHead). row.key) rows i d d.key (omega (arith, before, within)) in
       let second = get_or-map (λ (row : RowHead). row.key) rows j d d.key within in
-      number_grows (get_or rows i d).key (get_or rows j d).key (row_is i d (omega (arith, before, within))).attitude (small_stage i d (omega (arith, before, within)))
+      number_grows (get_or rows i d).key (get_or rows j d).key (are.each i d (omega (arith, before, within))).attitude (small_stage i d (omega (arith, before, within)))
       (subst (λ (k : Key). KeyIsBefore k (get_or rows j d).key) first (subst (λ (k : Key). KeyIsBefore (get_or keys i d.key) k) second one))
 
   -- rows with one number are one row
   pub same_row : (i j : ℕ) (d : RowHead) → i < length rows → j < length rows → key_place (get_or rows i d).key ≡ key_place (get_or rows j d).key → i ≡ j
   same_row i j d first second same = elim (cases_lt i j) [
-    | inl before ↦ absurd (let less = row_grows i j d before second in omega (arith, less, same))
+    | inl before ↦ absurd (omega (arith, row_grows i j d before second, same))
     | inr after ↦ elim (cases_lt j i) [
-      | inl before ↦ absurd (let less = row_grows j i d before first in omega (arith, less, same))
+      | inl before ↦ absurd (omega (arith, row_grows j i d before first, same))
       | inr again ↦ omega (arith, after, again)
     ]
   ]
 
   pub number_within : (i : ℕ) (d : RowHead) → i < length rows → key_place (get_or rows i d).key < key_count job
   number_within i d within =
-      let row = row_is i d within in
-      let mask = row.mask in
-      let attitude = row.attitude in
-      let stage = small_stage i d within in
-      omega (arith, mask, attitude, stage)
+      let row = are.each i d within in
+      omega (arith, row.mask, row.attitude, small_stage i d within)
 
   -- a row's number is at most that of its key
   pub row_number : (i : ℕ) (d : RowHead) → i < length rows → i ≤ key_place (get_or rows i d).key
   row_number zero d within = omega arith
-  row_number (suc i) d within =
-      let before = row_number i d (omega (arith, within)) in
-      let less = row_grows i (suc i) d (omega arith) within in
-      omega (arith, before, less)
+  row_number (suc i) d within = omega (arith, row_number i d (omega (arith, within)), row_grows i (suc i) d (omega arith) within)
 
   pub few_keys : key_count job ≤ 589824
   few_keys = let less : 2 ^ bend_count job ≤ 2 ^ 12 = pow_mono (few_bends job is_job) in omega (arith, less)
@@ -91,10 +81,7 @@ module _ (job : JobData) (is_job : IsJob job) (rows : List RowHead) (are : AreRo
   few_rows = elim (cases_lt 0 (length rows)) [
     | inl some ↦
         let last : length rows - 1 < length rows = omega (arith, some) in
-        let number = row_number (length rows - 1) no_row last in
-        let within = number_within (length rows - 1) no_row last in
-        let few = few_keys in
-        omega (arith, some, number, within, few)
+        omega (arith, some, row_number (length rows - 1) no_row last, number_within (length rows - 1) no_row last, few_keys)
     | inr none ↦ omega (arith, none)
   ]
 

@@ -1,5 +1,5 @@
 -- The text of rows and their notes, row by row.
-use Rattle.std.proofs.Common.{◌≡◌, ℕ, suc, ◌+◌, ◌<◌, ◌≤◌, List, [], ◌∷◌, ◌++◌, length, take, drop, filter, get_or, map, ap, sym, ◌∙◌, refl, subst, arith, append_assoc, drop-cons}
+use Rattle.std.proofs.Common.{◌≡◌, ℕ, suc, ◌+◌, ◌<◌, ◌≤◌, List, ◌∷◌, ◌++◌, length, take, drop, get_or, map, ap, sym, ◌∙◌, subst, arith, append_assoc, drop-cons}
 use Rattle.std.specs.List.{flat_map, enumerate_from, prefix_len}
 use Rattle.std.proofs.lemmas.Grind.{flat_map-append}
 use Rattle.std.proofs.lemmas.List.{append-nil, drop_all}
@@ -8,18 +8,11 @@ use Rattle.cert_lines.specs.declared.row_head.RowHead.{RowHead}
 use Rattle.plan_lines.specs.declared.note.Note.{Note}
 use Rattle.cert_lines.specs.Lines.{CertLine, line_text, lines_text, row_line}
 use Rattle.plan_cert.specs.CertText.{line_of_note, row_lines, rows_lines}
-use Rattle.plan_cert.proofs.NoteOrder.{is_of, Ascend, SplitsAt, split}
+use Rattle.plan_cert.proofs.NoteOrder.{is_of, Ascend, SplitsAt, split, same_rows}
 
 -- the lines of the rows from a number on, with notes among which are theirs
 abbrev pub lines_from : ℕ → ℕ → List RowHead → List Note → List CertLine
 lines_from stages i rows notes = flat_map (row_lines stages notes) (enumerate_from i rows)
-
-same_lines : (stages i : ℕ) (rows : List RowHead) (rest notes : List Note) → ((j : ℕ) → i ≤ j → filter (is_of j) rest ≡ filter (is_of j) notes)
-    → lines_from stages i rows rest ≡ lines_from stages i rows notes
-same_lines stages i [] rest notes same = refl
-same_lines stages i (row ∷ rows) rest notes same =
-    ap (λ (ns : List Note). (row_line row ∷ map (line_of_note stages) ns) ++ lines_from stages (i + 1) rows rest) (same i (omega arith))
-    ∙ ap (λ (ls : List CertLine). (row_line row ∷ map (line_of_note stages) (filter (is_of i) notes)) ++ ls) (same_lines stages (i + 1) rows rest notes (λ j le. same j (omega arith)))
 
 -- the text of a row, of its notes, and of the rows behind it
 row_text : (stages i : ℕ) (row : RowHead) (rows : List RowHead) (rest : List Note) (count : ℕ) → SplitsAt i rest count
@@ -29,7 +22,7 @@ row_text stages i row rows rest count s =
     flat_map-append line_text (row_lines stages rest (i, row)) (lines_from stages (i + 1) rows rest)
     ∙ ap (λ (ns : List Note). (line_text (row_line row) ++ lines_text (map (line_of_note stages) ns)) ++ lines_text (lines_from stages (i + 1) rows rest)) (sym s.front)
     ∙ ap (λ (t : List ℕ). (line_text (row_line row) ++ t) ++ lines_text (lines_from stages (i + 1) rows rest)) (flat_map-map line_text (line_of_note stages) (take count rest))
-    ∙ ap (λ (ls : List CertLine). (line_text (row_line row) ++ flat_map (λ note. line_text (line_of_note stages note)) (take count rest)) ++ lines_text ls) (sym (same_lines stages (i + 1) rows (drop count rest) rest (λ j le. s.others j (omega arith))))
+    ∙ ap (λ (ls : List CertLine). (line_text (row_line row) ++ flat_map (λ note. line_text (line_of_note stages note)) (take count rest)) ++ lines_text ls) (sym (same_rows (λ row own. row_line row.1 ∷ map (line_of_note stages) own) (i + 1) rows (drop count rest) rest (λ j le. s.others j (omega arith))))
 
 -- one more row with its notes
 pub rows_more : (stages i : ℕ) (rows : List RowHead) (rest : List Note) (row : RowHead) (count : ℕ) (whole a b c : List ℕ) → i < length rows → row ≡ get_or rows i row → count ≡ prefix_len (is_of i) rest → Ascend i rest

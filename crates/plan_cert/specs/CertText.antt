@@ -1,6 +1,6 @@
 -- The texts of a certificate and of a table file: all have the lines of version 2, but for those
 -- that version 1 leaves out.
-use Rattle.std.specs.Prelude.{ℕ, ◌==◌, Bool, true, false, List, [], ◌∷◌, ◌++◌, map, filter}
+use Rattle.std.specs.Prelude.{ℕ, ◌==◌, List, [], ◌∷◌, ◌++◌, map, filter}
 use Rattle.std.specs.List.{flat_map, enumerate_from}
 use Rattle.job_setup.specs.Setup.{JobData, stage_count}
 use Rattle.cert_lines.specs.declared.row_head.RowHead.{RowHead}

@@ -1,9 +1,9 @@
 -- Which jobs and certificates have a text in version 1.
-use Rattle.std.specs.Prelude.{◌≡◌, pos, false, List, length, All}
+use Rattle.std.specs.Prelude.{◌≡◌, List, length}
 use Rattle.brake_base.specs.declared.stroke.Step.{Step}
 use Rattle.brake_base.specs.declared.stroke.Worth.{Worth}
 use Rattle.brake_base.specs.declared.stroke.Worth.TheVariants.{Cost, Blocked}
-use Rattle.job_setup.specs.Setup.{StageData, JobData, bend_count}
+use Rattle.job_setup.specs.Setup.{JobData, bend_count}
 use Rattle.plan_cert.specs.Cert.{CertData}
 use Rattle.cert_lines.specs.JobText.{IsJobOfVersion1}
 

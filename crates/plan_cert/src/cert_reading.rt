@@ -1,5 +1,5 @@
 //! A whole certificate from its text.
-ghost use Rattle.std.specs.Prelude.{◌≡◌, ◌+◌, ◌-◌, ◌^◌, min, ◌<◌, ◌≤◌, [], ◌∷◌, ◌++◌, length, OnOk, IfOk};
+ghost use Rattle.std.specs.Prelude.{◌≡◌, ◌+◌, ◌<◌, length, OnOk, IfOk};
 ghost use Rattle.toml_fields.specs.Results.{GivesOr};
 ghost use Rattle.plan_lines.specs.declared.item.CertFault.TheVariants.{NoMemory};
 ghost use Rattle.plan_cert.specs.Cert.{cert_data};
@@ -58,18 +58,11 @@ fn add_step(cert: &mut Cert, step: Step)
     }
 }
 
-/// The number of the last row, which stands still at the greatest number.
-fn last_row(cert: &Cert) -> u32
-    ensures { result ≡ min (length cert.now.rows.items - 1) (2 ^ 32 - 1) }
-{
-    (cert.rows.len().saturating_sub(1)).min(0xFFFF_FFFF) as u32
-}
-
-/// Adds a reason against an action at the last row.
+/// Adds a reason against an action at the last row, whose number stands still at the greatest.
 fn add_note(cert: &mut Cert, action: u8, reason: Reason) -> Result<(), AllocError>
     ensures { OnOk result (cert_data cert.new ≡ with_note (cert_data cert.old) action reason) }
 {
-    let row = last_row(cert);
+    let row = (cert.rows.len().saturating_sub(1)).min(0xFFFF_FFFF) as u32;
     cert.notes.push(Note {
         row,
         action,
@@ -78,32 +71,18 @@ fn add_note(cert: &mut Cert, action: u8, reason: Reason) -> Result<(), AllocErro
     Ok(())
 }
 
-/// Adds a row.
-fn add_row(cert: &mut Cert, row: RowHead) -> Result<(), AllocError>
-    ensures { OnOk result (cert_data cert.new
-        ≡ record (cert_data cert.old) { rows = (cert_data cert.old).rows ++ row ∷ [] }) }
-{
-    cert.rows.push(row)?;
-    Ok(())
-}
-
 /// Adds what an item says.
 fn add_item(cert: &mut Cert, item: PlanItem) -> Result<(), AllocError>
     ensures { OnOk result (cert_data cert.new ≡ with_item (cert_data cert.old) (item_of item)) }
 {
     match item {
-        PlanItem::Claim(claim) => {
-            cert.claim = claim;
-            Ok(())
-        }
-        PlanItem::Step(step) => {
-            add_step(cert, step);
-            Ok(())
-        }
-        PlanItem::Row(row) => add_row(cert, row),
-        PlanItem::Note { action, reason } => add_note(cert, action, reason),
-        PlanItem::End => Ok(()),
+        PlanItem::Claim(claim) => cert.claim = claim,
+        PlanItem::Step(step) => add_step(cert, step),
+        PlanItem::Row(row) => cert.rows.push(row)?,
+        PlanItem::Note { action, reason } => add_note(cert, action, reason)?,
+        PlanItem::End => (),
     }
+    Ok(())
 }
 
 /// Whether the item is the last.
@@ -114,6 +93,7 @@ fn is_last(item: &PlanItem) -> bool
 }
 
 /// Reads an item and adds what it says. Whether it was the last.
+#[tactic(auto, using(crate::proofs::Collecting::collects, crate::proofs::Collecting::refused))]
 fn take_item(cert: &mut Cert, reader: &mut CertReader) -> Result<bool, CertFault>
     requires job { 0 < reader.old.answered }
     requires left { AnswersLeft reader.old }
@@ -141,6 +121,7 @@ fn collect(cert: &mut Cert, reader: &mut CertReader) -> Result<(), CertFault>
 }
 
 /// The job, which is the first item.
+#[tactic(auto, using(crate::proofs::Collecting::begins))]
 fn first_job(reader: &mut CertReader) -> Result<Job, CertFault>
     requires { reader.old.answered ≡ 0 }
     ensures { BeginsWith reader.old result reader.new }
@@ -165,6 +146,7 @@ pub fn read_file(alloc: Global, text: &[u8], kind: TextKind) -> Result<CertFile,
 }
 
 /// The certificate that the text is, with its job and its version, or the first refusal.
+#[tactic(auto, using(crate::proofs::Exactly::exact, crate::proofs::Exactly::text_gives))]
 pub fn read_cert(alloc: Global, text: &[u8]) -> Result<CertFile, CertFault>
     ensures value { GivesOr NoMemory cert_file_data result (cert_file_of text.now) }
     ensures whole { IfOk result (λ file. IsReadFrom (cert_file_data file) text.now) }

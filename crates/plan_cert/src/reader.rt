@@ -33,29 +33,10 @@ impl<'a> Model for CertReader<'a> {
         (drop r.answered (items r.kind r.text.now)) × HasFew r.plan.place.facts };
 }
 
-/// The job as an item.
-fn job_item(answer: Result<Job, CertFault>) -> Result<Item, CertFault>
-    ensures { result ≡ job_answer answer }
-{
-    match answer {
-        Ok(job) => Ok(Item::Job(job)),
-        Err(fault) => Err(fault),
-    }
-}
-
-/// What a line behind the job gives, as an item.
-fn item_behind_job(answer: Result<PlanItem, CertFault>) -> Result<Item, CertFault>
-    ensures { result ≡ plan_answer answer }
-{
-    match answer {
-        Ok(item) => Ok(Item::from(item)),
-        Err(fault) => Err(fault),
-    }
-}
-
 impl<'a> CertReader<'a> {
     /// A reader of a certificate, in version 1 or 2. Its answers end with the end exactly where the
     /// text is a certificate's, and are then the certificate's items.
+    #[tactic(auto, using(crate::proofs::WholeTexts::reads_cert_texts))]
     pub fn new(text: &'a [u8]) -> Self
         ensures reader { result
             ≡ record { kind = TextKind.Certificate; text = text.now; answered = 0 } }
@@ -66,6 +47,7 @@ impl<'a> CertReader<'a> {
 
     /// A reader of a table file. Its answers end with the end exactly where the text is a table's,
     /// and are then the table's items.
+    #[tactic(auto, using(crate::proofs::WholeTexts::reads_table_texts))]
     pub fn table(text: &'a [u8]) -> Self
         ensures reader { result
             ≡ record { kind = TextKind.Table; text = text.now; answered = 0 } }
@@ -94,9 +76,9 @@ impl<'a> CertReader<'a> {
         ensures after { self.new ≡ record self.old { answered = self.old.answered + 1 } }
     {
         if self.answered == 0 {
-            job_item(self.read_job())
+            Ok(Item::Job(self.read_job()?))
         } else {
-            item_behind_job(self.next_behind_job())
+            Ok(Item::from(self.next_behind_job()?))
         }
     }
 
@@ -113,6 +95,7 @@ impl<'a> CertReader<'a> {
 
     /// The next answer behind the job, as `next` gives it, in a small value: what the line gives, or
     /// the refusal. It takes no memory.
+    #[tactic(auto, using(plan_lines::proofs::ItemCounts::few_items))]
     pub fn next_behind_job(&mut self) -> Result<PlanItem, CertFault>
         requires job { 0 < self.old.answered }
         requires left { self.old.answered < length (items self.old.kind self.old.text) }

@@ -94,6 +94,7 @@ pub fn put_reason(out: &mut Vec<u8>, reason: Reason) -> Result<(), AllocError>
 }
 
 /// The action of a number.
+#[tactic(auto, using(plan_lines::proofs::Actions::action_is))]
 fn action_at(stages: u8, number: u8) -> Action
     requires number { number < 24 * stages }
     requires stages { stages ≤ 6 }

@@ -53,7 +53,7 @@ fn put_steps(out: &mut Vec<u8>, steps: &[Step]) -> Result<(), AllocError>
 
 /// The text of a certificate of a job, in version 2: the job's lines, the claim, the steps, and
 /// the rows in order, each with its notes. It is shorter than 2^30 bytes.
-#[tactic(auto, using(cert_lines::proofs::Texts::pieces), unfolding(crate::specs::CertText::cert_text2))]
+#[tactic(auto, using(crate::proofs::CertTexts::actions_below))]
 pub fn write_cert(alloc: Global, job: &Job, cert: &Cert) -> Result<Vec<u8>, AllocError>
     requires { IsWellFormed job.now (cert_data cert.now) }
     ensures text { IfOk result (λ text. text.items ≡ cert_text2 job.now (cert_data cert.now)) }

@@ -1,5 +1,5 @@
 -- The numbers of a job's actions.
-use Rattle.std.proofs.Common.{◌≡◌, ℕ, ◌+◌, ◌-◌, ◌*◌, ◌/◌, ◌%◌, ◌<◌, ◌≤◌, ◌==◌, arith, refl, if◌then◌else◌}
+use Rattle.std.proofs.Common.{◌≡◌, ℕ, ◌+◌, ◌-◌, ◌*◌, ◌/◌, ◌<◌, ◌≤◌, arith, refl}
 use Rattle.std.proofs.Math.Nat.{mod-lt, div-lt_iff_lt-mul, mul-le-mul_right}
 use Rattle.std.proofs.lemmas.Grind.{common_steps}
 use Rattle.brake_base.specs.declared.stroke.Back.{Back}
@@ -8,10 +8,7 @@ use Rattle.brake_base.specs.declared.stroke.Action.{Action}
 use Rattle.brake_base.specs.Actions.{IsActionAmong, back_number, number_of_action}
 use Rattle.brake_base.proofs.Actions.{split_number}
 use Rattle.cert_lines.specs.Lines.{action_at}
-use Rattle.plan_lines.proofs.Actions.{action_is}
-
-side_is : (n : ℕ) → back_number (if n % 2 == 0 then Parent else Child) ≡ n % 2
-side_is n = grind (arith, common_steps)
+use Rattle.plan_lines.proofs.Actions.{action_is, side_is}
 
 -- the number of the action of a number
 pub number_is : (stages number : ℕ) → number_of_action stages (action_at stages number) ≡ number

@@ -8,7 +8,7 @@ use Rattle.brake_base.specs.Actions.{IsActionAmong, back_number, number_of_actio
 use Rattle.brake_base.proofs.Actions.{same_number, split_number}
 use Rattle.cert_lines.specs.Lines.{action_at}
 
-side_is : (n : ℕ) → back_number (if n % 2 == 0 then Parent else Child) ≡ n % 2
+pub side_is : (n : ℕ) → back_number (if n % 2 == 0 then Parent else Child) ≡ n % 2
 side_is n = grind (arith, common_steps)
 
 pub in_range : (stages number : ℕ) → number < 24 * stages → IsActionAmong 12 stages (action_at stages number)

@@ -1,7 +1,8 @@
 -- How many answers a text has.
-use Rattle.std.proofs.Common.{inl, inr, map, ◌≡◌, ℕ, zero, suc, ◌+◌, ◌<◌, ◌≤◌, Bool, true, false, List, [], ◌∷◌, length, drop, Option, Some, None, Result, refl, ap, ◌∙◌, arith}
-use Rattle.std.specs.Prelude.{if◌then◌else◌, slice_get}
-use Rattle.std.proofs.lemmas.List.{length-append}
+use Rattle.std.proofs.Common.{inl, inr, map, ◌≡◌, ℕ, zero, suc, ◌+◌, ◌<◌, ◌≤◌, List, [], ◌∷◌, length, drop, Some, Result, refl, ap, sym, ◌∙◌, arith}
+use Rattle.std.specs.Prelude.{slice_get}
+use Rattle.std.proofs.lemmas.Bool.{cond_both}
+use Rattle.std.proofs.lemmas.List.{drop-drop, length-append, length-drop}
 use Rattle.std.proofs.lemmas.List.Splits.{length-slice_split}
 use Rattle.std.proofs.lemmas.List.Sums.{count_by-le-length}
 use Rattle.brake_text.specs.Lines.{is_line_feed}
@@ -24,14 +25,11 @@ use Rattle.plan_lines.proofs.JobSplits.{Shaped, Begins, lines_begin}
 few_behind : (format : Format) (job : JobData) (n : ℕ) (section : Section) (lines : List (List ℕ)) → length (plan_items format job n section lines) ≤ length lines
 unfolding plan_items
 few_behind format job n section [] = omega arith
-few_behind format job n section (line ∷ rest) = by_test (is_over section) (few_behind format job (next_number n) (plan_item format job n section line rest).1 rest)
-  where
-    more : List (Result Item CertFault)
-    more = plan_items format job (next_number n) (plan_item format job n section line rest).1 rest
-
-    by_test : (over : Bool) → length more ≤ length rest → length (if over then [] else (plan_item format job n section line rest).0 ∷ more) ≤ length (line ∷ rest)
-    by_test true few = omega arith
-    by_test false few = omega (arith, few)
+few_behind format job n section (line ∷ rest) =
+    let next = plan_item format job n section line rest in
+    let more = plan_items format job (next_number n) next.1 rest in
+    let few = few_behind format job (next_number n) next.1 rest in
+    cond_both (is_over section) [] (next.0 ∷ more) (λ answers. length answers ≤ length (line ∷ rest)) (λ over. omega arith) (λ on. omega (arith, few))
 
 few_of_lines : (kind : TextKind) (lines : List (List ℕ)) → 0 < length lines → length (items_of_lines kind lines) ≤ length lines + 1
 few_of_lines kind lines some = by_shape (lines_begin kind lines some)
@@ -56,35 +54,16 @@ few_items kind text = omega (arith, few_of_lines kind (lines_in text) (some_line
 
 -- the answer at a number, and those behind it
 pub answer_at : (answers more : List (Result Item CertFault)) (i : ℕ) (given : Result Item CertFault) → drop i answers ≡ given ∷ more → slice_get answers i ≡ Some given
-answer_at [] more i given e = absurd (no_cons i e)
+answer_at answers more i given e = first answers i ∙ ap (λ (left : List (Result Item CertFault)). slice_get left 0) e
   where
-    no_cons : (i : ℕ) → drop i [] ≡ given ∷ more → ⊥
-    no_cons zero e = absurd (cc)
-    no_cons (suc i) e = absurd (cc)
-answer_at (answer ∷ answers) more zero given e = ap head e
-  where
-    head : List (Result Item CertFault) → Option (Result Item CertFault)
-    head [] = None
-    head (x ∷ xs) = Some x
-answer_at (answer ∷ answers) more (suc i) given e = answer_at answers more i given e
+    first : (xs : List (Result Item CertFault)) (i : ℕ) → slice_get xs i ≡ slice_get (drop i xs) 0
+    first [] zero = refl
+    first [] (suc i) = refl
+    first (x ∷ xs) zero = refl
+    first (x ∷ xs) (suc i) = first xs i
 
 pub answers_behind : (answers more : List (Result Item CertFault)) (i : ℕ) (given : Result Item CertFault) → drop i answers ≡ given ∷ more → drop (i + 1) answers ≡ more
-answers_behind answers more i given e = let one : i + 1 ≡ suc i = omega arith in rw one (step answers i e)
-  where
-    tail : List (Result Item CertFault) → List (Result Item CertFault)
-    tail [] = []
-    tail (x ∷ xs) = xs
-
-    tail_is : (xs : List (Result Item CertFault)) (i : ℕ) → drop (suc i) xs ≡ tail (drop i xs)
-    tail_is [] zero = refl
-    tail_is [] (suc i) = refl
-    tail_is (x ∷ xs) zero = refl
-    tail_is (x ∷ xs) (suc i) = tail_is xs i
-
-    step : (xs : List (Result Item CertFault)) (i : ℕ) → drop i xs ≡ given ∷ more → drop (suc i) xs ≡ more
-    step xs i e = tail_is xs i ∙ ap tail e
+answers_behind answers more i given e = sym (drop-drop 1 i answers) ∙ ap (λ (left : List (Result Item CertFault)). drop 1 left) e
 
 pub some_left : (answers : List (Result Item CertFault)) (i : ℕ) → i < length answers → 0 < length (drop i answers)
-some_left [] i within = absurd (omega arith)
-some_left (answer ∷ answers) zero within = omega arith
-some_left (answer ∷ answers) (suc i) within = some_left answers i (omega arith)
+some_left answers i within = omega (arith, within, length-drop i answers)

@@ -1,7 +1,7 @@
 -- What a text gives: a refusal alone, or behind its format and the lines of a valid job this job and what the other lines give.
-use Rattle.std.proofs.Common.{inl, inr, length, ◌<◌, arith, ◌≡◌, ℕ, Bool, true, false, ◌&&◌, List, [], ◌∷◌, ◌++◌, codes, map, Option, Some, None, Result, Ok, Err, refl, ap, subst, ◌∙◌}
-use Rattle.std.specs.Prelude.{◌⊎◌, if◌then◌else◌}
-use Rattle.std.proofs.lemmas.Bool.{and_parts}
+use Rattle.std.proofs.Common.{inl, inr, length, ◌<◌, arith, ◌≡◌, ℕ, true, ◌&&◌, List, [], ◌∷◌, ◌++◌, codes, map, Option, Some, None, Result, Ok, Err, refl, ap, subst, ◌∙◌}
+use Rattle.std.specs.Prelude.{◌⊎◌}
+use Rattle.std.proofs.lemmas.Bool.{and_parts, cond_both}
 use Rattle.job_setup.specs.Setup.{JobData, bend_count, stage_count}
 use Rattle.job_setup.specs.ValidJob.{IsJob}
 use Rattle.cert_lines.specs.Lines.{lines_of_format}
@@ -36,41 +36,36 @@ use Rattle.cert_lines.proofs.Spelling.{by_word}
 abbrev pub Shaped : List (Result Item CertFault) → Type 0 → Type 0
 Shaped answers P = ((fault : CertFault) × (answers ≡ Err fault ∷ [])) ⊎ P
 
+-- the job lines are those of a valid job, and then these lines give the items behind the job
+record Ends (end : JobLinesData) (rest : List (List ℕ)) (answers : List (Result Item CertFault)) : Type 0 where
+  complete : is_complete end.section ≡ true
+  sound : end.is_sound ≡ true
+  valid : IsJob (job_of end)
+  number : ℕ
+  some : 0 < length rest
+  behind : answers ≡ Ok (given.Job (job_of end)) ∷ plan_items end.format (job_of end) number (first_section end.format) rest
+
 -- lines are job lines of a valid job up to a place from which the items behind the job are read
 record Splits (s : JobLinesData) (lines : List (List ℕ)) (answers : List (Result Item CertFault)) : Type 0 where
   taken : List CertLine
   end : JobLinesData
-  fold : all_by take s taken ≡ Some end
-  complete : is_complete end.section ≡ true
-  sound : end.is_sound ≡ true
-  valid : IsJob (job_of end)
   rest : List (List ℕ)
-  number : ℕ
-  some : 0 < length rest
+  fold : all_by take s taken ≡ Some end
   lines_are : lines ≡ map line_bytes taken ++ rest
-  behind : answers ≡ Ok (given.Job (job_of end)) ∷ plan_items end.format (job_of end) number (first_section end.format) rest
+  ends : Ends end rest answers
 
 judged_splits : (n : ℕ) (s : JobLinesData) (rest : List (List ℕ)) → is_complete s.section ≡ true → 0 < length rest → Shaped (judged_items n s rest) (Splits s rest (judged_items n s rest))
-judged_splits n s rest complete some = by_test (s.is_sound && is_job (job_of s)) refl
-  where
-    answers : Bool → List (Result Item CertFault)
-    answers b = if b then Ok (given.Job (job_of s)) ∷ plan_items s.format (job_of s) n (first_section s.format) rest else Err faults.BadJob ∷ []
-
-    by_test : (b : Bool) → (s.is_sound && is_job (job_of s)) ≡ b → Shaped (answers b) (Splits s rest (answers b))
-    by_test true is =
-        let parts = and_parts s.is_sound (is_job (job_of s)) is in
-        inr (record { taken = []; end = s; fold = refl; complete = complete; sound = parts.0; valid = (job_decided (job_of s)).0 parts.1; rest = rest; number = n; some = some; lines_are = refl; behind = refl })
-    by_test false is = inl (faults.BadJob, refl)
+judged_splits n s rest complete some =
+    cond_both (s.is_sound && is_job (job_of s)) (Ok (given.Job (job_of s)) ∷ plan_items s.format (job_of s) n (first_section s.format) rest) (Err faults.BadJob ∷ []) (λ answers. Shaped answers (Splits s rest answers))
+    (λ is. let parts = and_parts s.is_sound (is_job (job_of s)) is in
+    inr (record { taken = []; end = s; rest = rest; fold = refl; lines_are = refl; ends = record { complete = complete; sound = parts.0; valid = (job_decided (job_of s)).0 parts.1; number = n; some = some; behind = refl } }))
+    (λ is. inl (faults.BadJob, refl))
 
 behind_splits : (n : ℕ) (s : JobLinesData) (line : List ℕ) (rest : List (List ℕ)) → Shaped (items_behind n s line rest) (Splits s (line ∷ rest) (items_behind n s line rest))
-behind_splits n s line rest = by_test (may_be_judged s line) refl
-  where
-    answers : Bool → List (Result Item CertFault)
-    answers b = if b then judged_items n s (line ∷ rest) else Err (faults.BadLine n) ∷ []
-
-    by_test : (b : Bool) → may_be_judged s line ≡ b → Shaped (answers b) (Splits s (line ∷ rest) (answers b))
-    by_test true is = judged_splits n s (line ∷ rest) ((and_parts (is_complete s.section) (may_follow_job s.format (bend_count (job_of s)) (stage_count (job_of s)) line) is).0) (omega arith)
-    by_test false is = inl (faults.BadLine n, refl)
+behind_splits n s line rest =
+    cond_both (may_be_judged s line) (judged_items n s (line ∷ rest)) (Err (faults.BadLine n) ∷ []) (λ answers. Shaped answers (Splits s (line ∷ rest) answers))
+    (λ is. judged_splits n s (line ∷ rest) ((and_parts (is_complete s.section) (may_follow_job s.format (bend_count (job_of s)) (stage_count (job_of s)) line) is).0) (omega arith))
+    (λ is. inl (faults.BadLine n, refl))
 
 one_more : (s t : JobLinesData) (line : List ℕ) (rest : List (List ℕ)) (answers : List (Result Item CertFault)) → Leads (take s) line t → Shaped answers (Splits t rest answers) → Shaped answers (Splits s (line ∷ rest) answers)
 one_more s t line rest answers leads (inl refused) = inl refused
@@ -79,15 +74,10 @@ one_more s t line rest answers leads (inr splits) =
     inr (record {
       taken = first ∷ splits.taken;
       end = splits.end;
-      fold = ap (λ (o : Option JobLinesData). o >>= λ u. all_by take u splits.taken) takes ∙ splits.fold;
-      complete = splits.complete;
-      sound = splits.sound;
-      valid = splits.valid;
       rest = splits.rest;
-      number = splits.number;
-      some = splits.some;
+      fold = ap (λ (o : Option JobLinesData). o >>= λ u. all_by take u splits.taken) takes ∙ splits.fold;
       lines_are = ap (λ (l : List ℕ). l ∷ rest) is ∙ ap (λ (ls : List (List ℕ)). line_bytes first ∷ ls) splits.lines_are;
-      behind = splits.behind;
+      ends = splits.ends;
     })
 
 job_splits : (n : ℕ) (s : JobLinesData) (lines : List (List ℕ)) → 0 < length lines → Shaped (job_items n s lines) (Splits s lines (job_items n s lines))
@@ -129,18 +119,18 @@ format_begins : (kind : TextKind) (f : Format) (line : List ℕ) (rest : List (L
 format_begins kind f line rest answers named is (inl refused) = inl refused
 format_begins kind f line rest answers named is (inr splits) =
     let job = job_of splits.end in
-    let told = spelled f splits.end splits.taken splits.fold splits.complete splits.sound in
+    let told = spelled f splits.end splits.taken splits.fold (splits.ends).complete (splits.ends).sound in
     inr (record {
       job = job;
       format = f;
       named = subst (λ (l : List ℕ). format_of kind l ≡ Some f) is named;
-      valid = splits.valid;
+      valid = (splits.ends).valid;
       tells = told.1;
       rest = splits.rest;
-      number = splits.number;
-      some = splits.some;
+      number = (splits.ends).number;
+      some = (splits.ends).some;
       lines_are = ap (λ (l : List ℕ). l ∷ rest) is ∙ ap (λ (ls : List (List ℕ)). line_bytes (format_line f) ∷ ls) (splits.lines_are ∙ ap (λ (ls : List CertLine). map line_bytes ls ++ splits.rest) told.0);
-      behind = splits.behind ∙ ap (λ (g : Format). Ok (given.Job job) ∷ plan_items g job splits.number (first_section g) splits.rest) (fold_format (no_lines f) splits.end splits.taken splits.fold);
+      behind = (splits.ends).behind ∙ ap (λ (g : Format). Ok (given.Job job) ∷ plan_items g job (splits.ends).number (first_section g) splits.rest) (fold_format (no_lines f) splits.end splits.taken splits.fold);
     })
 
 pub lines_begin : (kind : TextKind) (lines : List (List ℕ)) → 0 < length lines → Shaped (items_of_lines kind lines) (Begins kind lines (items_of_lines kind lines))

@@ -1,12 +1,11 @@
 -- A line behind the job is read exactly where it is the text of a line that fits the job.
 use Rattle.std.proofs.Common.{◌≡◌, ℕ, zero, suc, ◌+◌, ◌-◌, ◌^◌, ◌<◌, ◌≤◌, List, [], ◌∷◌, ◌++◌, codes, Option, Some, None, refl, sym, ap, subst, ◌∙◌, arith}
+use Rattle.std.specs.Prelude.{◌↔◌}
 use Rattle.std.proofs.lemmas.Grind.{flat_map-append}
 use Rattle.std.proofs.Math.Nat.{pow-le-pow_right}
 use Rattle.brake_base.specs.declared.plane.Quarter.{Quarter}
-use Rattle.brake_base.specs.declared.stroke.Half.{Half}
 use Rattle.brake_base.specs.declared.stroke.Action.{Action}
 use Rattle.brake_base.specs.declared.stroke.Gauge.{Gauge}
-use Rattle.brake_base.specs.declared.stroke.Step.{Step}
 use Rattle.brake_base.specs.declared.stroke.Key.{Key}
 use Rattle.brake_base.specs.declared.stroke.Worth.{Worth}
 use Rattle.brake_base.specs.declared.reason.Reason.{Reason}
@@ -15,7 +14,7 @@ use Rattle.brake_base.specs.Actions.{IsActionAmong}
 use Rattle.brake_base.specs.Reasons.{kind_of, quarter_number}
 use Rattle.job_setup.specs.Setup.{JobData, bend_count, stage_count}
 use Rattle.handling_cost.specs.StepCost.{IsActionOf}
-use Rattle.cert_words.specs.LineWords.{◌>>=◌, alone, then_in, as_in, count_at, kind_at, back_of, half_of, quarter_of, worth_of}
+use Rattle.cert_words.specs.LineWords.{◌>>=◌, then_in, as_in, count_at, kind_at, back_of, half_of, quarter_of, worth_of}
 use Rattle.cert_words.specs.PlanWords.{action_at, gauge_at, step_in, claim_in, key_at, row_in, meeting_in, arguments_in, reason_in, note_in}
 use Rattle.cert_lines.specs.declared.row_head.RowHead.{RowHead}
 use Rattle.plan_lines.specs.declared.section.PlanLine.{PlanLine}
@@ -72,29 +71,43 @@ note_among bends stages text action reason e = subst (λ x. Each Among x) e each
         each_then (λ (a : Action × List ℕ). IsToldAction bends stages a.0 × (text ≡ spelled (action_words a.0) ++ a.1)) Among (action_at bends stages text) (λ a. reason_in stages a.1 >>= λ r. Some (a.0, r)) ((action_told bends stages).only text)
         (λ a is. each_then Any Among (reason_in stages a.1) (λ r. Some (a.0, r)) (each_any (reason_in stages a.1)) (λ r any. let low = is.0.bend.low in let high = is.0.bend.high in record { first = low; last = omega (arith, high); stage = is.0.stage.high }))
 
+-- the same of what meets a rule that says as much
+fits_reads : {A : Type 0} {P : A → Type 0} {v : A → List (List ℕ)} {f : List ℕ → Option (A × List ℕ)} (Q : A → Type 0) → ((x : A) → Q x → P x) → ((x : A) → P x → Q x) → ReadsWords P v f → ReadsWords Q v f
+fits_reads {A} {P} {v} {f} Q from to one = record {
+  back = λ x rest fits ends. one.back x rest (from x fits) ends;
+  only = λ text.
+      each_weaker (λ (x : A × List ℕ). P x.0 × (text ≡ spelled (v x.0) ++ x.1)) (λ (x : A × List ℕ). Q x.0 × (text ≡ spelled (v x.0) ++ x.1)) (f text)
+      (λ x is. (to x.0 is.0, is.1)) (one.only text);
+  plain = λ x fits. one.plain x (from x fits);
+}
+
 -- a number below an end that isn't large
 abbrev InRange : ℕ → ℕ → ℕ → Type 0
 InRange low end n = (low ≤ n) × (n < end)
 
 range_reads : (low end : ℕ) → end ≤ 4096 → ReadsWords (InRange low end) (λ n. number n ∷ []) (count_at low end)
-range_reads low end few = record {
-  back = λ n rest fits ends. (count_reads low end).back n rest (told n fits) ends;
-  only = λ text.
-      each_weaker (λ (x : ℕ × List ℕ). IsCount low end x.0 × (text ≡ spelled (number x.0 ∷ []) ++ x.1)) (λ (x : ℕ × List ℕ). InRange low end x.0 × (text ≡ spelled (number x.0 ∷ []) ++ x.1)) (count_at low end text)
-      (λ x is. ((is.0.low, is.0.high), is.1)) ((count_reads low end).only text);
-  plain = λ n fits. (count_reads low end).plain n (told n fits);
-}
-  where
-    told : (n : ℕ) → InRange low end n → IsCount low end n
-    told n fits = record { low = fits.0; high = fits.1; short = omega (arith, few, fits.1) }
+range_reads low end few =
+    fits_reads (InRange low end) (λ n fits. record { low = fits.0; high = fits.1; short = omega (arith, few, fits.1) }) (λ n is. (is.low, is.high)) (count_reads low end)
+
+-- what is read to the end, as something else
+only_as : {A B : Type 0} {P : A → Type 0} {v : A → List (List ℕ)} {f : List ℕ → Option A} (Q : B → Type 0) (to : A → B) (text : List ℕ) → ((a : A) → P a → text ≡ spelled (v a) → Q (to a)) → ReadsAll P v f → Each Q (as_in to f text)
+only_as {A} {B} {P} {v} {f} Q to text fits reads =
+    each_then (λ (a : A). P a × (text ≡ spelled (v a))) Q (f text) (λ a. Some (to a)) (reads.only text) (λ a is. fits a is.0 is.1)
+
+told_as : {A B : Type 0} {P : A → Type 0} {v : A → List (List ℕ)} {f : List ℕ → Option A} (to : A → B) (a : A) → P a → ReadsAll P v f → (as_in to f (spelled (v a)) ≡ Some (to a)) × ArePlain (v a)
+told_as {A} to a fits reads = (ap (λ (o : Option A). o >>= λ x. Some (to x)) (reads.back a fits), reads.plain a fits)
 
 -- steps
 action_reads : (job : JobData) → IsSmall job → ReadsWords (IsActionOf job) action_words (action_at (bend_count job) (stage_count job))
-unfolding action_at
 action_reads job small =
-    as_reads (IsActionOf job) action_words (λ x. record { bend = x.0; back = x.1.0; stage = x.1.1 }) (λ a. (a.bend, (a.back, a.stage))) (λ a. refl)
-    (λ a is. ((is.first, omega (arith, is.last)), (tt, (omega arith, is.stage)))) (λ x is. record { first = is.0.0; last = omega (arith, is.0.1); stage = is.1.1.1 }) (λ a. refl) (λ x. refl)
-    (both_reads (range_reads 1 (bend_count job + 1) (omega (arith, small.bends))) (both_reads back_reads (range_reads 0 (stage_count job) (omega (arith, small.stages)))))
+    let bends = small.bends in
+    let stages = small.stages in
+    fits_reads (IsActionOf job)
+    (λ a is. let last = is.last in let stage = is.stage in record {
+      bend = record { low = is.first; high = omega (arith, last); short = omega (arith, last, bends) };
+      stage = record { low = omega arith; high = stage; short = omega (arith, stage, stages) };
+    })
+    (λ a is. let high = is.bend.high in record { first = is.bend.low; last = omega (arith, high); stage = is.stage.high }) (action_told (bend_count job) (stage_count job))
 
 abbrev gauge_words : Gauge → List (List ℕ)
 gauge_words gauge = number gauge.left_face ∷ number gauge.right_face ∷ []
@@ -129,14 +142,11 @@ unfolding key_at
 key_reads job small =
     let masks : 2 ^ bend_count job ≤ 2 ^ 12 = pow-le-pow_right (omega arith) small.bends in
     as_reads (IsKey job) (λ k. number k.0 ∷ number k.1 ∷ number k.2 ∷ []) (λ x. (x.0, x.1.0, x.1.1)) (λ k. (k.0, (k.1, k.2))) (λ k. refl)
-    (λ k is. ((omega arith, below k.0 (2 ^ bend_count job) is.0), ((omega arith, is.1), (omega arith, is.2)))) (λ x is. (above x.0 (2 ^ bend_count job) is.0.1, is.1.0.1, is.1.1.1)) (λ k. refl) (λ x. refl)
+    (λ k is. ((omega arith, (edge k.0 (2 ^ bend_count job)).0 is.0), ((omega arith, is.1), (omega arith, is.2)))) (λ x is. ((edge x.0 (2 ^ bend_count job)).1 is.0.1, is.1.0.1, is.1.1.1)) (λ k. refl) (λ x. refl)
     (both_reads (range_reads 0 (2 ^ bend_count job - 1) (omega (arith, masks))) (both_reads (range_reads 0 24 (omega arith)) (range_reads 0 (stage_count job) (omega (arith, small.stages)))))
   where
-    below : (n end : ℕ) → n + 1 < end → n < end - 1
-    below n end lt = omega (arith, lt)
-
-    above : (n end : ℕ) → n < end - 1 → n + 1 < end
-    above n end lt = omega (arith, lt)
+    edge : (n end : ℕ) → (n + 1 < end) ↔ (n < end - 1)
+    edge n end = (λ lt. omega (arith, lt), λ lt. omega (arith, lt))
 
 abbrev pub row_of : Key × Worth → RowHead
 row_of x = record { key = x.0; worth = x.1 }
@@ -164,76 +174,49 @@ meeting_reads end few =
 abbrev OfKind : JobData → ℕ → List ℕ → Reason → Type 0
 OfKind job kind text reason = IsReasonInRange job reason × (kind_of reason ≡ kind) × (text ≡ spelled (argument_words reason))
 
-met_only : (job : JobData) (kind end : ℕ) (reason : ℕ × Quarter × ℕ → Reason) (text : List ℕ) → end ≤ 64 → ((m : ℕ × Quarter × ℕ) → IsMeeting end m → IsReasonInRange job (reason m)) → ((m : ℕ × Quarter × ℕ) → kind_of (reason m) ≡ kind)
-    → ((m : ℕ × Quarter × ℕ) → argument_words (reason m) ≡ meeting_words m.0 m.1 m.2) → Each (OfKind job kind text) (as_in reason (meeting_in end) text)
-met_only job kind end reason text few fits of words =
-    each_then (λ (m : ℕ × Quarter × ℕ). IsMeeting end m × (text ≡ spelled (meeting_words m.0 m.1 m.2))) (OfKind job kind text) (meeting_in end text) (λ m. Some (reason m)) ((meeting_reads end few).only text)
-    (λ m is. (fits m is.0, of m, is.1 ∙ ap (λ (ws : List (List ℕ)). spelled ws) (sym (words m))))
-
 arguments_only : (job : JobData) (kind : ℕ) (text : List ℕ) → IsSmall job → 1 ≤ kind → kind < 10 → Each (OfKind job kind text) (arguments_in (stage_count job) kind text)
 unfolding arguments_in
 arguments_only job zero text small low high = absurd (omega (arith, low))
 arguments_only job (suc zero) text small low high = each_end (OfKind job 1 text) Cover text (λ none. (tt, refl, none))
-arguments_only job (suc (suc zero)) text small low high = each_then (λ (x : Half). Any x × (text ≡ spelled (half_word x ∷ []))) (OfKind job 2 text) (alone (kind_at half_of) text) (λ x. Some (Rest x)) ((alone_reads half_reads).only text) (λ x is. (tt, refl, is.1))
-arguments_only job (suc (suc (suc zero))) text small low high =
-    each_then (λ (n : ℕ). InRange 0 25 n × (text ≡ spelled (number n ∷ []))) (OfKind job 3 text) (alone (count_at 0 25) text) (λ n. Some (Frame n)) ((alone_reads box_reads).only text) (λ n is. (omega (arith, is.0.1), refl, is.1))
-arguments_only job (suc (suc (suc (suc zero)))) text small low high = met_only job 4 64 (λ m. Upper m.0 m.1 m.2) text (omega arith) (λ m is. (is.0, omega (arith, is.1))) (λ m. refl) (λ m. refl)
-arguments_only job (suc (suc (suc (suc (suc zero))))) text small low high = met_only job 5 (stage_count job) (λ m. Nose m.0 m.1 m.2) text (omega (arith, small.stages)) (λ m is. is) (λ m. refl) (λ m. refl)
-arguments_only job (suc (suc (suc (suc (suc (suc zero)))))) text small low high = met_only job 6 64 (λ m. Lower m.0 m.1 m.2) text (omega arith) (λ m is. (is.0, omega (arith, is.1))) (λ m. refl) (λ m. refl)
-arguments_only job (suc (suc (suc (suc (suc (suc (suc zero))))))) text small low high = met_only job 7 25 (λ m. SelfHit m.0 m.1 m.2) text (omega arith) (λ m is. (is.0, omega (arith, is.1))) (λ m. refl) (λ m. refl)
+arguments_only job (suc (suc zero)) text small low high = only_as (OfKind job 2 text) (λ x. Rest x) text (λ x any is. (tt, refl, is)) (alone_reads half_reads)
+arguments_only job (suc (suc (suc zero))) text small low high = only_as (OfKind job 3 text) (λ n. Frame n) text (λ n fits is. (omega (arith, fits.1), refl, is)) (alone_reads box_reads)
+arguments_only job (suc (suc (suc (suc zero)))) text small low high =
+    only_as (OfKind job 4 text) (λ m. Upper m.0 m.1 m.2) text (λ m fits is. ((fits.0, omega (arith, fits.1)), refl, is)) (meeting_reads 64 (omega arith))
+arguments_only job (suc (suc (suc (suc (suc zero))))) text small low high =
+    only_as (OfKind job 5 text) (λ m. Nose m.0 m.1 m.2) text (λ m fits is. (fits, refl, is)) (meeting_reads (stage_count job) (omega (arith, small.stages)))
+arguments_only job (suc (suc (suc (suc (suc (suc zero)))))) text small low high =
+    only_as (OfKind job 6 text) (λ m. Lower m.0 m.1 m.2) text (λ m fits is. ((fits.0, omega (arith, fits.1)), refl, is)) (meeting_reads 64 (omega arith))
+arguments_only job (suc (suc (suc (suc (suc (suc (suc zero))))))) text small low high =
+    only_as (OfKind job 7 text) (λ m. SelfHit m.0 m.1 m.2) text (λ m fits is. ((fits.0, omega (arith, fits.1)), refl, is)) (meeting_reads 25 (omega arith))
 arguments_only job (suc (suc (suc (suc (suc (suc (suc (suc zero)))))))) text small low high = each_end (OfKind job 8 text) NoGauge text (λ none. (tt, refl, none))
 arguments_only job (suc (suc (suc (suc (suc (suc (suc (suc (suc zero))))))))) text small low high = each_end (OfKind job 9 text) Load text (λ none. (tt, refl, none))
 arguments_only job (suc (suc (suc (suc (suc (suc (suc (suc (suc (suc kind)))))))))) text small low high = absurd (omega (arith, high))
 
-arguments_back : (job : JobData) (r : Reason) → IsSmall job → IsReasonInRange job r → arguments_in (stage_count job) (kind_of r) (spelled (argument_words r)) ≡ Some r
+-- a reason's arguments are read back, and its kind has a number
+read_back : (job : JobData) (r : Reason) → IsSmall job → IsReasonInRange job r → ((arguments_in (stage_count job) (kind_of r) (spelled (argument_words r)) ≡ Some r) × ArePlain (argument_words r)) × InRange 1 10 (kind_of r)
 unfolding arguments_in
-arguments_back job Cover small is = refl
-arguments_back job (Rest half) small is = ap (λ (o : Option Half). o >>= λ x. Some (Rest x)) ((alone_reads half_reads).back half tt)
-arguments_back job (Frame box) small is = ap (λ (o : Option ℕ). o >>= λ n. Some (Frame n)) ((alone_reads box_reads).back box (omega arith, omega (arith, is)))
-arguments_back job (Upper box q other) small is = ap (λ (o : Option (ℕ × Quarter × ℕ)). o >>= λ m. Some (Upper m.0 m.1 m.2)) ((meeting_reads 64 (omega arith)).back (box, q, other) (is.0, omega (arith, is.1)))
-arguments_back job (Nose box q other) small is = ap (λ (o : Option (ℕ × Quarter × ℕ)). o >>= λ m. Some (Nose m.0 m.1 m.2)) ((meeting_reads (stage_count job) (omega (arith, small.stages))).back (box, q, other) is)
-arguments_back job (Lower box q other) small is = ap (λ (o : Option (ℕ × Quarter × ℕ)). o >>= λ m. Some (Lower m.0 m.1 m.2)) ((meeting_reads 64 (omega arith)).back (box, q, other) (is.0, omega (arith, is.1)))
-arguments_back job (SelfHit box q other) small is = ap (λ (o : Option (ℕ × Quarter × ℕ)). o >>= λ m. Some (SelfHit m.0 m.1 m.2)) ((meeting_reads 25 (omega arith)).back (box, q, other) (is.0, omega (arith, is.1)))
-arguments_back job NoGauge small is = refl
-arguments_back job Load small is = refl
-
-meeting_plain : (end box : ℕ) (q : Quarter) (other : ℕ) → end ≤ 64 → IsMeeting end (box, q, other) → ArePlain (meeting_words box q other)
-meeting_plain end box q other few is = (meeting_reads end few).plain (box, q, other) is
-
-arguments_plain : (job : JobData) (r : Reason) → IsSmall job → IsReasonInRange job r → ArePlain (argument_words r)
-arguments_plain job Cover small is = tt
-arguments_plain job (Rest half) small is = half_reads.plain half tt
-arguments_plain job (Frame box) small is = box_reads.plain box (omega arith, omega (arith, is))
-arguments_plain job (Upper box q other) small is = meeting_plain 64 box q other (omega arith) (is.0, omega (arith, is.1))
-arguments_plain job (Nose box q other) small is = meeting_plain (stage_count job) box q other (omega (arith, small.stages)) is
-arguments_plain job (Lower box q other) small is = meeting_plain 64 box q other (omega arith) (is.0, omega (arith, is.1))
-arguments_plain job (SelfHit box q other) small is = meeting_plain 25 box q other (omega arith) (is.0, omega (arith, is.1))
-arguments_plain job NoGauge small is = tt
-arguments_plain job Load small is = tt
-
-kind_fits : (r : Reason) → InRange 1 10 (kind_of r)
-kind_fits Cover = (omega arith, omega arith)
-kind_fits (Rest half) = (omega arith, omega arith)
-kind_fits (Frame box) = (omega arith, omega arith)
-kind_fits (Upper box q other) = (omega arith, omega arith)
-kind_fits (Nose box q other) = (omega arith, omega arith)
-kind_fits (Lower box q other) = (omega arith, omega arith)
-kind_fits (SelfHit box q other) = (omega arith, omega arith)
-kind_fits NoGauge = (omega arith, omega arith)
-kind_fits Load = (omega arith, omega arith)
+read_back job Cover small is = ((refl, tt), (omega arith, omega arith))
+read_back job (Rest half) small is = (told_as (λ x. Rest x) half tt (alone_reads half_reads), (omega arith, omega arith))
+read_back job (Frame box) small is = (told_as (λ n. Frame n) box (omega arith, omega (arith, is)) (alone_reads box_reads), (omega arith, omega arith))
+read_back job (Upper box q other) small is = (told_as (λ m. Upper m.0 m.1 m.2) (box, q, other) (is.0, omega (arith, is.1)) (meeting_reads 64 (omega arith)), (omega arith, omega arith))
+read_back job (Nose box q other) small is = (told_as (λ m. Nose m.0 m.1 m.2) (box, q, other) is (meeting_reads (stage_count job) (omega (arith, small.stages))), (omega arith, omega arith))
+read_back job (Lower box q other) small is = (told_as (λ m. Lower m.0 m.1 m.2) (box, q, other) (is.0, omega (arith, is.1)) (meeting_reads 64 (omega arith)), (omega arith, omega arith))
+read_back job (SelfHit box q other) small is = (told_as (λ m. SelfHit m.0 m.1 m.2) (box, q, other) (is.0, omega (arith, is.1)) (meeting_reads 25 (omega arith)), (omega arith, omega arith))
+read_back job NoGauge small is = ((refl, tt), (omega arith, omega arith))
+read_back job Load small is = ((refl, tt), (omega arith, omega arith))
 
 reason_reads : (job : JobData) → IsSmall job → ReadsAll (IsReasonInRange job) reason_words (reason_in (stage_count job))
 unfolding reason_in
 reason_reads job small = record {
   back = λ r is.
       ap (λ (t : List ℕ). reason_in (stage_count job) t) (flat_map-append spaced (number (kind_of r) ∷ []) (argument_words r))
-      ∙ ap (λ (o : Option (ℕ × List ℕ)). o >>= λ k. arguments_in (stage_count job) k.0 k.1) (kind.back (kind_of r) (spelled (argument_words r)) (kind_fits r) (ends_words (argument_words r))) ∙ arguments_back job r small is;
+      ∙ ap (λ (o : Option (ℕ × List ℕ)). o >>= λ k. arguments_in (stage_count job) k.0 k.1) (kind.back (kind_of r) (spelled (argument_words r)) (read_back job r small is).1 (ends_words (argument_words r))) ∙ (read_back job r small is).0.0;
   only = λ text.
       let Is : Reason → Type 0 = λ r. IsReasonInRange job r × (text ≡ spelled (reason_words r)) in
       each_then (λ (k : ℕ × List ℕ). InRange 1 10 k.0 × (text ≡ spelled (number k.0 ∷ []) ++ k.1)) Is (count_at 1 10 text) (λ k. arguments_in (stage_count job) k.0 k.1) (kind.only text)
       (λ k is. each_weaker (OfKind job k.0 k.1) Is (arguments_in (stage_count job) k.0 k.1) (λ r of. (of.0, is.1 ∙ ap (λ (t : List ℕ). spelled (number k.0 ∷ []) ++ t) of.2 ∙ sym (flat_map-append spaced (number k.0 ∷ []) (argument_words r)) ∙ ap (λ (n : ℕ). spelled (number n ∷ argument_words r)) (sym of.1)))
       (arguments_only job k.0 k.1 small is.0.0 is.0.1));
-  plain = λ r is. (number_plain (kind_of r) (let high = (kind_fits r).1 in omega (arith, high)), arguments_plain job r small is);
+  plain = λ r is. let told = read_back job r small is in let high = told.1.1 in (number_plain (kind_of r) (omega (arith, high)), told.0.1);
 }
   where
     kind : ReadsWords (InRange 1 10) (λ n. number n ∷ []) (count_at 1 10)
@@ -251,22 +234,15 @@ IsPlanLine job (row_line row) = IsRow job row
 IsPlanLine job (note_line action reason) = IsActionOf job action × IsReasonInRange job reason
 IsPlanLine job _ = ⊥
 
--- its words are plain
-plan_line_plain : (job : JobData) (line : CertLine) → IsSmall job → IsPlanLine job line → ArePlain (words_of line)
-plan_line_plain job (claim_line claim) small is = claim_reads.plain claim is
-plan_line_plain job (step_line step) small is = (step_reads job small).plain step is
-plan_line_plain job (row_line row) small is = (row_reads job small).plain (row.key, row.worth) is
-plan_line_plain job (note_line action reason) small is = (note_reads job small).plain (action, reason) is
-plan_line_plain job _ small is = absurd is
-
--- it is read back
-plan_line_back : (job : JobData) (line : CertLine) → IsSmall job → IsPlanLine job line → plan_line_in (bend_count job) (stage_count job) (keyword_in (line_bytes line)) (behind_keyword (line_bytes line)) ≡ Some line
+-- it is read back, and its words are plain
+line_told : (job : JobData) (line : CertLine) → IsSmall job → IsPlanLine job line
+    → (plan_line_in (bend_count job) (stage_count job) (keyword_in (line_bytes line)) (behind_keyword (line_bytes line)) ≡ Some line) × ArePlain (words_of line)
 unfolding plan_line_in plan_words_in
-plan_line_back job (claim_line claim) small is = ap (λ (o : Option Worth). o >>= λ c. Some (claim_line c)) (claim_reads.back claim is)
-plan_line_back job (step_line step) small is = ap (λ (o : Option Step). o >>= λ s. Some (step_line s)) ((step_reads job small).back step is)
-plan_line_back job (row_line row) small is = ap (λ (o : Option (Key × Worth)). o >>= λ r. Some (row_line (row_of r))) ((row_reads job small).back (row.key, row.worth) is)
-plan_line_back job (note_line action reason) small is = ap (λ (o : Option (Action × Reason)). o >>= λ n. Some (note_line n.0 n.1)) ((note_reads job small).back (action, reason) is)
-plan_line_back job _ small is = absurd is
+line_told job (claim_line claim) small is = told_as (λ c. claim_line c) claim is claim_reads
+line_told job (step_line step) small is = told_as (λ s. step_line s) step is (step_reads job small)
+line_told job (row_line row) small is = told_as (λ r. row_line (row_of r)) (row.key, row.worth) is (row_reads job small)
+line_told job (note_line action reason) small is = told_as (λ n. note_line n.0 n.1) (action, reason) is (note_reads job small)
+line_told job _ small is = absurd is
 
 -- nothing else is read
 abbrev IsTold : JobData → List ℕ → List ℕ → CertLine → Type 0
@@ -285,13 +261,10 @@ keyword_is w =
 
 words_only : (job : JobData) (kind : PlanLine) (text : List ℕ) → IsSmall job → Each (IsTold job (keyword_for kind) text) (plan_words_in (bend_count job) (stage_count job) kind text)
 unfolding plan_words_in
-words_only job kinds.Claim text small = each_then (λ (c : Worth). IsWorth c × (text ≡ spelled (words_of (claim_line c)))) (IsTold job (codes "claim") text) (claim_in text) (λ c. Some (claim_line c)) (claim_reads.only text) (λ c is. (is.0, refl, is.1))
-words_only job kinds.Step text small =
-    each_then (λ (s : Step). IsStep job s × (text ≡ spelled (words_of (step_line s)))) (IsTold job (codes "step") text) (step_in (bend_count job) (stage_count job) text) (λ s. Some (step_line s)) ((step_reads job small).only text) (λ s is. (is.0, refl, is.1))
-words_only job kinds.Row text small =
-    each_then (λ (r : Key × Worth). IsRow job (row_of r) × (text ≡ spelled (words_of (row_line (row_of r))))) (IsTold job (codes "row") text) (row_in (bend_count job) (stage_count job) text) (λ r. Some (row_line (row_of r))) ((row_reads job small).only text) (λ r is. (is.0, refl, is.1))
-words_only job kinds.Note text small =
-    each_then (λ (n : Action × Reason). (IsActionOf job n.0 × IsReasonInRange job n.1) × (text ≡ spelled (words_of (note_line n.0 n.1)))) (IsTold job (codes "x") text) (note_in (bend_count job) (stage_count job) text) (λ n. Some (note_line n.0 n.1)) ((note_reads job small).only text) (λ n is. (is.0, refl, is.1))
+words_only job kinds.Claim text small = only_as (IsTold job (codes "claim") text) (λ c. claim_line c) text (λ c fits is. (fits, refl, is)) claim_reads
+words_only job kinds.Step text small = only_as (IsTold job (codes "step") text) (λ s. step_line s) text (λ s fits is. (fits, refl, is)) (step_reads job small)
+words_only job kinds.Row text small = only_as (IsTold job (codes "row") text) (λ r. row_line (row_of r)) text (λ r fits is. (fits, refl, is)) (row_reads job small)
+words_only job kinds.Note text small = only_as (IsTold job (codes "x") text) (λ n. note_line n.0 n.1) text (λ n fits is. (fits, refl, is)) (note_reads job small)
 
 plan_line_only : (job : JobData) (text : List ℕ) → IsSmall job → Each (λ (line : CertLine). IsPlanLine job line × (text ≡ line_bytes line)) (plan_line_in (bend_count job) (stage_count job) (keyword_in text) (behind_keyword text))
 unfolding plan_line_in
@@ -302,4 +275,4 @@ plan_line_only job text small =
     (λ kind of. each_weaker (IsTold job (keyword_for kind) (behind_keyword text)) Is (plan_words_in (bend_count job) (stage_count job) kind (behind_keyword text)) (λ line is. (is.0, each_line text line (of ∙ is.1) is.2)) (words_only job kind (behind_keyword text) small))
 
 pub plan_lines_read : (job : JobData) → IsSmall job → ReadsLines (IsPlanLine job) (λ text. plan_line_in (bend_count job) (stage_count job) (keyword_in text) (behind_keyword text))
-plan_lines_read job small = record { back = λ line is. plan_line_back job line small is; only = λ text. plan_line_only job text small; plain = λ line is. plan_line_plain job line small is }
+plan_lines_read job small = record { back = λ line is. (line_told job line small is).0; only = λ text. plan_line_only job text small; plain = λ line is. (line_told job line small is).1 }

@@ -4,5 +4,4 @@ pub mod Facts
 pub mod Items
 pub mod PlanItem
 pub mod Reading
-pub mod KnownNote
 pub mod NoteLines

@@ -1,8 +1,7 @@
 -- Lines of notes that are known by the numbers of their actions, and the notes that they tell.
-use Rattle.std.specs.Prelude.{◌≡◌, ℕ, zero, suc, ◌+◌, ◌*◌, ◌/◌, ◌%◌, ◌<◌, ◌≤◌, true, List}
+use Rattle.std.specs.Prelude.{◌≡◌, ◌≢◌, ℕ, zero, suc, ◌+◌, ◌*◌, ◌/◌, ◌%◌, ◌<◌, ◌≤◌, true, List}
 use Rattle.std.specs.Prelude.{[], ◌∷◌, ◌++◌, length, map, All, Option, Some, None, is_some, Result}
 use Rattle.std.specs.Prelude.{Ok, slice_index_or, ◌⊎◌}
-use Rattle.std.specs.List.{flat_map}
 use Rattle.brake_base.specs.declared.mask.Mask.{Mask}
 use Rattle.brake_base.specs.declared.stroke.Key.{Key}
 use Rattle.brake_base.specs.declared.reason.Reason.{Reason}
@@ -10,26 +9,29 @@ use Rattle.brake_base.specs.declared.reason.Reason.TheVariants.{Cover}
 use Rattle.brake_base.specs.Masks.{has}
 use Rattle.brake_base.specs.Actions.{number_of_action}
 use Rattle.stage_lanes.specs.declared.actions.ActionSet.{ActionSet}
-use Rattle.stage_lanes.specs.ActionSets.{place_of, has_place, places_of}
+use Rattle.stage_lanes.specs.ActionSets.{has_place, places_of}
 use Rattle.job_setup.specs.Setup.{JobData}
 use Rattle.job_setup.specs.StrokeGroup.{is_lead}
+use Rattle.cert_lines.specs.declared.format.Format.{Format}
 use Rattle.plan_lines.specs.declared.item.Item.{Item}
 use Rattle.plan_lines.specs.declared.item.Item.TheVariants as given
 use Rattle.plan_lines.specs.declared.item.CertFault.{CertFault}
+use Rattle.cert_words.specs.PlanWords.{note_in}
+use Rattle.plan_lines.specs.declared.section.PlanLine.TheVariants as kinds
 use Rattle.plan_lines.specs.declared.section.Section.TheVariants as sections
 use Rattle.plan_lines.specs.declared.line_place.LinePlace.{LinePlace}
 use Rattle.plan_lines.specs.declared.note.Note.{Note}
 use Rattle.plan_lines.specs.declared.job_facts.JobFacts.{JobFacts}
-use Rattle.plan_lines.specs.declared.known_note.KnownNote.{KnownNote}
-use Rattle.plan_lines.specs.declared.set_leads.SetLeads.{SetLeads}
+use Rattle.plan_lines.specs.declared.note.KnownNote.{KnownNote}
+use Rattle.plan_lines.specs.declared.job_facts.SetLeads.{SetLeads}
 use Rattle.plan_lines.specs.declared.note_run.NoteRun.{NoteRun}
 use Rattle.plan_lines.specs.declared.note_run.NoteBlock.{NoteBlock}
 use Rattle.plan_lines.specs.Facts.{KeepsFacts, HasFew}
-use Rattle.cert_lines.specs.LineReading.{lines_in}
+use Rattle.cert_lines.specs.LineReading.{keyword_in, behind_keyword, lines_in}
+use Rattle.plan_lines.specs.PlanReading.{plan_line_of}
 use Rattle.plan_lines.specs.Items.{next_number, plan_items}
 use Rattle.cert_lines.specs.LineReading.{IsBehind}
 use Rattle.plan_lines.specs.Reading.{LeavesAt}
-use Rattle.plan_lines.specs.KnownNote.{IsKnown}
 
 -- on a machine of so many stages, the known reasons by the numbers of their actions
 pub record KnownReasons : Type 0 where
@@ -104,6 +106,12 @@ known_reasons stages held = record {
   reasons = map reason_of held;
 }
 
+-- the line is one, it is that of a note, and in a job of so many bends and stages its words say this
+pub record IsKnown (bends stages : ℕ) (note : KnownNote) : Type 0 where
+  pub alone : All (λ byte. byte ≢ 10) note.line.now
+  pub keyword : plan_line_of (keyword_in note.line.now) ≡ Some kinds.Note
+  pub words : note_in bends stages (behind_keyword note.line.now) ≡ Some (note.action, note.reason)
+
 -- a known note of the job, held at its action's number
 pub record IsHeld (facts : JobFacts) (number : ℕ) (note : KnownNote) : Type 0 where
   pub known : IsKnown facts.bends facts.stages note
@@ -119,44 +127,48 @@ AreHeld facts held =
 abbrev pub line_of : KnownNote → List ℕ
 line_of note = note.line.now ++ 10 ∷ []
 
--- a note that is held may stand where the number is at least this, and these bends are leads
+-- a known note that is held may stand where the number is at least this, and these bends are leads
 pub record MayStand (facts : JobFacts) (held : List (Option KnownNote)) (leads : Mask) (least : ℕ)
     (note : KnownNote) : Type 0 where
+  pub known : IsKnown facts.bends facts.stages note
   pub is_held : slice_index_or held (number_of_action facts.stages note.action) None ≡ Some note
   pub from_least : least ≤ number_of_action facts.stages note.action
   pub is_lead : has leads note.action.bend ≡ true
 
--- so may these notes behind one another, and the note behind them has at least the next number
-abbrev pub MayFollow : JobFacts → List (Option KnownNote) → Mask → ℕ → List KnownNote → ℕ → Type 0
-MayFollow facts held leads least [] next = least ≡ next
-MayFollow facts held leads least (note ∷ notes) next = MayStand facts held leads least note
-    × MayFollow facts held leads (number_of_action facts.stages note.action + 1) notes next
+-- the number of the line behind so many lines
+abbrev pub numbers_on : ℕ → ℕ → ℕ
+numbers_on zero n = n
+numbers_on (suc count) n = numbers_on count (next_number n)
 
--- the actions of these notes are those of the set, of which there are so many, all of numbers below
--- the next one
-pub record AreOf (facts : JobFacts) (set : ActionSet) (count next : ℕ) (notes : List KnownNote)
-    : Type 0 where
-  pub places : places_of set ≡ map (λ note. place_of note.action) notes
-  pub count_is : length notes ≡ count
-  pub below : (place : ℕ) → place < 192 → has_place set place ≡ true
-      → number_at facts.stages place < next
+-- these bytes are the lines of the notes of a set, of which there are so many, from the least number
+-- on and below the next one: where these bends are leads, a reader answers the notes, and the known
+-- reasons are theirs
+pub record AreLines (facts : JobFacts) (known : KnownReasons) (leads : Mask) (least : ℕ)
+    (bytes : List ℕ) (notes : ActionSet) (count next : ℕ) : Type 0 where
+  pub told :
+      (format : Format) (job : JobData) (key : Key) (n : ℕ) (behind : List ℕ)
+      → KeepsFacts facts job → AreLeads facts (record { folded = key.mask; leads = leads })
+      → plan_items format job n (sections.Notes key least) (lines_in (bytes ++ behind))
+      ≡ notes_told known notes ++ plan_items format job (numbers_on count n)
+      (sections.Notes key next) (lines_in behind)
+  pub below : (place : ℕ) → place < 192 → has_place notes place ≡ true
+      → number_at known.stages place < next
+  pub are_known : AreKnownAll known notes
+  pub count_is : length (places_of notes) ≡ count
+  pub few : count ≤ next
+  pub long : count ≤ length bytes
 
 -- the lines of notes from a number on were taken from the front of a text
-pub record IsRun (facts : JobFacts) (held : List (Option KnownNote)) (leads : Mask) (least : ℕ)
+pub record IsRun (facts : JobFacts) (known : KnownReasons) (leads : Mask) (least : ℕ)
     (text : List ℕ) (run : NoteRun) : Type 0 where
-  pub taken : List KnownNote
-  pub follow : MayFollow facts held leads least taken run.least
-  pub is_text : text ≡ flat_map line_of taken ++ run.rest.now
-  pub are : AreOf facts run.notes run.count run.least taken
+  pub front : List ℕ
+  pub is_text : text ≡ front ++ run.rest.now
+  pub are : AreLines facts known leads least front run.notes run.count run.least
 
 -- the lines of a row's notes
-pub record IsBlock (facts : JobFacts) (held : List (Option KnownNote)) (block : NoteBlock)
-    : Type 0 where
-  pub taken : List KnownNote
-  pub follow : MayFollow facts held block.leads 0 taken block.least
-  pub is_text : block.text.now ≡ flat_map line_of taken
-  pub are : AreOf facts block.notes block.count block.least taken
-  pub few : block.count ≤ block.least
+abbrev pub IsBlock : JobFacts → KnownReasons → NoteBlock → Type 0
+IsBlock facts known block =
+    AreLines facts known block.leads 0 block.text.now block.notes block.count block.least
 
 -- what lines of notes are kept and which were read, and for which job
 pub record AreNoteLines (facts : JobFacts) (held read : List (Option KnownNote)) (leads : SetLeads)
@@ -165,12 +177,7 @@ pub record AreNoteLines (facts : JobFacts) (held read : List (Option KnownNote))
   pub are_held : AreHeld facts held
   pub are_read : AreHeld facts read
   pub are_leads : AreLeads facts leads
-  pub are_blocks : All (IsBlock facts held) blocks
-
--- the number of the line behind so many lines
-abbrev pub numbers_on : ℕ → ℕ → ℕ
-numbers_on zero n = n
-numbers_on (suc count) n = numbers_on count (next_number n)
+  pub are_blocks : All (IsBlock facts (known_reasons facts.stages held)) blocks
 
 -- at rows of this set the text begins with the lines of the run's notes
 pub record IsTaken (facts : JobFacts) (known : KnownReasons) (folded : Mask) (least : ℕ)

@@ -2,7 +2,6 @@
 use Rattle.std.specs.Prelude.{◌≡◌, ℕ, Bool, true, false, ◌&&◌, nat_lt, List, [], ◌∷◌}
 use Rattle.std.specs.Prelude.{◌++◌, ◌<◌, length, Option, Some, None, Result, Ok, Err}
 use Rattle.job_setup.specs.Setup.{JobData}
-use Rattle.job_setup.specs.ValidJob.{IsJob}
 use Rattle.cert_lines.specs.declared.format.TextKind.{TextKind}
 use Rattle.plan_lines.specs.declared.item.Item.{Item}
 use Rattle.plan_lines.specs.declared.item.Item.TheVariants as given
@@ -12,12 +11,10 @@ use Rattle.plan_lines.specs.declared.section.Section.{Section}
 use Rattle.plan_lines.specs.declared.section.Section.TheVariants as sections
 use Rattle.plan_lines.specs.declared.line_place.LinePlace.{LinePlace}
 use Rattle.cert_lines.specs.JobLines.{JobLinesData, job_of}
-use Rattle.plan_lines.specs.PlanReading.{first_section}
 use Rattle.plan_lines.specs.Facts.{KeepsFacts}
 use Rattle.cert_lines.specs.JobTest.{is_job}
 use Rattle.plan_lines.specs.Items.{items, plan_item, plan_items}
 use Rattle.cert_lines.specs.LineReading.{lines_in}
-use Rattle.cert_lines.specs.JobFold.{take_line}
 use Rattle.cert_lines.specs.LineReading.{IsBehind}
 
 -- what is read, its text, and the number of answers so far
@@ -84,22 +81,8 @@ pub record IsNextLine (place : LinePlace) (text : List ℕ) (given : Result Item
 abbrev pub MayBeBehind : Bool → List ℕ → Type 0
 MayBeBehind is_last behind = is_last ≡ true → behind ≡ []
 
--- the next line is no job line that may stand behind the job lines, or there is no whole one
-abbrev pub Stops : JobLinesData → List (List ℕ) → Type 0
-Stops lines [] = Unit {0}
-Stops lines (line ∷ []) = Unit {0}
-Stops lines (line ∷ next ∷ more) = take_line lines line ≡ None
-
 -- the values of the job lines are a valid job, or not
 abbrev pub IsJudged : Option JobData → JobLinesData → Type 0
 IsJudged (Some job) lines =
     (job ≡ job_of lines) × ((lines.is_sound && is_job (job_of lines)) ≡ true)
 IsJudged None lines = (lines.is_sound && is_job (job_of lines)) ≡ false
-
--- the answers that begin with the job of the job lines, or are its refusal
-abbrev pub GivesJob : JobLinesData → ℕ → List (List ℕ) → Result JobData CertFault
-    → List (Result Item CertFault) → Type 0
-GivesJob lines n rest (Ok job) answers =
-    (answers ≡ Ok (given.Job job) ∷ plan_items lines.format job n (first_section lines.format) rest)
-    × IsJob job
-GivesJob lines n rest (Err fault) answers = answers ≡ Err fault ∷ []

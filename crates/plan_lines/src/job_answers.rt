@@ -1,12 +1,13 @@
 //! The first answer of a text: the job of its job lines, or a refusal.
-ghost use Rattle.std.specs.Prelude.{◌≡◌, ◌∷◌, ◌++◌, ℕ, List};
+ghost use Rattle.std.specs.Prelude.{◌≡◌, [], ◌∷◌, ◌++◌, ℕ, List, Err, IfSome, IsNone};
+ghost use Rattle.plan_lines.specs.declared.item.CertFault.TheVariants.{Unended};
 ghost use Rattle.plan_lines.specs.Facts.{HasFew};
 ghost use Rattle.cert_lines.specs.JobLines.{job_lines_data, no_lines};
 ghost use Rattle.plan_lines.specs.Items.{items, items_behind, job_items, may_be_judged};
 ghost use Rattle.cert_lines.specs.LineReading.{lines_in};
 ghost use Rattle.plan_lines.specs.PlanItem.{job_answer};
 ghost use Rattle.cert_lines.specs.LineReading.{IsBehind};
-ghost use Rattle.plan_lines.specs.Reading.{GivesNext, GivesJob, HoldsBefore, IsJudged, Stops};
+ghost use Rattle.plan_lines.specs.Reading.{GivesNext, HoldsBefore, IsJudged};
 
 use crate::item::CertFault;
 use crate::job_facts::JobFacts;
@@ -16,24 +17,32 @@ use crate::plan_reading::{first_section, may_follow_job};
 use cert_lines::{Format, JobLines, TextKind, format_of, whole_line};
 use job_setup::{Job, job_from};
 
-/// The text behind the job lines from here on, and the number of its first line.
-fn behind_job_lines<'a>(lines: &mut JobLines, text: &'a [u8], number: u32) -> (&'a [u8], u32)
-    ensures same { (behind : List ℕ)
+/// What stands behind the job lines from here on: its first line, where that is whole, the text from
+/// there on, and the line's number.
+fn behind_job_lines<'a>(
+    lines: &mut JobLines,
+    text: &'a [u8],
+    number: u32,
+) -> (Option<&'a [u8]>, &'a [u8], u32)
+    ensures some { IfSome result.0 (λ line. (behind : List ℕ) → (more : List (List ℕ))
+        × (lines_in (result.1.now ++ behind) ≡ line.now ∷ more)
+        × (job_items number (job_lines_data lines.old) (lines_in (text.now ++ behind))
+        ≡ items_behind result.2 (job_lines_data lines.new) line.now more)) }
+    ensures none { IsNone result.0 → (behind : List ℕ) → behind ≡ []
         → job_items number (job_lines_data lines.old) (lines_in (text.now ++ behind))
-        ≡ job_items result.1 (job_lines_data lines.new) (lines_in (result.0.now ++ behind)) }
-    ensures rest { IsBehind text.now result.0.now }
-    ensures stops { Stops (job_lines_data lines.new) (lines_in result.0.now) }
+        ≡ Err Unended ∷ [] }
+    ensures rest { IsBehind text.now result.1.now }
 {
     let mut rest = text;
     let mut at = number;
     while let Some((line, behind)) = whole_line(rest) {
-        if lines.take_line(line).is_none() {
-            return (rest, at);
-        }
+        let Some(()) = lines.take_line(line) else {
+            return (Some(line), rest, at);
+        };
         rest = behind;
         at = next_number(at);
     }
-    (rest, at)
+    (None, rest, at)
 }
 
 /// The job of the job lines, where they are a valid one.
@@ -53,21 +62,6 @@ fn may_be_judged(lines: &JobLines, line: &[u8]) -> bool
     lines.is_complete() && may_follow_job(lines.format, lines.bends(), lines.stages(), line)
 }
 
-/// The job of the job lines, where the line behind them may follow them.
-fn job_behind(lines: JobLines, line: &[u8], number: u32) -> Result<Job, CertFault>
-    ensures { (rest : List (List ℕ))
-        → GivesJob (job_lines_data lines) number (line.now ∷ rest) result
-        (items_behind number (job_lines_data lines) line.now rest) }
-{
-    if !may_be_judged(&lines, line) {
-        return Err(CertFault::BadLine { line: number });
-    }
-    match judge(lines) {
-        Some(job) => Ok(job),
-        None => Err(CertFault::BadJob),
-    }
-}
-
 /// The job of the job lines, behind which the lines of the plan are left, or its refusal.
 fn judged_job(
     reader: &mut PlanReader,
@@ -83,9 +77,12 @@ fn judged_job(
     ensures few { HasFew reader.new.place.facts }
     ensures rest { reader.new.rest.now ≡ reader.old.rest.now }
 {
+    if !may_be_judged(&lines, line) {
+        return Err(refuse(reader, CertFault::BadLine { line: number }));
+    }
     let format = lines.format;
-    match job_behind(lines, line, number) {
-        Ok(job) => {
+    match judge(lines) {
+        Some(job) => {
             reader.place = LinePlace {
                 number,
                 section: first_section(format),
@@ -93,7 +90,7 @@ fn judged_job(
             };
             Ok(job)
         }
-        Err(fault) => Err(refuse(reader, fault)),
+        None => Err(refuse(reader, CertFault::BadJob)),
     }
 }
 
@@ -107,10 +104,10 @@ fn job_in<'a>(reader: &mut PlanReader<'a>, format: Format, text: &'a [u8]) -> Re
     ensures rest { IsBehind text.now reader.new.rest.now }
 {
     let mut lines = JobLines::new(format);
-    let (rest, number) = behind_job_lines(&mut lines, text, 2);
+    let (first, rest, number) = behind_job_lines(&mut lines, text, 2);
     reader.rest = rest;
-    match whole_line(rest) {
-        Some((line, _)) => judged_job(reader, lines, line, number),
+    match first {
+        Some(line) => judged_job(reader, lines, line, number),
         None => Err(refuse(reader, CertFault::Unended)),
     }
 }

@@ -1,8 +1,10 @@
-//! What a reader keeps of a job.
-ghost use Rattle.std.specs.Prelude.{◌≡◌, ◌↔◌, ◌+◌, ◌≤◌, ◌<◌, ℕ, length, IsTrue};
+//! What a reader keeps of a job, and the bends that may be bent next where a set of bends is folded.
+ghost use Rattle.std.specs.Prelude.{◌≡◌, ◌≤◌, ◌<◌, length};
 ghost use Rattle.job_setup.specs.StrokeGroup.{is_lead};
-ghost use Rattle.job_setup.specs.Setup.{bend_count, stage_count, JobData};
+ghost use Rattle.job_setup.specs.Setup.{JobData};
 ghost use Rattle.plan_lines.specs.Facts.{KeepsFacts, HasFew, AreEarlier, AreAllEarlier};
+ghost use Rattle.plan_lines.specs.NoteLines.{AreLeads};
+ghost use Rattle.plan_lines.specs.declared.job_facts.JobFacts.{JobFacts};
 
 use brake_base::Mask;
 use cert_lines::Format;
@@ -76,5 +78,53 @@ impl JobFacts {
             && self.earlier[usize::from(bend - 1)]
                 .without(folded)
                 .is_empty()
+    }
+}
+
+/// A set of folded bends, and the bends of which each is the lead of its group there.
+#[derive(Clone, Copy)]
+pub struct SetLeads {
+    pub folded: Mask,
+    pub leads: Mask,
+}
+
+impl SetLeads {
+    /// No lead, of the set of all bends.
+    pub fn none() -> SetLeads
+        ensures { (facts : JobFacts) → AreLeads facts result }
+    {
+        SetLeads {
+            folded: Mask(u16::MAX),
+            leads: Mask::empty(),
+        }
+    }
+
+    /// The leads where these bends are folded.
+    pub fn at(facts: &JobFacts, folded: Mask) -> SetLeads
+        requires { HasFew facts.now }
+        ensures folded { result.folded ≡ folded }
+        ensures leads { AreLeads facts.now result }
+    {
+        let mut leads = Mask::empty();
+        for bend in 1..facts.bends + 1 {
+            if facts.is_lead(folded, bend) {
+                leads = leads.with(bend);
+            }
+        }
+        SetLeads { folded, leads }
+    }
+
+    /// These leads where they are those of the set, or else the set's own.
+    pub fn turned_to(self, facts: &JobFacts, folded: Mask) -> SetLeads
+        requires few { HasFew facts.now }
+        requires leads { AreLeads facts.now self }
+        ensures folded { result.folded ≡ folded }
+        ensures leads { AreLeads facts.now result }
+    {
+        if self.folded == folded {
+            self
+        } else {
+            SetLeads::at(facts, folded)
+        }
     }
 }

@@ -48,7 +48,7 @@ fn spaced_worth(text: &[u8]) -> Option<(Worth, &[u8])>
 }
 
 /// A key at which a bend isn't folded, behind a space, and the text behind it.
-#[tactic(auto, using(crate::proofs::LeadingRows::pieces))]
+#[tactic(auto, using(crate::proofs::PlanItems::pieces))]
 fn spaced_key<'a>(text: &'a [u8], facts: &JobFacts) -> Option<(Key, &'a [u8])>
     requires { facts.now.bends ≤ 12 }
     ensures mask { IfSome result (λ x. x.0.mask.0 + 1 < 2 ^ facts.now.bends) }
@@ -70,7 +70,7 @@ fn spaced_key<'a>(text: &'a [u8], facts: &JobFacts) -> Option<(Key, &'a [u8])>
 }
 
 /// The words of a row and the end of its line, and the text behind the line.
-#[tactic(auto, using(crate::proofs::LeadingRows::pieces))]
+#[tactic(auto, using(crate::proofs::PlanItems::pieces))]
 fn row_words<'a>(text: &'a [u8], facts: &JobFacts) -> Option<(RowHead, &'a [u8])>
     requires { facts.now.bends ≤ 12 }
     ensures fits { (job : JobData) → KeepsFacts facts.now job → IfSome result (λ x. IsRow job x.0) }
@@ -88,7 +88,7 @@ fn row_words<'a>(text: &'a [u8], facts: &JobFacts) -> Option<(RowHead, &'a [u8])
 
 /// The row whose line stands at the front of the text, and the text behind the line; `None` where
 /// the text begins with anything else.
-#[tactic(auto, unfolding(cert_lines::specs::Lines::line_text), using(crate::proofs::LeadingRows::pieces))]
+#[tactic(auto, unfolding(cert_lines::specs::Lines::line_text), using(crate::proofs::PlanItems::pieces))]
 pub fn leading_row<'a>(text: &'a [u8], facts: &JobFacts) -> Option<(RowHead, &'a [u8])>
     requires { facts.now.bends ≤ 12 }
     ensures fits { (job : JobData) → KeepsFacts facts.now job → IfSome result (λ x. IsRow job x.0) }

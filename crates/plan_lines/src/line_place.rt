@@ -2,6 +2,7 @@
 ghost use Rattle.std.specs.Prelude.{◌≡◌};
 ghost use Rattle.plan_lines.specs.Facts.{HasFew};
 ghost use Rattle.plan_lines.specs.Items.{next_number};
+ghost use Rattle.plan_lines.specs.NoteLines.{numbers_on};
 
 use crate::job_facts::JobFacts;
 use crate::section::Section;
@@ -33,4 +34,12 @@ pub fn next_number(number: u32) -> u32
     ensures { result ≡ next_number number }
 {
     number.saturating_add(1)
+}
+
+/// The number of the line behind so many lines.
+#[tactic(auto, using(crate::proofs::NoteRuns::numbers_are))]
+pub fn number_behind(number: u32, count: u8) -> u32
+    ensures { result ≡ numbers_on count number }
+{
+    number.saturating_add(u32::from(count))
 }

@@ -1,33 +1,24 @@
 //! The lines of notes that are known by their actions, and those of the last row at each stage as one
 //! text. Rows of a set have mostly the notes of the row before, or of the last one at their stage, and
 //! notes that are known needn't be read one by one.
-ghost use Rattle.std.specs.Prelude.{◌≡◌, ◌≢◌, ℕ, ◌+◌, ◌<◌, ◌≤◌, ◌++◌, All, List, length, Option, Result, None, true, IsTrue, IfSome};
+ghost use Rattle.std.specs.Prelude.{◌≡◌, ◌≢◌, ◌↔◌, ℕ, ◌<◌, ◌≤◌, All, List, length, None, IsTrue, IfSome};
 ghost use Rattle.brake_base.specs.declared.mask.Mask.{Mask};
 ghost use Rattle.brake_base.specs.declared.reason.Reason.{Reason};
 ghost use Rattle.brake_base.specs.Actions.{number_of_action};
 ghost use Rattle.job_setup.specs.Setup.{JobData};
-ghost use Rattle.plan_lines.specs.declared.item.Item.{Item};
-ghost use Rattle.plan_lines.specs.declared.item.CertFault.{CertFault};
 ghost use Rattle.plan_lines.specs.declared.job_facts.JobFacts.{JobFacts};
-ghost use Rattle.plan_lines.specs.declared.known_note.KnownNote.{KnownNote};
-ghost use Rattle.stage_lanes.specs.ActionSets.{places_of};
 ghost use Rattle.stage_lanes.specs.Codes.{code_of, IsCode, IsCoded};
 ghost use Rattle.plan_lines.specs.Facts.{HasFew, KeepsFacts};
-ghost use Rattle.plan_lines.specs.KnownNote.{IsKnown};
-ghost use Rattle.plan_lines.specs.Reading.{LeavesAt};
-ghost use Rattle.cert_lines.specs.LineReading.{IsBehind, IsCut};
-ghost use Rattle.plan_lines.specs.NoteLines.{KnownReasons, reason_by, KnowsNoMore, KnowsAtMost, IsRun, IsBlock, IsTaken, notes_told, AreKnownAll, GivesAll, numbers_on};
+ghost use Rattle.plan_lines.specs.NoteLines.{IsKnown};
+ghost use Rattle.cert_lines.specs.LineReading.{IsCut};
+ghost use Rattle.plan_lines.specs.NoteLines.{KnownReasons, reason_by, KnowsNoMore, KnowsAtMost, IsRun, IsBlock, IsTaken};
 
-use crate::job_facts::JobFacts;
-use crate::known_note::{KnownNote, is_of};
+use crate::job_facts::{JobFacts, SetLeads};
+use crate::note::KnownNote;
 use crate::note_run::{
     NoteBlock, NoteRun, behind_note, held_at, is_free, likely_number, take_lines,
 };
-use crate::plan_reader::PlanReader;
-use crate::section::Section;
-use crate::set_leads::SetLeads;
 use brake_base::{Mask, Reason, action_number};
-use cert_lines::Format;
 use stage_lanes::{ActionSet, reason_of};
 use std::marker::Model;
 
@@ -56,11 +47,11 @@ impl<'a> Model for NoteLines<'a> {
     ghost invariant = { λ t. AreNoteLines t.facts t.notes t.read t.leads t.blocks };
 }
 
-/// Whether the masks are the same.
-fn are_equal(masks: &[Mask; 12], others: &[Mask; 12]) -> bool
-    ensures { IsTrue result → masks.now ≡ others.now }
+/// Whether the job has so many bends and stages.
+fn is_of(bends: u8, stages: u8, facts: &JobFacts) -> bool
+    ensures { IsTrue result ↔ ((bends ≡ facts.now.bends) × (stages ≡ facts.now.stages)) }
 {
-    masks == others
+    bends == facts.bends && stages == facts.stages
 }
 
 /// Whether the facts agree but for the format.
@@ -71,12 +62,12 @@ fn are_same(facts: &JobFacts, other: &JobFacts) -> bool
     if !is_of(facts.bends, facts.stages, other) {
         return false;
     }
-    are_equal(&facts.earlier, &other.earlier)
+    facts.earlier == other.earlier
 }
 
 /// The block of no note.
 fn no_block<'a>() -> NoteBlock<'a>
-    ensures { (facts : JobFacts) (held : List (Option KnownNote)) → IsBlock facts held result }
+    ensures { (facts : JobFacts) (known : KnownReasons) → IsBlock facts known result }
 {
     NoteBlock {
         leads: Mask::empty(),
@@ -89,11 +80,8 @@ fn no_block<'a>() -> NoteBlock<'a>
 
 /// The run of no note.
 fn no_run<'a>(least: u8, text: &'a [u8]) -> NoteRun<'a>
-    ensures count { result.count ≤ result.least }
-    ensures run { (facts : JobFacts) (held : List (Option KnownNote)) (leads : Mask)
-        → IsRun facts held leads least text.now result }
-    ensures taken { (facts : JobFacts) (known : KnownReasons) (folded : Mask)
-        → IsTaken facts known folded least text.now result }
+    ensures { (facts : JobFacts) (known : KnownReasons) (leads : Mask)
+        → IsRun facts known leads least text.now result }
 {
     NoteRun {
         notes: ActionSet::empty(),
@@ -105,8 +93,8 @@ fn no_run<'a>(least: u8, text: &'a [u8]) -> NoteRun<'a>
 
 /// The notes of the block, where the text behind a row goes on with them, or else none.
 fn run_of<'a>(block: &NoteBlock, leads: Mask, least: u8, text: &'a [u8]) -> NoteRun<'a>
-    ensures run { (facts : JobFacts) (held : List (Option KnownNote)) → IsBlock facts held block.now
-        → (result.count ≤ result.least) × IsRun facts held leads least text.now result }
+    ensures run { (facts : JobFacts) (known : KnownReasons) → IsBlock facts known block.now
+        → IsRun facts known leads least text.now result }
 {
     if least != 0 || leads != block.leads {
         return no_run(least, text);
@@ -130,19 +118,17 @@ fn run_at<'a>(
     least: u8,
     text: &'a [u8],
 ) -> NoteRun<'a>
-    ensures run { (facts : JobFacts) (held : List (Option KnownNote))
-        → All (IsBlock facts held) blocks.now
-        → (result.count ≤ result.least) × IsRun facts held leads least text.now result }
+    ensures run { (facts : JobFacts) (known : KnownReasons) → All (IsBlock facts known) blocks.now
+        → IsRun facts known leads least text.now result }
 {
     run_of(&blocks[usize::from(stage % 8)], leads, least, text)
 }
 
 /// That of two runs which has more notes.
 fn longer<'a>(run: &NoteRun<'a>, other: &NoteRun<'a>) -> NoteRun<'a>
-    ensures { (facts : JobFacts) (held : List (Option KnownNote)) (leads : Mask) (least : ℕ)
-        (text : List ℕ) → (run.now.count ≤ run.now.least) × IsRun facts held leads least text run.now
-        → (other.now.count ≤ other.now.least) × IsRun facts held leads least text other.now
-        → (result.count ≤ result.least) × IsRun facts held leads least text result }
+    ensures { (facts : JobFacts) (known : KnownReasons) (leads : Mask) (least : ℕ) (text : List ℕ)
+        → IsRun facts known leads least text run.now → IsRun facts known leads least text other.now
+        → IsRun facts known leads least text result }
 {
     if run.count < other.count {
         *other
@@ -153,10 +139,9 @@ fn longer<'a>(run: &NoteRun<'a>, other: &NoteRun<'a>) -> NoteRun<'a>
 
 /// The block of the notes that were taken behind a row.
 fn block_of<'a>(leads: Mask, text: &'a [u8], run: &NoteRun) -> NoteBlock<'a>
-    requires count { run.now.count ≤ run.now.least }
-    requires rest { length run.now.rest.now ≤ length text.now }
-    ensures { (facts : JobFacts) (held : List (Option KnownNote))
-        → IsRun facts held leads 0 text.now run.now → IsBlock facts held result }
+    requires { length run.now.rest.now ≤ length text.now }
+    ensures { (facts : JobFacts) (known : KnownReasons)
+        → IsRun facts known leads 0 text.now run.now → IsBlock facts known result }
 {
     NoteBlock {
         leads,
@@ -175,10 +160,8 @@ impl<'a> NoteLines<'a> {
         ensures none { (number : ℕ) → reason_by result number ≡ None }
     {
         NoteLines::of(JobFacts {
-            format: Format::Version2,
-            bends: 0,
             stages,
-            earlier: [Mask::empty(); 12],
+            ..JobFacts::none()
         })
     }
 
@@ -259,6 +242,7 @@ impl<'a> NoteLines<'a> {
     }
 
     /// Keeps a note of a job, where none is known of its action.
+    #[tactic(auto, using(crate::proofs::NoteRuns::both_known))]
     pub fn keep(&mut self, facts: &JobFacts, note: &KnownNote<'a>)
         requires few { HasFew facts.now }
         requires known { IsKnown facts.now.bends facts.now.stages note.now }
@@ -334,52 +318,12 @@ fn has_code(reason: Reason, code: u16) -> bool
     ensures none { IsTrue result → code ≢ 65535 }
 {
     match reason_of(code) {
-        Some(other) => is_same(reason, other),
+        Some(other) => reason == other,
         None => false,
     }
 }
 
-/// Whether both reasons are one.
-fn is_same(reason: Reason, other: Reason) -> bool
-    ensures { IsTrue result → reason ≡ other }
-{
-    reason == other
-}
-
-/// The number of the line behind so many lines.
-fn number_behind(number: u32, count: u8) -> u32
-    ensures { result ≡ numbers_on count number }
-{
-    number.saturating_add(u32::from(count))
-}
-
 /// Whether the text begins as the line of a note does.
-fn begins_with_note(text: &[u8]) -> bool {
+pub fn begins_with_note(text: &[u8]) -> bool {
     matches!(text, [b'x', ..])
-}
-
-/// Takes the known notes that come next behind a row. It tells their actions.
-pub fn take_notes<'a>(reader: &mut PlanReader<'a>, known: &mut NoteLines<'a>) -> ActionSet
-    requires few { HasFew reader.old.place.facts }
-    ensures given { (behind : List ℕ) (answers : List (Result Item CertFault))
-        → LeavesAt reader.old.place (reader.old.rest.now ++ behind) answers
-        → GivesAll answers (notes_told known.old result) reader.new.place
-        (reader.new.rest.now ++ behind) }
-    ensures few { HasFew reader.new.place.facts }
-    ensures rest { IsBehind reader.old.rest.now reader.new.rest.now }
-    ensures shorter { length (places_of result) + length reader.new.rest.now
-        ≤ length reader.old.rest.now }
-    ensures known { AreKnownAll known.old result }
-    ensures same { known.new ≡ known.old }
-{
-    match reader.place.section {
-        Section::Notes(key, least) if begins_with_note(reader.rest) => {
-            let run = known.take(&reader.place.facts, key.mask, key.stage, least, reader.rest);
-            reader.rest = run.rest;
-            reader.place.number = number_behind(reader.place.number, run.count);
-            reader.place.section = Section::Notes(key, run.least);
-            run.notes
-        }
-        _ => ActionSet::empty(),
-    }
 }

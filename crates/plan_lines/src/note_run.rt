@@ -1,11 +1,11 @@
 //! Notes that stand behind one another at the front of a text, each with a line that is known.
-ghost use Rattle.std.specs.Prelude.{◌≡◌, ◌++◌, ℕ, ◌≤◌, ◌<◌, List, slice_index_or, None, IfSome, IsTrue};
+ghost use Rattle.std.specs.Prelude.{◌≡◌, ◌∷◌, ◌++◌, ℕ, ◌≤◌, ◌<◌, List, slice_index_or, None, IfSome, IsTrue};
 ghost use Rattle.brake_base.specs.declared.mask.Mask.{Mask};
 ghost use Rattle.plan_lines.specs.Facts.{HasFew};
-ghost use Rattle.plan_lines.specs.NoteLines.{AreHeld, MayStand, IsRun, IsBlock, line_of};
+ghost use Rattle.plan_lines.specs.NoteLines.{known_reasons, AreHeld, MayStand, IsRun, line_of};
 
 use crate::job_facts::JobFacts;
-use crate::known_note::{KnownNote, behind_line_feed};
+use crate::note::KnownNote;
 use brake_base::{Mask, action_number};
 use stage_lanes::ActionSet;
 
@@ -73,6 +73,16 @@ pub fn is_free(notes: &[Option<KnownNote>; 144], number: u8) -> bool
     held_at(notes, number).is_none()
 }
 
+/// What stands behind the line feed with which the text begins.
+fn behind_line_feed(text: &[u8]) -> Option<&[u8]>
+    ensures { IfSome result (λ rest. text.now ≡ 10 ∷ rest.now) }
+{
+    match text {
+        [b'\n', rest @ ..] => Some(rest),
+        _ => None,
+    }
+}
+
 /// What stands behind the note's line, where the text begins with it.
 pub fn behind_note<'a>(text: &'a [u8], note: &KnownNote) -> Option<&'a [u8]>
     ensures { IfSome result (λ rest. text.now ≡ line_of note.now ++ rest.now) }
@@ -114,9 +124,9 @@ pub fn take_lines<'a, 'b>(
     requires few { HasFew facts.now }
     requires held { AreHeld facts.now notes.now }
     requires count { run.old.count ≤ run.old.least }
-    ensures count { run.new.count ≤ run.new.least }
-    ensures run { (least : ℕ) (text : List ℕ) → IsRun facts.now notes.now leads least text run.old
-        → IsRun facts.now notes.now leads least text run.new }
+    ensures { (least : ℕ) (text : List ℕ)
+        → IsRun facts.now (known_reasons facts.now.stages notes.now) leads least text run.old
+        → IsRun facts.now (known_reasons facts.now.stages notes.now) leads least text run.new }
 {
     while let Some((note, rest)) = next_note(notes, facts, leads, run) {
         run.notes = run.notes.with(note.action);

@@ -1,5 +1,6 @@
 //! The answers behind the job, each of one line.
-ghost use Rattle.std.specs.Prelude.{◌≡◌, ◌<◌, ◌++◌, ◌∷◌, [], ℕ, IfOk, IfSome, IsNone, List, length, Result, Ok};
+ghost use Rattle.std.specs.Prelude.{◌≡◌, ◌<◌, ◌≤◌, ◌++◌, ◌∷◌, [], ℕ, IfOk, IfSome, IsNone, List, length, Result, Ok};
+ghost use Rattle.brake_base.specs.Actions.{number_of_action};
 ghost use Rattle.job_setup.specs.Setup.{JobData};
 ghost use Rattle.plan_lines.specs.declared.item.Item.{Item};
 ghost use Rattle.plan_lines.specs.declared.item.Item.TheVariants as given;
@@ -7,17 +8,24 @@ ghost use Rattle.plan_lines.specs.declared.section.Section.TheVariants as sectio
 ghost use Rattle.plan_lines.specs.Facts.{KeepsFacts, HasFew};
 ghost use Rattle.cert_lines.specs.LineReading.{lines_in};
 ghost use Rattle.plan_lines.specs.Items.{end_before, end_or_fault, plan_item};
-ghost use Rattle.plan_lines.specs.PlanItem.{plan_answer};
-ghost use Rattle.cert_lines.specs.LineReading.{IsBehind};
+ghost use Rattle.plan_lines.specs.PlanItem.{item_of, plan_answer};
+ghost use Rattle.plan_lines.specs.NoteLines.{IsKnown};
+ghost use Rattle.cert_lines.specs.LineReading.{IsBehind, IsCut};
 ghost use Rattle.plan_lines.specs.Reading.{IsNextLine, LeavesAt, GivesNext, HoldsBefore};
 
 use crate::item::{CertFault, PlanItem};
+use crate::job_facts::JobFacts;
 use crate::leading_row::leading_row;
-use crate::line_place::{LinePlace, next_number};
-use crate::plan_reader::{PlanReader, refuse};
-use crate::plan_reading::{is_end_line, may_be_row, may_leave, take_plan_line};
-use crate::section::Section;
+use crate::line_place::LinePlace;
+use crate::note::KnownNote;
+use crate::note_lines::NoteLines;
+use crate::plan_reader::{PlanReader, pass_line, refuse};
+use crate::plan_reading::{
+    is_end_line, may_be_row, may_leave, noted, plan_line_of, take_plan_line,
+};
+use crate::section::{PlanLine, Section};
 use cert_lines::{RowHead, whole_line};
+use cert_words::{note, split_word};
 
 /// The answer behind the job: what its line gives, or the refusal.
 pub fn answer_behind_job(reader: &mut PlanReader) -> Result<PlanItem, CertFault>
@@ -32,42 +40,12 @@ pub fn answer_behind_job(reader: &mut PlanReader) -> Result<PlanItem, CertFault>
     ensures shorter { IfOk result
         (λ _. length reader.new.rest.now < length reader.old.rest.now) }
 {
-    let place = reader.place;
-    match next_line(&place, reader.rest) {
+    match next_line(&reader.place, reader.rest) {
         Some((answer, section, rest)) => {
-            reader.rest = rest;
-            reader.place.number = next_number(place.number);
-            reader.place.section = section;
+            pass_line(reader, section, rest);
             answer
         }
         None => Err(refuse(reader, CertFault::Unended)),
-    }
-}
-
-/// Takes the row whose line stands at the front behind the job, where it may stand there. `None` where
-/// the piece goes on with anything else; then nothing is read.
-pub fn row_behind_job(reader: &mut PlanReader) -> Option<RowHead>
-    requires few { HasFew reader.old.place.facts }
-    ensures given { IfSome result (λ row. (behind : List ℕ)
-        (answers : List (Result Item CertFault))
-        → LeavesAt reader.old.place (reader.old.rest.now ++ behind) answers → 0 < length answers
-        → GivesNext answers (Ok (given.Row row)) reader.new.place
-        (reader.new.rest.now ++ behind)) }
-    ensures few { HasFew reader.new.place.facts }
-    ensures rest { IsBehind reader.old.rest.now reader.new.rest.now }
-    ensures shorter { IfSome result
-        (λ _. length reader.new.rest.now < length reader.old.rest.now) }
-    ensures place { IsNone result → reader.new.place ≡ reader.old.place }
-    ensures unread { IsNone result → reader.new.rest.now ≡ reader.old.rest.now }
-{
-    match next_row(&reader.place, reader.rest) {
-        Some((row, rest)) => {
-            reader.rest = rest;
-            reader.place.number = next_number(reader.place.number);
-            reader.place.section = Section::Notes(row.key, 0);
-            Some(row)
-        }
-        None => None,
     }
 }
 
@@ -93,7 +71,8 @@ fn next_line<'a>(
 
 /// The row whose line stands at the front of a text, where it may stand there, and the text behind
 /// the line.
-fn next_row<'a>(place: &LinePlace, text: &'a [u8]) -> Option<(RowHead, &'a [u8])>
+#[tactic(auto, using(crate::proofs::PlanItems::row_next))]
+pub fn next_row<'a>(place: &LinePlace, text: &'a [u8]) -> Option<(RowHead, &'a [u8])>
     requires { HasFew place.now.facts }
     ensures { IfSome result (λ x. IsNextLine place.now text.now
         (Ok (given.Row x.0), sections.Notes x.0.key 0) x.1.now) }
@@ -108,6 +87,7 @@ fn next_row<'a>(place: &LinePlace, text: &'a [u8]) -> Option<(RowHead, &'a [u8])
 }
 
 /// What a line behind the job gives, and where the next one stands.
+#[tactic(auto, using(crate::proofs::PlanItems::item_taken))]
 fn plan_item(place: &LinePlace, line: &[u8], rest: &[u8]) -> (Result<PlanItem, CertFault>, Section)
     requires { HasFew place.now.facts }
     ensures { (job : JobData) (behind : List ℕ) → KeepsFacts place.now.facts job
@@ -137,6 +117,7 @@ fn end_or_fault(place: &LinePlace, line: &[u8], rest: &[u8]) -> Result<PlanItem,
 }
 
 /// The end, where nothing stands behind its line.
+#[tactic(auto, using(crate::proofs::PlanItems::ended_by, crate::proofs::PlanItems::trailing_by))]
 fn end_before(rest: &[u8]) -> Result<PlanItem, CertFault>
     ensures { (behind : List ℕ) → HoldsBefore (plan_answer result) behind
         → plan_answer result ≡ end_before (lines_in (rest.now ++ behind)) }
@@ -145,5 +126,71 @@ fn end_before(rest: &[u8]) -> Result<PlanItem, CertFault>
         Ok(PlanItem::End)
     } else {
         Err(CertFault::Trailing)
+    }
+}
+
+/// The note of a text's first line, in a job of so many bends and stages, and the text behind the
+/// line; `None` where the line is no line of a note.
+fn first_note<'a>(text: &'a [u8], bends: u8, stages: u8) -> Option<(KnownNote<'a>, &'a [u8])>
+    requires { bends ≤ 12 }
+    ensures known { IfSome result (λ x. IsKnown bends stages x.0) }
+    ensures cut { IfSome result (λ x. IsCut text.now x.0.line.now x.1.now) }
+{
+    let (line, rest) = whole_line(text)?;
+    let (keyword, words) = split_word(line);
+    match plan_line_of(keyword) {
+        Some(PlanLine::Note) => {
+            let (action, reason) = note(words, bends, stages)?;
+            let note = KnownNote {
+                line,
+                action,
+                reason,
+            };
+            Some((note, rest))
+        }
+        _ => None,
+    }
+}
+
+/// The same, where the line was read before without reading its words.
+fn front_note<'a>(
+    known: &NoteLines<'a>,
+    facts: &JobFacts,
+    text: &'a [u8],
+) -> Option<(KnownNote<'a>, &'a [u8])>
+    requires { facts.now.bends ≤ 12 }
+    ensures known { IfSome result (λ x. IsKnown facts.now.bends facts.now.stages x.0) }
+    ensures cut { IfSome result (λ x. IsCut text.now x.0.line.now x.1.now) }
+{
+    match known.read_before(facts, text) {
+        Some(read) => Some(read),
+        None => first_note(text, facts.bends, facts.stages),
+    }
+}
+
+/// The note whose line stands at the front of the text, where it may stand there, with its item; and
+/// where the next line stands, and the text behind the line.
+#[tactic(auto, using(crate::proofs::PlanItems::known_among))]
+pub fn next_noted<'a>(
+    known: &NoteLines<'a>,
+    place: &LinePlace,
+    text: &'a [u8],
+) -> Option<(KnownNote<'a>, PlanItem, Section, &'a [u8])>
+    requires { HasFew place.now.facts }
+    ensures known { IfSome result
+        (λ x. IsKnown place.now.facts.bends place.now.facts.stages x.0) }
+    ensures item { IfSome result (λ x. item_of x.1
+        ≡ given.Note (number_of_action place.now.facts.stages x.0.action) x.0.reason) }
+    ensures next { IfSome result
+        (λ x. IsNextLine place.now text.now (Ok (item_of x.1), x.2) x.3.now) }
+{
+    let facts = &place.facts;
+    match &place.section {
+        Section::Notes(key, least) => {
+            let (note, rest) = front_note(known, facts, text)?;
+            let (item, section) = noted(facts, key, *least, note.action, note.reason)?;
+            Some((note, item, section, rest))
+        }
+        _ => None,
     }
 }

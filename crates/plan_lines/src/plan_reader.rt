@@ -7,15 +7,14 @@ ghost use Rattle.plan_lines.specs.Facts.{HasFew};
 ghost use Rattle.plan_lines.specs.Items.{items};
 ghost use Rattle.plan_lines.specs.PlanItem.{plan_answer, job_answer};
 ghost use Rattle.cert_lines.specs.LineReading.{IsBehind};
-ghost use Rattle.plan_lines.specs.Reading.{LeavesAt, GivesNext, HoldsBefore, MayBeBehind};
+ghost use Rattle.plan_lines.specs.Reading.{IsNextLine, LeavesAt, GivesNext, HoldsBefore, MayBeBehind};
 ghost use Rattle.plan_lines.specs.NoteLines.{notes_told, AreKnownAll, LearnsFrom, GivesAll};
 
 use crate::item::{CertFault, PlanItem};
 use crate::job_answers::first_answer;
-use crate::line_place::LinePlace;
-use crate::new_note::note_behind_job;
-use crate::note_lines::{NoteLines, take_notes};
-use crate::plan_answers::{answer_behind_job, row_behind_job};
+use crate::line_place::{LinePlace, next_number, number_behind};
+use crate::note_lines::{NoteLines, begins_with_note};
+use crate::plan_answers::{answer_behind_job, next_noted, next_row};
 use crate::section::Section;
 use cert_lines::TextKind;
 use job_setup::Job;
@@ -40,6 +39,23 @@ pub fn refuse(reader: &mut PlanReader, fault: CertFault) -> CertFault
 {
     reader.place.section = Section::Over;
     fault
+}
+
+/// Goes on behind the first line of what is still to be read, to where the next line stands.
+pub fn pass_line<'a>(reader: &mut PlanReader<'a>, section: Section, rest: &'a [u8])
+    requires few { HasFew reader.old.place.facts }
+    ensures given { (answer : Result Item CertFault) (behind : List ℕ)
+        (answers : List (Result Item CertFault))
+        → IsNextLine reader.old.place reader.old.rest.now (answer, section) rest.now
+        → LeavesAt reader.old.place (reader.old.rest.now ++ behind) answers → 0 < length answers
+        → HoldsBefore answer behind
+        → GivesNext answers answer reader.new.place (reader.new.rest.now ++ behind) }
+    ensures few { HasFew reader.new.place.facts }
+    ensures rest { reader.new.rest.now ≡ rest.now }
+{
+    reader.rest = rest;
+    reader.place.number = next_number(reader.place.number);
+    reader.place.section = section;
 }
 
 /// Whether a piece tells the answer: the end of the text, or that it ends within a line, is told by
@@ -120,11 +136,14 @@ impl<'a> PlanReader<'a> {
         ensures shorter { IfSome result (λ answer. IfOk answer
             (λ _. length self.new.rest.now < length self.old.rest.now)) }
     {
-        if let Some(row) = row_behind_job(self) {
+        if let Some((row, rest)) = next_row(&self.place, self.rest) {
+            pass_line(self, Section::Notes(row.key, 0), rest);
             return Some(Ok(PlanItem::Row(row)));
         }
-        if let Some(note) = note_behind_job(self, known) {
-            return Some(Ok(note));
+        if let Some((note, item, section, rest)) = next_noted(known, &self.place, self.rest) {
+            known.keep(&self.place.facts, &note);
+            pass_line(self, section, rest);
+            return Some(Ok(item));
         }
         let place = self.place;
         let text = self.rest;
@@ -154,6 +173,15 @@ impl<'a> PlanReader<'a> {
         ensures reasons { AreKnownAll known.old result }
         ensures known { known.new ≡ known.old }
     {
-        take_notes(self, known)
+        match self.place.section {
+            Section::Notes(key, least) if begins_with_note(self.rest) => {
+                let run = known.take(&self.place.facts, key.mask, key.stage, least, self.rest);
+                self.rest = run.rest;
+                self.place.number = number_behind(self.place.number, run.count);
+                self.place.section = Section::Notes(key, run.least);
+                run.notes
+            }
+            _ => ActionSet::empty(),
+        }
     }
 }

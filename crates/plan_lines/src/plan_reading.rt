@@ -152,7 +152,7 @@ pub fn noted(
 }
 
 /// A note, where it may stand: behind its row or another note of the row.
-#[tactic(auto, unfolding(crate::specs::PlanReading::give, crate::specs::PlanReading::plan_words_in))]
+#[tactic(auto, unfolding(crate::specs::PlanReading::give, crate::specs::PlanReading::plan_words_in), using(crate::proofs::PlanLineRead::note_among))]
 fn take_note(facts: &JobFacts, section: &Section, text: &[u8]) -> Option<(PlanItem, Section)>
     requires bends { facts.now.bends ≤ 12 }
     requires stages { facts.now.stages ≤ 6 }

@@ -1,13 +1,9 @@
 use Rattle.std.proofs.Common.{◌≡◌, ℕ, ◌^◌, ◌<◌, List, length, sym, subst}
 use Rattle.plan_cert.specs.Cert.{cert_data}
 use Rattle.plan_cert.specs.CertText.{cert_text2}
-use Rattle.plan_cert.proofs.CertTexts.{cert_written, actions_below}
+use Rattle.plan_cert.proofs.CertTexts.{cert_written}
 use Rattle.plan_cert.proofs.TextSizes.{cert_length}
 use Rattle.plan_cert.proofs.writing.write_cert.Goals as goal
-
-pub put_rows-requires-clause-actions : goal.put_rows-requires-clause-actions
-put_rows-requires-clause-actions c =
-    rw c.as_slice-3.ensures.value (actions_below c.args.job.now c.args.cert.now.rows.items c.args.cert.now.notes.items c.stages.result c.in_ok-put_job.ensures.valid c.stages.ensures.value c.requires.rows.each_note)
 
 pub put_rows-requires-clause-order : goal.put_rows-requires-clause-order
 put_rows-requires-clause-order c = rw c.as_slice-3.ensures.value c.requires.rows.note_order

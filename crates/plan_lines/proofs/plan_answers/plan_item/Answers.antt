@@ -1,13 +1,7 @@
 use Rattle.std.proofs.Common.{ap, ◌++◌, ◌∙◌}
 use Rattle.plan_lines.specs.declared.section.Section.TheVariants as sections
-use Rattle.plan_lines.specs.PlanItem.{placed}
-use Rattle.plan_lines.proofs.PlanItems.{item_taken, item_refused}
+use Rattle.plan_lines.proofs.PlanItems.{item_refused}
 use Rattle.plan_lines.proofs.plan_answers.plan_item.Goals as goal
-
-pub returns-in-Some : goal.returns-in-Some
-returns-in-Some c = λ job behind kept holds.
-    let place = c.args.place.now in
-    item_taken place.facts.format job place.number place.section c.args.line.now (c.args.rest.now ++ behind) (placed (c.in-Some.item, c.in-Some.next)) (c.in-Some.ensures job kept)
 
 pub returns-in-None : goal.returns-in-None
 returns-in-None c = λ job behind kept holds.

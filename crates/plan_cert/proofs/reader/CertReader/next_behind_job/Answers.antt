@@ -1,18 +1,11 @@
-use Rattle.std.proofs.Common.{arith, ◌≡◌, ◌<◌, [], length, drop, Some, sym, subst, refl}
+use Rattle.std.proofs.Common.{◌≡◌, ◌<◌, [], length, drop, Some, sym, subst, refl}
 use Rattle.std.specs.Prelude.{slice_get}
 use Rattle.plan_lines.specs.Reading.{Reading}
 use Rattle.plan_lines.specs.PlanItem.{plan_answer}
 use Rattle.plan_lines.specs.Items.{items}
-use Rattle.plan_lines.proofs.ItemCounts.{few_items, some_left}
+use Rattle.plan_lines.proofs.ItemCounts.{some_left}
 use Rattle.plan_lines.proofs.Begun.{leaves_at, answered_on, holds_last}
 use Rattle.plan_cert.proofs.reader.CertReader.next_behind_job.Goals as goal
-
-pub overflow_add-self : goal.overflow_add-self
-overflow_add-self c =
-    let inside = c.self.inside in
-    let all = items inside.kind inside.text.now in
-    let less : inside.answered < length all = subst (λ (r : Reading). r.answered < length (items r.kind r.text)) (sym c.self.view_is) c.requires.left in
-    omega (arith, less, few_items inside.kind inside.text.now, c.self.told.1)
 
 pub invariant_of-self : goal.invariant_of-self
 invariant_of-self c =

@@ -1,15 +1,10 @@
-use Rattle.std.proofs.Common.{arith, ◌≡◌, [], Some, sym, subst, refl}
+use Rattle.std.proofs.Common.{◌≡◌, [], Some, sym, subst, refl}
 use Rattle.std.specs.Prelude.{slice_get}
 use Rattle.plan_lines.specs.Reading.{Reading}
 use Rattle.plan_lines.specs.PlanItem.{job_answer}
 use Rattle.plan_lines.specs.Items.{items}
 use Rattle.plan_lines.proofs.Begun.{first_answered, holds_last}
 use Rattle.plan_cert.proofs.reader.CertReader.read_job.Goals as goal
-
-pub overflow_add-self : goal.overflow_add-self
-overflow_add-self c =
-    let none : c.self.inside.answered ≡ 0 = subst (λ (r : Reading). r.answered ≡ 0) (sym c.self.view_is) c.requires in
-    omega (arith, none)
 
 pub invariant_of-self : goal.invariant_of-self
 invariant_of-self c =

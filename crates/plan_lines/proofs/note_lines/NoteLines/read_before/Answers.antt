@@ -1,10 +1,7 @@
 use Rattle.std.proofs.Common.{[], ◌∷◌, sym, ◌∙◌}
 use Rattle.std.proofs.lemmas.List.{append_assoc}
-use Rattle.plan_lines.proofs.NewNotes.{known_alike}
+use Rattle.plan_lines.proofs.PlanItems.{known_alike}
 use Rattle.plan_lines.proofs.note_lines.NoteLines.read_before.Goals as goal
-
-pub likely_number-requires : goal.likely_number-requires
-likely_number-requires c = c.self.invariant.few.stages
 
 pub returns : goal.returns
 returns c =

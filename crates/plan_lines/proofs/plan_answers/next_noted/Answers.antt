@@ -1,12 +1,6 @@
 use Rattle.plan_lines.specs.PlanItem.{placed}
-use Rattle.plan_lines.proofs.KnownLines.{known_among}
-use Rattle.plan_lines.proofs.NewNotes.{note_next}
-use Rattle.plan_lines.proofs.new_note.next_noted.Goals as goal
-
-pub noted-requires-clause-action : goal.noted-requires-clause-action
-noted-requires-clause-action c =
-    let facts = c.args.place.now.facts in
-    known_among c.in_ok-note-in-Notes.note facts.bends facts.stages c.in_ok-note-in-Notes.ensures.known
+use Rattle.plan_lines.proofs.PlanItems.{note_next}
+use Rattle.plan_lines.proofs.plan_answers.next_noted.Goals as goal
 
 pub returns-in_ok-item-in-Notes-clause-next : goal.returns-in_ok-item-in-Notes-clause-next
 returns-in_ok-item-in-Notes-clause-next c =

@@ -1,5 +1,5 @@
 use Rattle.plan_lines.specs.NoteLines.{AreLeads}
-use Rattle.plan_lines.proofs.set_leads.SetLeads.at.Given as goal
+use Rattle.plan_lines.proofs.job_facts.SetLeads.at.Given as goal
 
 -- each bend so far is a lead
 abbrev pub invariant-loop-bend : goal.invariant-loop-bend
