@@ -1,12 +1,12 @@
 //! A cost for each action.
-ghost use Rattle.std.specs.Prelude.{◌≡◌, ℕ, ◌+◌, ◌-◌, ◌*◌, ◌/◌, ◌%◌, ◌^◌, ◌<◌, ◌≤◌, ◌&&◌, ◌||◌, IsTrue, IfSome, IfNone, nat_lt, ◌==◌, if◌then◌else◌, slice_index};
+ghost use Rattle.std.specs.Prelude.{false, ◌≡◌, ℕ, ◌+◌, ◌-◌, ◌*◌, ◌/◌, ◌%◌, ◌^◌, ◌<◌, ◌≤◌, ◌&&◌, ◌||◌, IsTrue, IfSome, IfNone, nat_lt, ◌==◌, if◌then◌else◌, slice_index};
 ghost use Rattle.std.specs.Int.{bit_at};
 ghost use Rattle.brake_base.specs.Actions.{IsActionAmong};
 ghost use Rattle.stage_lanes.specs.Lanes.{AreLanes};
 ghost use Rattle.stage_lanes.specs.Stages;
-ghost use Rattle.stage_lanes.specs.ActionSets.{side_of, place_of, has, ArePlaces, IsNone};
-ghost use Rattle.action_lanes.specs.Costs.{cost_at, sum_costs, AreCosts, AreBits, is_of, IsLeastCost, IsCheapest};
-ghost use Rattle.action_lanes.specs.Cheapest.{IsLeastIn, AreCheapest};
+ghost use Rattle.stage_lanes.specs.ActionSets.{side_of, place_of, has_place, ArePlaces, IsNone};
+ghost use Rattle.action_lanes.specs.Costs.{cost_at, sum_costs, AreCosts, AreBits, is_of, IsLeastCost};
+ghost use Rattle.action_lanes.specs.Cheapest.{AreOnly, AreOf, AreCheapest};
 
 use brake_base::{Action, Back, Mask};
 use stage_lanes::{ActionSet, BLOCKED, StageCosts, StageSet, side};
@@ -139,27 +139,31 @@ impl ActionCosts {
         }
     }
 
-    /// The action of a set whose cost is the least, and of these the first by number. None exactly
-    /// where the set is empty.
-    pub fn first_of(&self, set: ActionSet) -> Option<Action>
-        ensures some { IfSome result (IsCheapest self.now set) }
-        ensures none { IfNone result (IsNone set) }
+    /// The costs of a set's actions, and [`BLOCKED`] at all others.
+    pub fn only(&self, set: ActionSet) -> ActionCosts
+        ensures costs { AreOnly self.now set result }
     {
-        self.cheapest(set).first()
+        let mut costs = ActionCosts::all(BLOCKED);
+        for side in 0..24u8 {
+            let stages = set.stages_at(side);
+            let lanes = self.lanes(side).only(stages, StageCosts::all(BLOCKED));
+            costs.set_lanes(side, lanes);
+        }
+        costs
     }
 
-    /// The actions of a set whose cost is the least. There are none only where the set is empty.
-    pub fn cheapest(&self, set: ActionSet) -> ActionSet
+    /// The actions of a set whose cost is the least, from costs of which all others are [`BLOCKED`].
+    /// The set's are actions of these bends. There are none only where the set is empty.
+    pub fn cheapest(&self, bends: Mask, set: ActionSet) -> ActionSet
+        requires bends { AreOf bends set }
+        requires small { (place : ℕ) → place < 192 → IsTrue (has_place set place)
+            → cost_at self.now place ≤ 536870912 }
+        requires others { (place : ℕ) → place < 192 → has_place set place ≡ false
+            → cost_at self.now place ≡ 536870912 }
         ensures cheapest { AreCheapest self.now set result }
         ensures none { IsNone result → IsNone set }
     {
-        match set.first() {
-            Some(one) => {
-                let least = self.least_in(set, one);
-                self.equal(Mask::full(12), least).intersection(set)
-            }
-            None => set,
-        }
+        self.equal(bends, self.least(bends)).intersection(set)
     }
 
     // The three that follow are inlined, since the word is a constant at each call.
@@ -215,22 +219,6 @@ impl ActionCosts {
             }
         }
         bits
-    }
-
-    /// The least cost of the set's actions, of which this is one.
-    fn least_in(&self, set: ActionSet, one: Action) -> u32
-        requires among { IsActionAmong 12 8 one }
-        requires member { IsTrue (has set one) }
-        ensures least { IsLeastIn self.now set result }
-    {
-        let mut low = StageCosts::all(self.cost(one));
-        for side in 0..24u8 {
-            let stages = set.stages_at(side);
-            if !stages.is_empty() {
-                low = low.lesser(self.lanes(side).only(stages, low));
-            }
-        }
-        low.least()
     }
 
     /// The costs at a side, by stage.

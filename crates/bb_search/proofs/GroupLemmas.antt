@@ -7,7 +7,7 @@ use Rattle.brake_base.specs.Masks.{has, union}
 use Rattle.brake_base.proofs.MaskNumbers.{is_mask_of, has_mask_of, mask_of_fits}
 use Rattle.job_setup.specs.Setup.{JobData, shape_of}
 use Rattle.fold_boxes.specs.Groups.{is_mate}
-use Rattle.job_setup.specs.StrokeGroup.{in_group, group_of}
+use Rattle.job_setup.specs.StrokeGroup.{group_of}
 use Rattle.job_setup.proofs.GroupMasks.{has_group_of}
 use Rattle.bb_search.specs.Groups.{IsFoldedBy}
 

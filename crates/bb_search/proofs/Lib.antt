@@ -14,6 +14,7 @@ pub mod TotalLemmas
 pub mod BendSumLemmas
 pub mod Measures
 pub mod OpenRowLemmas
+mod OpenSums
 pub mod SettledParts
 pub mod SettledLemmas
 pub mod KnownCalls

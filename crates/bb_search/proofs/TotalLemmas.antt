@@ -1,5 +1,5 @@
 -- The totals of a key's actions, by place and by side.
-use Rattle.std.proofs.Common.{◌≡◌, ℕ, ◌+◌, ◌-◌, ◌*◌, ◌/◌, ◌%◌, ◌<◌, ◌≤◌, ◌==◌, ◌&&◌, Bool, true, false, nat_lt, min, IsTrue, List}
+use Rattle.std.proofs.Common.{◌≡◌, ℕ, ◌+◌, ◌-◌, ◌*◌, ◌/◌, ◌<◌, ◌≤◌, ◌==◌, ◌&&◌, Bool, true, false, nat_lt, min, IsTrue, List}
 use Rattle.std.proofs.Common.{slice_index, true≢false, arith, ap, sym, subst, ◌∙◌}
 use Rattle.std.specs.Prelude.{not}
 use Rattle.std.proofs.lemmas.Bool.{and_parts, false_from_ne_true}
@@ -11,13 +11,12 @@ use Rattle.brake_base.specs.Actions.{back_number}
 use Rattle.stage_lanes.specs.declared.stages.StageSet.{StageSet}
 use Rattle.stage_lanes.specs.Lanes.{AreLanes}
 use Rattle.stage_lanes.specs.Stages.{has as has_stage, AreStages}
-use Rattle.stage_lanes.specs.ActionSets.{side_of, has_place}
+use Rattle.stage_lanes.specs.ActionSets.{side_of}
 use Rattle.action_lanes.specs.declared.costs.ActionCosts.{ActionCosts}
 use Rattle.action_lanes.specs.Costs.{cost_at, sum_costs}
-use Rattle.action_lanes.specs.Tested.{IsTested}
 use Rattle.action_lanes.proofs.CostLemmas.{AreLow, side_taken, side_skipped}
 use Rattle.action_lanes.proofs.TestedLemmas.{less, equal_is}
-use Rattle.bb_search.specs.Totals.{HaveRoom, NoneGivesBelow}
+use Rattle.bb_search.specs.Totals.{NoneGivesBelow}
 
 back_low : (back : Back) → back_number back < 2
 back_low Parent = omega arith

@@ -1,6 +1,6 @@
 -- What is known of the actions at a set of folded bends. Costs are in tenths of a second.
-use Rattle.std.specs.Prelude.{◌≡◌, ◌≢◌, ◌⊎◌, ℕ, ◌+◌, ◌*◌, ◌%◌, ◌^◌, ◌<◌, ◌≤◌, true, false, IsTrue}
-use Rattle.std.specs.Prelude.{Some, None, List, length, slice_get, slice_set, nat_lt, if◌then◌else◌}
+use Rattle.std.specs.Prelude.{◌≡◌, ◌≢◌, ◌⊎◌, ℕ, ◌+◌, ◌*◌, ◌^◌, ◌<◌, ◌≤◌, true, false}
+use Rattle.std.specs.Prelude.{Some, None, List, length, slice_get, slice_set}
 use Rattle.brake_base.specs.declared.mask.Mask.{Mask}
 use Rattle.brake_base.specs.declared.stroke.Key.{Key}
 use Rattle.brake_base.specs.declared.stroke.Action.{Action}
@@ -12,7 +12,7 @@ use Rattle.brake_base.specs.Actions.{number_of_action}
 use Rattle.stage_lanes.specs.declared.actions.ActionSet.{ActionSet}
 use Rattle.stage_lanes.specs.ActionSets.{place_of, has, has_place, IsNone}
 use Rattle.action_lanes.specs.declared.costs.ActionCosts.{ActionCosts}
-use Rattle.action_lanes.specs.Costs.{cost_at, is_of, AreCosts}
+use Rattle.action_lanes.specs.Costs.{cost_at, AreCosts}
 use Rattle.job_setup.specs.Setup.{JobData, bend_count, stage_count}
 use Rattle.set_facts.specs.LaneFacts.{key_at}
 use Rattle.handling_cost.specs.StepCost.{IsActionOf, IsActionAt, key_after}

@@ -1,11 +1,12 @@
 -- The sums of a key's actions by place. Costs are in tenths of a second.
-use Rattle.std.specs.Prelude.{◌≡◌, ◌≢◌, ℕ, ◌+◌, ◌/◌, ◌%◌, ◌<◌, ◌≤◌, IsTrue, List, slice_index}
+use Rattle.std.specs.Prelude.{◌≡◌, ◌≢◌, ℕ, ◌+◌, ◌/◌, ◌%◌, ◌<◌, ◌≤◌, false, IsTrue, List, slice_index}
 use Rattle.brake_base.specs.declared.mask.Mask.{Mask}
 use Rattle.brake_base.specs.declared.stroke.Key.{Key}
 use Rattle.brake_base.specs.declared.stroke.Back.{Back}
 use Rattle.brake_base.specs.declared.stroke.Action.{Action}
 use Rattle.brake_base.specs.Masks.{union}
-use Rattle.stage_lanes.specs.ActionSets.{place_of}
+use Rattle.stage_lanes.specs.declared.actions.ActionSet.{ActionSet}
+use Rattle.stage_lanes.specs.ActionSets.{place_of, has_place}
 use Rattle.action_lanes.specs.declared.costs.ActionCosts.{ActionCosts}
 use Rattle.action_lanes.specs.Costs.{cost_at, is_of}
 use Rattle.job_setup.specs.Setup.{JobData, stage_count}
@@ -71,3 +72,12 @@ pub record AreSums (job : JobData) (key : Key) (leads : Mask) (sums : ActionCost
       (place : ℕ) → place < 192 → IsTrue (is_of leads place) → stage_count job ≤ place % 8
       → 536870912 ≤ cost_at sums place
   pub small : (place : ℕ) → place < 192 → cost_at sums place ≤ 1600000000
+
+-- sums of untested actions, which are at most what no way on costs; all others are that
+pub record AreOpenSums (untested : ActionSet) (sums : ActionCosts) : Type 0 where
+  pub small :
+      (place : ℕ) → place < 192 → IsTrue (has_place untested place)
+      → cost_at sums place ≤ 536870912
+  pub others :
+      (place : ℕ) → place < 192 → has_place untested place ≡ false
+      → cost_at sums place ≡ 536870912

@@ -1,6 +1,6 @@
 -- What the search knows while it settles keys.
 use Rattle.std.specs.Prelude.{◌≡◌, ℕ, ◌+◌, ◌<◌, ◌≤◌, ◌⊎◌, Option, Some, None, List, length}
-use Rattle.std.specs.Prelude.{slice_get, IsSome, Contains}
+use Rattle.std.specs.Prelude.{slice_get, Contains}
 use Rattle.brake_base.specs.declared.stroke.Key.{Key}
 use Rattle.brake_base.specs.declared.stroke.Action.{Action}
 use Rattle.brake_base.specs.declared.stroke.Step.{Step}

@@ -4,7 +4,7 @@ ghost use Rattle.brake_base.specs.Masks.{union};
 ghost use Rattle.fold_boxes.specs.Pose.{IsGroup};
 ghost use Rattle.stage_lanes.specs.ActionSets.{place_of, has, IsNone};
 ghost use Rattle.action_lanes.specs.Costs.{cost_at, IsCheapest};
-ghost use Rattle.action_lanes.specs.Cheapest.{AreCheapest};
+ghost use Rattle.action_lanes.specs.Cheapest.{AreOf, AreCheapest};
 ghost use Rattle.brake_base.specs.Worths.{IsAtMost};
 ghost use Rattle.job_setup.specs.Setup.{shape_of, stage_count};
 ghost use Rattle.job_setup.specs.ValidJob.{IsJob};
@@ -15,7 +15,7 @@ ghost use Rattle.handling_cost.specs.Bound.{bound_of, sum_of};
 ghost use Rattle.handling_cost.specs.Reach.{IsNode};
 ghost use Rattle.bb_search.specs.Settling.{IsSound, OpenAbove, IsSpent, IsFound, IsKnownAfter};
 ghost use Rattle.bb_search.specs.KnownActions.{AreKnown, IsChoice, IsFloor, AreOpen, IsToldOf, IsSlack, HasLeast, HasSmallSlack, HasNoneBelow, IsWorthOf, slack_of};
-ghost use Rattle.bb_search.specs.LaneSums.{AreSums};
+ghost use Rattle.bb_search.specs.LaneSums.{AreSums, AreOpenSums};
 ghost use Rattle.bb_search.specs.OpenRows.{IsSettlingBy, IsOpenFor, IsKnownSo, HasChanged, IsSameAbove, unknown_count};
 
 use crate::search_table::{SearchTable, Tested};
@@ -219,10 +219,12 @@ fn explore(
     requires shape { state.old.shape ≡ shape_of job.now }
     requires mask { state.old.mask ≡ key.now.mask }
     requires room { 13 * left job.now key.now ≤ trail.old.room }
+    requires leads { AreLeads job.now key.now.mask leads }
     requires sums { AreSums job.now key.now leads sums.now }
     requires capped { best ≤ 536870912 }
     requires least { IsKnownSo table.old key.now.mask (HasLeast job.now key.now best) }
-    requires open { IsKnownSo table.old key.now.mask (λ at. AreOpen job.now key.now at best untested) }
+    requires open { IsKnownSo table.old key.now.mask
+        (λ at. AreOpen job.now key.now at best untested) }
     requires some { IsNone untested → ⊥ }
     ensures spent { IfNone result (IsSpent job.now pool.old pool.new) }
     ensures found { IfSome result (λ _. (before : Pool)
@@ -237,25 +239,31 @@ fn explore(
     ensures trail { trail.new ≡ trail.old }
 {
     let mut untested = untested;
+    let mut untested_sums = sums.only(untested);
     let mut cheapest = ActionSet::empty();
     let mut limit = best + 1;
-    while let Some(action) = next_open(sums, untested, &mut cheapest, limit) {
+    while let Some(action) = next_open(&untested_sums, leads, untested, &mut cheapest, limit) {
         let slack = try_action(job, pool, table, state, trail, key, action)?;
         limit = limit.min(sums.cost(action) + slack);
         untested = untested.except(action);
         cheapest = cheapest.except(action);
+        untested_sums.set_cost(action, BLOCKED);
     }
     Some(())
 }
 
-/// The first of some actions by their sums, if its sum is below the limit. The cheapest of them are
-/// kept until each was the first, so that the sums are gone through once for all of these.
+/// The first of some leads' actions by their sums, if its sum is below the limit; the sums of all
+/// others are [`BLOCKED`]. The cheapest are kept until each was the first, so that the sums are gone
+/// through once for all of these.
 fn next_open(
     sums: &ActionCosts,
+    leads: Mask,
     untested: ActionSet,
     cheapest: &mut ActionSet,
     limit: u32,
 ) -> Option<Action>
+    requires leads { AreOf leads untested }
+    requires sums { AreOpenSums untested sums.now }
     requires cheapest { AreCheapest sums.now untested cheapest.old }
     ensures cheapest { AreCheapest sums.now untested cheapest.new }
     ensures some { IfSome result (IsCheapest sums.now untested) }
@@ -263,7 +271,7 @@ fn next_open(
     ensures none { IfNone result (HasNoneBelow sums.now untested limit) }
 {
     if cheapest.is_empty() {
-        *cheapest = sums.cheapest(untested);
+        *cheapest = sums.cheapest(leads, untested);
     }
     let action = cheapest.first()?;
     if sums.cost(action) < limit {

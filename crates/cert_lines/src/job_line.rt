@@ -53,26 +53,6 @@ pub enum JobLine {
     Load((i64, i64)),
 }
 
-/// Two numbers.
-fn two(numbers: &[i64]) -> Option<(i64, i64)>
-    ensures { result ≡ pair numbers.now }
-{
-    match *numbers {
-        [m, n] => Some((m, n)),
-        _ => None,
-    }
-}
-
-/// Three numbers.
-fn three(numbers: &[i64]) -> Option<(i64, i64, i64)>
-    ensures { result ≡ triple numbers.now }
-{
-    match *numbers {
-        [l, m, n] => Some((l, m, n)),
-        _ => None,
-    }
-}
-
 /// A number alone.
 #[tactic(auto, unfolding(crate::specs::JobLineReading::numbered))]
 fn single(text: &[u8]) -> Option<i64>
@@ -89,8 +69,10 @@ fn single(text: &[u8]) -> Option<i64>
 fn pair(text: &[u8]) -> Option<(i64, i64)>
     ensures { result ≡ numbered pair text.now }
 {
-    let numbers = signed_numbers(text)?;
-    two(numbers.as_slice())
+    match *signed_numbers(text)?.as_slice() {
+        [m, n] => Some((m, n)),
+        _ => None,
+    }
 }
 
 /// A rectangle alone.
@@ -171,8 +153,10 @@ fn named_pair(text: &[u8]) -> Option<(Name, (i64, i64))>
     ensures { Reads (λ x. (x.0.bytes, x.1)) result (named pair text.now) }
 {
     let (name, numbers) = named(text)?;
-    let sizes = two(numbers.as_slice())?;
-    Some((name, sizes))
+    match *numbers.as_slice() {
+        [m, n] => Some((name, (m, n))),
+        _ => None,
+    }
 }
 
 /// A name and three numbers.
@@ -181,8 +165,10 @@ fn named_triple(text: &[u8]) -> Option<(Name, (i64, i64, i64))>
     ensures { Reads (λ x. (x.0.bytes, x.1)) result (named triple text.now) }
 {
     let (name, numbers) = named(text)?;
-    let sizes = three(numbers.as_slice())?;
-    Some((name, sizes))
+    match *numbers.as_slice() {
+        [l, m, n] => Some((name, (l, m, n))),
+        _ => None,
+    }
 }
 
 /// Face 0, which stands on none.
@@ -251,33 +237,33 @@ impl JobLine {
         ensures { Reads line_of result (number_line_in keyword.now text.now) }
     {
         if keyword == b"bed".as_slice() {
-            Some(JobLine::Bed(pair(text)?))
+            pair(text).map(JobLine::Bed)
         } else if keyword == b"frame".as_slice() {
-            Some(JobLine::Frame(pair(text)?))
+            pair(text).map(JobLine::Frame)
         } else if keyword == b"upper".as_slice() {
-            Some(JobLine::Upper(fixed(text)?))
+            fixed(text).map(JobLine::Upper)
         } else if keyword == b"lower".as_slice() {
-            Some(JobLine::Lower(fixed(text)?))
+            fixed(text).map(JobLine::Lower)
         } else if keyword == b"uncovered".as_slice() {
-            Some(JobLine::Uncovered(single(text)?))
+            single(text).map(JobLine::Uncovered)
         } else if keyword == b"gauge".as_slice() {
-            Some(JobLine::Gauge(gauge(text)?))
+            gauge(text).map(JobLine::Gauge)
         } else if keyword == b"cost".as_slice() {
-            Some(JobLine::Cost(costs(text)?))
+            costs(text).map(JobLine::Cost)
         } else if keyword == b"gang".as_slice() {
-            Some(JobLine::Gang(single(text)?))
+            single(text).map(JobLine::Gang)
         } else if keyword == b"force".as_slice() {
-            Some(JobLine::Force(single(text)?))
+            single(text).map(JobLine::Force)
         } else if keyword == b"fine".as_slice() {
-            Some(JobLine::Fine(single(text)?))
+            single(text).map(JobLine::Fine)
         } else if keyword == b"stage".as_slice() {
-            Some(JobLine::Stage(pair(text)?))
+            pair(text).map(JobLine::Stage)
         } else if keyword == b"box".as_slice() {
-            Some(JobLine::Box(rect(text)?))
+            rect(text).map(JobLine::Box)
         } else if keyword == b"pieces".as_slice() {
-            Some(JobLine::Pieces(pieces(text)?))
+            pieces(text).map(JobLine::Pieces)
         } else if keyword == b"load".as_slice() {
-            Some(JobLine::Load(pair(text)?))
+            pair(text).map(JobLine::Load)
         } else {
             None
         }
@@ -289,13 +275,13 @@ impl JobLine {
         ensures { Reads line_of result (words_line_in keyword.now text.now) }
     {
         if keyword == b"part".as_slice() {
-            Some(JobLine::part(named_triple(text)?))
+            named_triple(text).map(JobLine::part)
         } else if keyword == b"face".as_slice() {
-            Some(JobLine::Face(face(text)?))
+            face(text).map(JobLine::Face)
         } else if keyword == b"punch".as_slice() {
-            Some(JobLine::punch(named_pair(text)?))
+            named_pair(text).map(JobLine::punch)
         } else if keyword == b"die".as_slice() {
-            Some(JobLine::die(named_triple(text)?))
+            named_triple(text).map(JobLine::die)
         } else {
             JobLine::of_numbers(keyword, text)
         }

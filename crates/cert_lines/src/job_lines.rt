@@ -93,6 +93,7 @@ fn put_face(out: &mut Vec<u8>, face: &Face) -> Result<(), AllocError>
 }
 
 /// A line for each face.
+#[tactic(auto)]
 fn put_faces(out: &mut Vec<u8>, faces: &[Face]) -> Result<(), AllocError>
     ensures { OnOk result (out.new.items
         ≡ out.old.items ++ flat_map (λ face. line_text (face_line (face_data face))) faces.now) }
@@ -142,9 +143,10 @@ fn put_fixed(out: &mut Vec<u8>, keyword: &[u8], fixed: &Fixed) -> Result<(), All
 }
 
 /// A line for each fixed box.
+#[tactic(auto)]
 fn put_all_fixed(out: &mut Vec<u8>, keyword: &[u8], boxes: &[Fixed]) -> Result<(), AllocError>
-    ensures { OnOk result (out.new.items
-        ≡ out.old.items ++ flat_map (λ fixed. text_line keyword.now (fixed_words fixed)) boxes.now) }
+    ensures { OnOk result (out.new.items ≡ out.old.items
+        ++ flat_map (λ fixed. text_line keyword.now (fixed_words fixed)) boxes.now) }
 {
     for fixed in boxes {
         put_fixed(out, keyword, fixed)?;
@@ -242,6 +244,7 @@ fn put_box(out: &mut Vec<u8>, rect: &Rect) -> Result<(), AllocError>
 }
 
 /// A line for each box of a tool.
+#[tactic(auto)]
 fn put_boxes(out: &mut Vec<u8>, boxes: &[Rect]) -> Result<(), AllocError>
     ensures { OnOk result (out.new.items
         ≡ out.old.items ++ flat_map (λ rect. line_text (box_line rect)) boxes.now) }
@@ -293,6 +296,7 @@ fn put_stage(out: &mut Vec<u8>, stage: &Stage) -> Result<(), AllocError>
 }
 
 /// The lines of all stages.
+#[tactic(auto)]
 fn put_stages(out: &mut Vec<u8>, stages: &[Stage]) -> Result<(), AllocError>
     ensures { OnOk result (out.new.items
         ≡ out.old.items ++ flat_map

@@ -110,7 +110,8 @@ impl JobLines {
 
     /// How often in a row a piece may be halved, which makes no job where it isn't 1 to 12.
     fn set_fine(&mut self, depth: i64)
-        ensures { job_lines_data self.new ≡ with_values (job_lines_data self.old) (fine_line depth) }
+        ensures { job_lines_data self.new
+            ≡ with_values (job_lines_data self.old) (fine_line depth) }
     {
         match fine_of(depth) {
             Some(fine) => self.setup.fine = fine,
@@ -132,7 +133,8 @@ impl JobLines {
     /// The load and the limit of the stage, which is then complete.
     fn end_stage(&mut self, load: i64, limit: i64)
         requires { length self.old.setup.stages.items < MOST_STAGES }
-        ensures { job_lines_data self.new ≡ with_values (job_lines_data self.old) (load_line load limit) }
+        ensures { job_lines_data self.new
+            ≡ with_values (job_lines_data self.old) (load_line load limit) }
     {
         let mut stage = mem::replace(&mut self.stage, begun_stage(0, 0));
         stage.load = load;

@@ -45,22 +45,15 @@ pub fn put_count(out: &mut Vec<u8>, value: u64) -> Result<(), AllocError>
     put_signed(out, value as i64)
 }
 
-/// Signed numbers, each behind a space.
-fn put_all_signed(out: &mut Vec<u8>, values: &[i64]) -> Result<(), AllocError>
-    ensures { OnOk result (out.new.items ≡ out.old.items ++ flat_map spaced_number values.now) }
-{
-    for value in values {
-        put_signed(out, *value)?;
-    }
-    Ok(())
-}
-
 /// Signed numbers as words of a line.
 pub fn put_numbers(out: &mut Vec<u8>, values: &[i64]) -> Result<(), AllocError>
     ensures { OnOk result (out.new.items
         ≡ out.old.items ++ flat_map spaced (map signed_decimal values.now)) }
 {
-    put_all_signed(out, values)
+    for value in values {
+        put_signed(out, *value)?;
+    }
+    Ok(())
 }
 
 /// A line of a keyword and signed numbers.

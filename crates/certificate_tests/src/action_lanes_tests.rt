@@ -44,13 +44,9 @@ fn costs_of_actions(rt: HostRuntime) {
     assert_equal(&rt, &sums.least(Mask::empty().with(1)), &BLOCKED);
     let both = ActionSet::empty().with(action(2, 1)).with(action(3, 1));
     assert_equal(&rt, &sums.equal(leads(), 50), &both);
-    assert_equal(&rt, &sums.first_of(both), &Some(action(2, 1)));
-    assert_equal(
-        &rt,
-        &sums.first_of(both.with(action(2, 0))),
-        &Some(action(2, 0)),
-    );
-    assert_equal(&rt, &sums.first_of(ActionSet::empty()), &None);
+    assert_equal(&rt, &sums.only(both).least(leads()), &50);
+    assert_equal(&rt, &sums.only(both).equal(leads(), 50), &both);
+    assert_equal(&rt, &sums.only(ActionSet::empty()).least(leads()), &BLOCKED);
     assert_equal(
         &rt,
         &sums.below(leads(), 50),

@@ -68,6 +68,12 @@ HoldsBefore (Ok given.End) behind = behind ≡ []
 HoldsBefore (Err faults.Unended) behind = behind ≡ []
 HoldsBefore _ behind = Unit {0}
 
+-- such an answer: the bytes at hand don't tell it, since others may stand behind them
+abbrev pub IsUntold : Result Item CertFault → Type 0
+IsUntold (Ok given.End) = Unit {0}
+IsUntold (Err faults.Unended) = Unit {0}
+IsUntold _ = ⊥
+
 -- A line of the text gives this where it stands, and then the rest goes on, whatever bytes may stand
 -- behind the text.
 pub record IsNextLine (place : LinePlace) (text : List ℕ) (given : Result Item CertFault × Section)

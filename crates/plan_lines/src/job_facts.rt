@@ -1,5 +1,6 @@
 //! What a reader keeps of a job, and the bends that may be bent next where a set of bends is folded.
-ghost use Rattle.std.specs.Prelude.{◌≡◌, ◌≤◌, ◌<◌, length};
+ghost use Rattle.std.specs.Prelude.{◌≡◌, ◌≤◌, ◌<◌, ℕ, length, true};
+ghost use Rattle.brake_base.specs.Masks.{has};
 ghost use Rattle.job_setup.specs.StrokeGroup.{is_lead};
 ghost use Rattle.job_setup.specs.Setup.{JobData};
 ghost use Rattle.plan_lines.specs.Facts.{KeepsFacts, HasFew, AreEarlier, AreAllEarlier};
@@ -104,6 +105,9 @@ impl SetLeads {
         requires { HasFew facts.now }
         ensures folded { result.folded ≡ folded }
         ensures leads { AreLeads facts.now result }
+        ensures all { (job : JobData) (bend : ℕ) → KeepsFacts facts.now job → 1 ≤ bend
+            → bend ≤ facts.now.bends → is_lead job folded bend ≡ true
+            → has result.leads bend ≡ true }
     {
         let mut leads = Mask::empty();
         for bend in 1..facts.bends + 1 {

@@ -1,7 +1,7 @@
 //! The lines of notes that are known by their actions, and those of the last row at each stage as one
 //! text. Rows of a set have mostly the notes of the row before, or of the last one at their stage, and
 //! notes that are known needn't be read one by one.
-ghost use Rattle.std.specs.Prelude.{◌≡◌, ◌≢◌, ◌↔◌, ℕ, ◌<◌, ◌≤◌, All, List, length, None, IsTrue, IfSome};
+ghost use Rattle.std.specs.Prelude.{◌≡◌, ◌≢◌, ◌↔◌, ℕ, ◌<◌, ◌≤◌, All, List, length, None, IsTrue, IfSome, bytes_eq, take, codes, ◌⊎◌};
 ghost use Rattle.brake_base.specs.declared.mask.Mask.{Mask};
 ghost use Rattle.brake_base.specs.declared.reason.Reason.{Reason};
 ghost use Rattle.brake_base.specs.Actions.{number_of_action};
@@ -56,8 +56,10 @@ fn is_of(bends: u8, stages: u8, facts: &JobFacts) -> bool
 
 /// Whether the facts agree but for the format.
 fn are_same(facts: &JobFacts, other: &JobFacts) -> bool
-    ensures { IsTrue result → (job : JobData) → KeepsFacts facts.now job
+    ensures kept { IsTrue result → (job : JobData) → KeepsFacts facts.now job
         → KeepsFacts other.now job }
+    ensures same { facts.now.bends ≡ other.now.bends → facts.now.stages ≡ other.now.stages
+        → facts.now.earlier ≡ other.now.earlier → IsTrue result }
 {
     if !is_of(facts.bends, facts.stages, other) {
         return false;
@@ -126,9 +128,12 @@ fn run_at<'a>(
 
 /// That of two runs which has more notes.
 fn longer<'a>(run: &NoteRun<'a>, other: &NoteRun<'a>) -> NoteRun<'a>
-    ensures { (facts : JobFacts) (known : KnownReasons) (leads : Mask) (least : ℕ) (text : List ℕ)
-        → IsRun facts known leads least text run.now → IsRun facts known leads least text other.now
+    ensures run { (facts : JobFacts) (known : KnownReasons) (leads : Mask) (least : ℕ)
+        (text : List ℕ) → IsRun facts known leads least text run.now
+        → IsRun facts known leads least text other.now
         → IsRun facts known leads least text result }
+    ensures one { (result ≡ run.now) ⊎ (result ≡ other.now) }
+    ensures most { (run.now.count ≤ result.count) × (other.now.count ≤ result.count) }
 {
     if run.count < other.count {
         *other
@@ -316,6 +321,7 @@ fn has_code(reason: Reason, code: u16) -> bool
     ensures some { IsTrue result → (other : Reason) → IsCoded other → code_of other ≡ code
         → reason ≡ other }
     ensures none { IsTrue result → code ≢ 65535 }
+    ensures all { IsCoded reason → code_of reason ≡ code → IsTrue result }
 {
     match reason_of(code) {
         Some(other) => reason == other,
@@ -324,6 +330,8 @@ fn has_code(reason: Reason, code: u16) -> bool
 }
 
 /// Whether the text begins as the line of a note does.
-pub fn begins_with_note(text: &[u8]) -> bool {
+pub fn begins_with_note(text: &[u8]) -> bool
+    ensures { result ≡ bytes_eq (take 1 text.now) (codes "x") }
+{
     matches!(text, [b'x', ..])
 }

@@ -1,5 +1,5 @@
 //! Notes that stand behind one another at the front of a text, each with a line that is known.
-ghost use Rattle.std.specs.Prelude.{◌≡◌, ◌∷◌, ◌++◌, ℕ, ◌≤◌, ◌<◌, List, slice_index_or, None, IfSome, IsTrue};
+ghost use Rattle.std.specs.Prelude.{◌≡◌, ◌∷◌, ◌++◌, ◌↔◌, ◌+◌, ◌*◌, min, ℕ, ◌≤◌, ◌<◌, List, slice_index_or, None, IfSome, IsNone, IsTrue};
 ghost use Rattle.brake_base.specs.declared.mask.Mask.{Mask};
 ghost use Rattle.plan_lines.specs.Facts.{HasFew};
 ghost use Rattle.plan_lines.specs.NoteLines.{known_reasons, AreHeld, MayStand, IsRun, line_of};
@@ -35,7 +35,8 @@ fn number_at(side: u8, stages: u8, stage: u8) -> u8
     requires side { side < 24 }
     requires stages { stages ≤ 6 }
     requires stage { stage < 8 }
-    ensures { result < 144 }
+    ensures value { result ≡ min (side * stages + stage) 143 }
+    ensures below { result < 144 }
 {
     (side * stages + stage).min(143)
 }
@@ -68,14 +69,15 @@ pub fn held_at<'a>(notes: &[Option<KnownNote<'a>>; 144], number: u8) -> Option<K
 /// Whether no note is held at a number.
 pub fn is_free(notes: &[Option<KnownNote>; 144], number: u8) -> bool
     requires { number < 144 }
-    ensures { IsTrue result → slice_index_or notes.now number None ≡ None }
+    ensures { IsTrue result ↔ (slice_index_or notes.now number None ≡ None) }
 {
     held_at(notes, number).is_none()
 }
 
 /// What stands behind the line feed with which the text begins.
 fn behind_line_feed(text: &[u8]) -> Option<&[u8]>
-    ensures { IfSome result (λ rest. text.now ≡ 10 ∷ rest.now) }
+    ensures some { IfSome result (λ rest. text.now ≡ 10 ∷ rest.now) }
+    ensures none { IsNone result → (rest : List ℕ) → text.now ≡ 10 ∷ rest → ⊥ }
 {
     match text {
         [b'\n', rest @ ..] => Some(rest),
@@ -85,7 +87,8 @@ fn behind_line_feed(text: &[u8]) -> Option<&[u8]>
 
 /// What stands behind the note's line, where the text begins with it.
 pub fn behind_note<'a>(text: &'a [u8], note: &KnownNote) -> Option<&'a [u8]>
-    ensures { IfSome result (λ rest. text.now ≡ line_of note.now ++ rest.now) }
+    ensures some { IfSome result (λ rest. text.now ≡ line_of note.now ++ rest.now) }
+    ensures none { IsNone result → (rest : List ℕ) → text.now ≡ line_of note.now ++ rest → ⊥ }
 {
     let behind = text.strip_prefix(note.line)?;
     let rest = behind_line_feed(behind)?;

@@ -1,5 +1,5 @@
 //! A reader of the lines behind the job.
-ghost use Rattle.std.specs.Prelude.{◌≡◌, ◌+◌, ◌<◌, ◌≤◌, ◌++◌, ◌∷◌, [], ℕ, List, Result, Err, IfOk, IfSome, IsNone, IsSome, IsTrue, length, true};
+ghost use Rattle.std.specs.Prelude.{◌≡◌, ◌+◌, ◌<◌, ◌≤◌, ◌++◌, ◌∷◌, [], ℕ, List, Result, Err, IfOk, IfSome, IsNone, IsSome, IsTrue, IsFalse, length, true};
 ghost use Rattle.plan_lines.specs.declared.item.Item.{Item};
 ghost use Rattle.plan_lines.specs.declared.item.CertFault.{CertFault};
 ghost use Rattle.stage_lanes.specs.ActionSets.{places_of};
@@ -7,7 +7,7 @@ ghost use Rattle.plan_lines.specs.Facts.{HasFew};
 ghost use Rattle.plan_lines.specs.Items.{items};
 ghost use Rattle.plan_lines.specs.PlanItem.{plan_answer, job_answer};
 ghost use Rattle.cert_lines.specs.LineReading.{IsBehind};
-ghost use Rattle.plan_lines.specs.Reading.{IsNextLine, LeavesAt, GivesNext, HoldsBefore, MayBeBehind};
+ghost use Rattle.plan_lines.specs.Reading.{IsNextLine, LeavesAt, GivesNext, HoldsBefore, IsUntold, MayBeBehind};
 ghost use Rattle.plan_lines.specs.NoteLines.{notes_told, AreKnownAll, LearnsFrom, GivesAll};
 
 use crate::item::{CertFault, PlanItem};
@@ -63,6 +63,7 @@ pub fn pass_line<'a>(reader: &mut PlanReader<'a>, section: Section, rest: &'a [u
 fn is_told(answer: &Result<PlanItem, CertFault>, is_last: bool) -> bool
     ensures told { IsTrue result → (behind : List ℕ) → MayBeBehind is_last behind
         → HoldsBefore (plan_answer answer.now) behind }
+    ensures untold { IsFalse result → IsUntold (plan_answer answer.now) }
     ensures last { is_last ≡ true → result ≡ true }
 {
     match answer {
@@ -124,11 +125,16 @@ impl<'a> PlanReader<'a> {
         is_last: bool,
     ) -> Option<Result<PlanItem, CertFault>>
         requires few { HasFew self.old.place.facts }
-        ensures given { IfSome result (λ answer. (behind : List ℕ) (answers : List (Result Item CertFault))
-            → MayBeBehind is_last behind → LeavesAt self.old.place (self.old.rest.now ++ behind) answers
-            → 0 < length answers → GivesNext answers (plan_answer answer) self.new.place (self.new.rest.now ++ behind)) }
-        ensures known { IfSome result (λ answer. LearnsFrom known.old (plan_answer answer) known.new) }
+        ensures given { IfSome result (λ answer. (behind : List ℕ)
+            (answers : List (Result Item CertFault)) → MayBeBehind is_last behind
+            → LeavesAt self.old.place (self.old.rest.now ++ behind) answers → 0 < length answers
+            → GivesNext answers (plan_answer answer) self.new.place (self.new.rest.now ++ behind)) }
+        ensures known { IfSome result (λ answer.
+            LearnsFrom known.old (plan_answer answer) known.new) }
         ensures last { is_last ≡ true → IsSome result }
+        ensures none { IsNone result → (answer : Result Item CertFault)
+            (more : List (Result Item CertFault))
+            → LeavesAt self.old.place self.old.rest.now (answer ∷ more) → IsUntold answer }
         ensures place { IsNone result → self.new.place ≡ self.old.place }
         ensures unread { IsNone result → self.new.rest.now ≡ self.old.rest.now }
         ensures few { HasFew self.new.place.facts }

@@ -1,5 +1,7 @@
 mod Places
 mod Leads
+mod OtherBends
+mod SameAttitudes
 mod Attitudes
 mod LeadSteps
 mod SetLaneSteps

@@ -25,7 +25,7 @@ use Rattle.handling_cost.proofs.Mates.{grouped_flat}
 use Rattle.handling_cost.proofs.Actions.{IsLead, lead_from, few_bends, folds_own, has_zero, full_has_no_lead, no_leads}
 use Rattle.handling_cost.proofs.Keys.{some_stage, next_in_range}
 use Rattle.set_facts.specs.Facts.{AreLeads, HasNoneBeyond}
-use Rattle.set_facts.specs.FirstLeft.{IsFirstLeft, AreMeeting}
+use Rattle.set_facts.specs.FirstLeft.{IsFirstLeft, AreMeeting, AreNearest}
 use Rattle.set_facts.specs.LaneFacts.{key_at, HasBounds, HasFarthest}
 use Rattle.set_facts.proofs.LeadSteps.{clash, others_stay, leads_after, farthest_after}
 use Rattle.set_facts.proofs.LaneTables.{lanes_by_stage}
@@ -119,10 +119,11 @@ module _ (job : JobData) (is_job : IsJob job) (mask : Mask) (bend : ℕ) (left :
   pub count_joined : (count : ℕ) → count ≡ length (leads_left job (union mask (group_of job mask bend))) → count + 1 ≡ length (leads_left job mask)
   count_joined count is = ap (λ (n : ℕ). n + 1) is ∙ sym count_before
 
-  pub farthest_joined : (after here : List ℕ) → HasFarthest job (union mask (group_of job mask bend)) after
-      → ((stage d : ℕ) → stage < stage_count job → get_or here stage d ≡ max (nearest stage (meeting_stages job mask bend)) (get_or after stage d)) → HasFarthest job mask here
-  farthest_joined after here are is stage d below =
-      is stage d below ∙ (ap (λ (n : ℕ). max (nearest stage (meeting_stages job mask bend)) n) (are stage d below) ∙ sym (farthest_before stage))
+  pub farthest_joined : (ways after here : List ℕ) → AreNearest job mask bend ways → HasFarthest job (union mask (group_of job mask bend)) after
+      → ((stage d : ℕ) → stage < 6 → get_or here stage d ≡ max (get_or ways stage d) (get_or after stage d)) → HasFarthest job mask here
+  farthest_joined ways after here near are is stage d below =
+      let few = is_job.setup.stages.few_stages in
+      is stage d (omega (arith, below, few)) ∙ ((λ i. max (near stage d below i) (are stage d below i)) ∙ sym (farthest_before stage))
 
 -- where every bend is folded no lead is left, and no way is far
 module _ (job : JobData) (mask : Mask) (full : IsFull job (key_at mask 0)) where
@@ -143,7 +144,7 @@ module _ (job : JobData) (mask : Mask) (full : IsFull job (key_at mask 0)) where
 abbrev pub AreLeft : JobData → Mask → Mask → Type 0
 AreLeft job mask rest = (b : ℕ) → has rest b ≡ ((nat_le 1 b && nat_le b (bend_count job)) && not (has mask b))
 
-left_is : (job : JobData) (mask rest : Mask) (b : ℕ) → AreLeft job mask rest → 1 ≤ b → b ≤ bend_count job → has rest b ≡ not (has mask b)
+pub left_is : (job : JobData) (mask rest : Mask) (b : ℕ) → AreLeft job mask rest → 1 ≤ b → b ≤ bend_count job → has rest b ≡ not (has mask b)
 left_is job mask rest b are first last = are b ∙ rw (le-leb 1 b first, le-leb b (bend_count job) last) refl
 
 folded_from : (t : Bool) → not t ≡ false → t ≡ true

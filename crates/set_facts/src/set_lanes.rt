@@ -3,17 +3,20 @@
 ghost use Rattle.std.specs.Prelude.{◌≡◌, ℕ, ◌+◌, ◌<◌, ◌≤◌, ◌^◌, false, max, filter, length, slice_index_or, IfSome, IfNone};
 ghost use Rattle.std.specs.List.{range_with_len};
 ghost use Rattle.brake_base.specs.Masks.{union};
-ghost use Rattle.job_setup.specs.Setup.{bend_count, stage_count};
+ghost use Rattle.job_setup.specs.Setup.{bend_count, shape_of};
 ghost use Rattle.job_setup.specs.ValidJob.{IsJob};
 ghost use Rattle.job_setup.specs.StrokeGroup.{group_of};
-ghost use Rattle.handling_cost.specs.Bound.{nearest, meeting_stages, leads_left};
+ghost use Rattle.handling_cost.specs.Bound.{nearest, leads_left};
 ghost use Rattle.handling_cost.specs.Nearest.{lesser};
 ghost use Rattle.handling_cost.specs.StepCost.{IsFull};
+ghost use Rattle.fold_boxes.specs.Pose.{attitude_of};
+ghost use Rattle.set_facts.specs.Facts.{AreAttitudes};
 ghost use Rattle.set_facts.specs.LaneFacts.{key_at, IsSetLanes, HasFarthest, HasBounds, AreFilled};
-ghost use Rattle.set_facts.specs.FirstLeft.{IsFirstLeft, AreMeeting};
+ghost use Rattle.set_facts.specs.FirstLeft.{IsFirstLeft, AreMeeting, AreNearest, AgreeTo};
 
-use crate::facts::attitudes_of;
-use brake_base::{Mask, Turn};
+use crate::facts::{attitudes_of, side_place};
+use brake_base::{Back, Mask, Turn};
+use fold_boxes::{Shape, attitude_from, place};
 use handling_cost::bound_with;
 use job_setup::{Job, group, meets_at};
 use stage_lanes::{BLOCKED, StageCosts};
@@ -56,8 +59,11 @@ impl SetLanes {
         match first_left(job, mask) {
             None => SetLanes::of_all_folded(job, mask),
             Some(bend) => {
-                let after = mask.union(group(job, mask, bend));
-                SetLanes::before(job, mask, bend, &sets[usize::from(after.0)])
+                let group = group(job, mask, bend);
+                let ways = ways_to(job, mask, bend, group, sets);
+                let attitudes = attitudes_before(job, mask, sets);
+                let after = &sets[usize::from(mask.union(group).0)];
+                SetLanes::before(job, mask, bend, &ways, attitudes, after)
             }
         }
     }
@@ -77,21 +83,32 @@ impl SetLanes {
         }
     }
 
-    /// What belongs to a set before the stroke of its least unfolded bend, from what belongs to the
-    /// set after it: the bend is one more lead, and the others stay, with their groups.
-    fn before(job: &Job, mask: Mask, bend: u8, after: &SetLanes) -> SetLanes
+    /// What belongs to a set before the stroke of its least unfolded bend, from the ways to the
+    /// stages that meet the bend's group, from the attitudes, and from what belongs to the set after
+    /// it: the bend is one more lead, and the others stay, with their groups.
+    fn before(
+        job: &Job,
+        mask: Mask,
+        bend: u8,
+        ways: &[u8; 6],
+        attitudes: [Turn; 24],
+        after: &SetLanes,
+    ) -> SetLanes
+        requires valid { IsJob job.now }
         requires bend { IsFirstLeft job.now mask bend }
+        requires ways { AreNearest job.now mask bend ways.now }
+        requires held { AreAttitudes job.now mask attitudes }
         requires after { IsSetLanes job.now (union mask (group_of job.now mask bend)) after.now }
         ensures { IsSetLanes job.now mask result }
     {
-        let farthest = farthest_before(job, mask, bend, &after.farthest);
+        let farthest = farther(ways, &after.farthest);
         let count = after.count + 1;
         SetLanes {
             leads: after.leads.with(bend),
             count,
             farthest,
             bounds: bounds_from(job, mask, count, &farthest),
-            attitudes: attitudes_of(job, mask),
+            attitudes,
         }
     }
 }
@@ -119,25 +136,105 @@ fn bounds_from(job: &Job, mask: Mask, leads: u8, farthest: &[u8; 6]) -> StageCos
     StageCosts(bounds)
 }
 
-/// At each stage the greater of the distance to the nearest stage that meets the bend's group, and of
-/// the distance that is given.
-fn farthest_before(job: &Job, mask: Mask, bend: u8, after: &[u8; 6]) -> [u8; 6]
+/// At each stage the distance to the nearest stage that meets the bend's group. Where all other
+/// bends are folded the bend leads the same group, and no other is left, so the distances stand
+/// there, unless this is that set.
+fn ways_to(job: &Job, mask: Mask, bend: u8, group: Mask, sets: &[SetLanes]) -> [u8; 6]
+    requires bend { IsFirstLeft job.now mask bend }
+    requires group { group ≡ group_of job.now mask bend }
+    requires greater { AreFilled job.now (mask.0 + 1) sets.now }
+    ensures { AreNearest job.now mask bend result }
+{
+    let others = Mask::full(job.bends()).without(group);
+    if mask.0 < others.0 {
+        sets[usize::from(others.0)].farthest
+    } else {
+        ways_from_each(job, mask, bend)
+    }
+}
+
+/// The greater of two distances, at each stage.
+fn farther(first: &[u8; 6], second: &[u8; 6]) -> [u8; 6]
+    ensures { (stage d : ℕ) → stage < 6 → slice_index_or result stage d
+        ≡ max (slice_index_or first.now stage d) (slice_index_or second.now stage d) }
+{
+    let mut farther = [0; 6];
+    for stage in 0..6 {
+        farther[stage] = first[stage].max(second[stage]);
+    }
+    farther
+}
+
+/// At each stage the distance to the nearest stage that meets the bend's group, by looking at each.
+fn ways_from_each(job: &Job, mask: Mask, bend: u8) -> [u8; 6]
     requires some { 0 < bend }
     requires bend { bend < length job.now.part.faces }
-    ensures distances { (stage d : ℕ) → stage < stage_count job.now
-        → slice_index_or result stage d
-        ≡ max (nearest stage (meeting_stages job.now mask bend))
-        (slice_index_or after.now stage d) }
-    ensures valid { IsJob job.now }
+    ensures { AreNearest job.now mask bend result }
 {
     let meeting = meeting_of(job, mask, bend);
     let stages = job.stages();
-    let mut farthest = [0; 6];
+    let mut ways = [0; 6];
     for stage in 0..stages {
-        let place = usize::from(stage);
-        farthest[place] = nearest(&meeting, stages, stage).max(after[place]);
+        ways[usize::from(stage)] = nearest(&meeting, stages, stage);
     }
-    farthest
+    ways
+}
+
+/// How the part is held in the strokes of each bend, where it is known at all greater sets.
+fn attitudes_before(job: &Job, mask: Mask, sets: &[SetLanes]) -> [Turn; 24]
+    requires { AreFilled job.now (mask.0 + 1) sets.now }
+    ensures { AreAttitudes job.now mask result }
+{
+    let mut attitudes = [Turn::from_number(0); 24];
+    for bend in 1..job.bends() + 1 {
+        let at = side_place(bend, Back::Parent);
+        (attitudes[at], attitudes[at + 1]) = attitudes_at(job, mask, bend, sets);
+    }
+    attitudes
+}
+
+/// How the part is held in the strokes of a bend, with the parent and with the child at the back. It
+/// depends on the bends up to the bend's parent alone, so it stands where all bends past these are
+/// folded, unless this is that set.
+fn attitudes_at(job: &Job, mask: Mask, bend: u8, sets: &[SetLanes]) -> (Turn, Turn)
+    requires some { 0 < bend }
+    requires bend { bend < length job.now.part.faces }
+    requires greater { AreFilled job.now (mask.0 + 1) sets.now }
+    ensures parent { result.0 ≡ attitude_of (shape_of job.now) mask bend Back.Parent }
+    ensures child { result.1 ≡ attitude_of (shape_of job.now) mask bend Back.Child }
+{
+    let greater = folded_past(job, mask, job.shape().parent(bend));
+    if mask.0 < greater.0 {
+        let attitudes = &sets[usize::from(greater.0)].attitudes;
+        let at = side_place(bend, Back::Parent);
+        (attitudes[at], attitudes[at + 1])
+    } else {
+        attitudes_of_bend(job.shape(), mask, bend)
+    }
+}
+
+/// The same, from where the faces lie.
+fn attitudes_of_bend(shape: &Shape, mask: Mask, bend: u8) -> (Turn, Turn)
+    requires some { 0 < bend }
+    requires bend { bend < length shape.now.part.faces }
+    ensures parent { result.0 ≡ attitude_of shape.now mask bend Back.Parent }
+    ensures child { result.1 ≡ attitude_of shape.now mask bend Back.Child }
+{
+    let places = place(shape, mask);
+    let parent = attitude_from(shape, places.as_slice(), mask, bend, Back::Parent);
+    let child = attitude_from(shape, places.as_slice(), mask, bend, Back::Child);
+    (parent, child)
+}
+
+/// The set that has the mask's bends up to a number, and all of the job's bends past it.
+fn folded_past(job: &Job, mask: Mask, last: u8) -> Mask
+    requires { last ≤ bend_count job.now }
+    ensures same { AgreeTo last result mask }
+    ensures within { result.0 < 2 ^ bend_count job.now }
+{
+    let bends = job.bends();
+    let flat = Mask::full(last).without(mask);
+    Mask::full(bends).without(flat)
 }
 
 /// Which stages meet the bend's group.

@@ -11,7 +11,7 @@ use Rattle.gauge_rules.specs.Pairs.{AreLegalBoxes, IsFirstLegal, IsFirstWith}
 use Rattle.job_setup.specs.Setup.{JobData}
 use Rattle.job_setup.specs.LegalGauge.{IsFlatFace, IsLeftOfPair, IsRightOf, IsLegalPair}
 use Rattle.sweep_check.specs.Hits.{IsLeastNumber}
-use Rattle.stroke_table.specs.Gauging.{MakesPair, IsAtTop, MayBeRight}
+use Rattle.stroke_table.specs.Gauging.{MakesPair, IsAtTop, MayBeLeft, MayBeRight}
 
 abbrev pub Ascend : List PoseBox → Type 0
 Ascend boxes = AllPairs (λ a b. a.id < b.id) boxes
@@ -63,10 +63,12 @@ module _ (job : JobData) (pose : PoseData) (boxes : List PoseBox) (same : boxes 
   at_top face box flat = record { half = flat.half; top = flat.fills.high }
 
   -- the left box of a legal pair
-  pub left_at_top : Ascend boxes → (left : PoseBox) → IsAmong boxes left → (gauge : Gauge) → gauge.left_face ≡ left.id → IsLegalPair job pose gauge → IsAtTop left
-  left_at_top ascend left among gauge is legal =
+  pub left_may_be : Ascend boxes → (left : PoseBox) → IsAmong boxes left → (gauge : Gauge) → gauge.left_face ≡ left.id → IsLegalPair job pose gauge → MayBeLeft job.setup.gauge left
+  left_may_be ascend left among gauge is legal =
       let some = left_of gauge legal in
-      subst IsAtTop (one_box boxes ascend some.1 left (some.0, some.1, some.2, some.3, refl) among (some.4.0.number ∙ is)) (at_top gauge.left_face some.1 some.4.0)
+      let other = right_of gauge some.1 some.4 in
+      let is_left = one_box boxes ascend some.1 left (some.0, some.1, some.2, some.3, refl) among (some.4.0.number ∙ is) in
+      subst (MayBeLeft job.setup.gauge) is_left (record { top = at_top gauge.left_face some.1 some.4.0; near = other.4.1.reach.edge.near })
 
   -- and the right one
   pub right_may_be : Ascend boxes → (left right : PoseBox) → IsAmong boxes left → IsAmong boxes right → MakesPair job pose left right → MayBeRight left right

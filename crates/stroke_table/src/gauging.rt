@@ -1,10 +1,10 @@
 //! The first legal pair of a stroke, looked for among the boxes that lie as high as the sheet.
-ghost use Rattle.std.specs.Prelude.{◌≡◌, ◌↔◌, ◌<◌, IsTrue, All, Any, AllPairs};
+ghost use Rattle.std.specs.Prelude.{◌≡◌, ◌↔◌, ◌<◌, ◌≤ℤ◌, IsTrue, All, Any, AllPairs};
 ghost use Rattle.fold_boxes.specs.Pose.{pose_data};
 ghost use Rattle.fold_boxes.specs.Posing.{IsNearPoseBox};
 ghost use Rattle.gauge_rules.specs.Pairs.{IsFirstLegal};
 ghost use Rattle.sweep_check.specs.Hits.{IsLeastNumber};
-ghost use Rattle.stroke_table.specs.Gauging.{MakesPair, IsAtTop, MayBeRight};
+ghost use Rattle.stroke_table.specs.Gauging.{MakesPair, IsAtTop, MayBeLeft, MayBeRight};
 
 use brake_base::{Gauge, Half};
 use fold_boxes::{Pose, PoseBox};
@@ -39,7 +39,7 @@ fn first_right(job: &Job, pose: &Pose, boxes: &[PoseBox], left: &PoseBox) -> Opt
     ensures { IsLeastNumber (λ body. body.id)
         (MakesPair job.now (pose_data pose.now) left.now) boxes.now result }
 {
-    if !is_at_top(left) {
+    if !may_be_left(job, left) {
         return None;
     }
     for right in boxes {
@@ -62,11 +62,25 @@ fn is_pair(job: &Job, pose: &Pose, boxes: &[PoseBox], left: &PoseBox, right: &Po
     may_be_right(left, right) && are_legal(job, pose, left, right)
 }
 
+/// Whether the box lies as high as the sheet in the back half, and isn't too near for the gauge.
+fn may_be_left(job: &Job, left: &PoseBox) -> bool
+    ensures { IsTrue result ↔ MayBeLeft job.now.setup.gauge left.now }
+{
+    is_at_top(left) && is_far_enough(job, left)
+}
+
+/// Whether the box ends no nearer to the bend line than the gauge comes.
+fn is_far_enough(job: &Job, body: &PoseBox) -> bool
+    ensures { IsTrue result ↔ (job.now.setup.gauge.near ≤ℤ body.now.body.hi.y) }
+{
+    job.setup().gauge.near <= body.body.hi.y
+}
+
 /// Whether the right box lies as high as the sheet in the back half, and ends at the left one's edge.
 fn may_be_right(left: &PoseBox, right: &PoseBox) -> bool
     ensures { IsTrue result ↔ MayBeRight left.now right.now }
 {
-    is_at_top(right) && is_same_edge(left, right)
+    is_same_edge(left, right) && is_at_top(right)
 }
 
 /// Whether both boxes end at one edge.

@@ -1,4 +1,4 @@
-use Rattle.std.proofs.Common.{◌≡◌, inl, inr, ◌<◌, ◌*◌, ◌≤◌, ℕ, length, Some, arith, refl, sym, ◌∙◌, ap, subst}
+use Rattle.std.proofs.Common.{◌≡◌, inl, inr, ◌<◌, ◌*◌, ◌≤◌, ◌==◌, true, not, ℕ, length, Some, arith, refl, sym, ◌∙◌, ap, subst}
 use Rattle.std.specs.Prelude.{slice_get, Contains}
 use Rattle.brake_base.specs.declared.space.Place.{Place}
 use Rattle.brake_base.specs.declared.stroke.Key.{Key}
@@ -21,9 +21,12 @@ use Rattle.handling_cost.proofs.Actions.{few_bends, fewer_left}
 use Rattle.handling_cost.proofs.Keys.{next_in_range}
 use Rattle.bb_search.specs.Settling.{IsSound, OpenAbove}
 use Rattle.bb_search.specs.OpenRows.{IsSameAbove}
-use Rattle.bb_search.proofs.ExploreLemmas.{cheapest_later, cheapest_at, cheapest_unknown, cheapest_floor, later_gone, later_kept, open_later, least_later, slack_small, spent_since, fewer_since}
+use Rattle.set_facts.specs.Facts.{AreLeads}
+use Rattle.bb_search.proofs.OpenSums.{untested_cost, cheapest_by_sums, cheapest_by_others, only_later, of_leads, open_sums}
+use Rattle.bb_search.proofs.ExploreLemmas.{first_holds, cheapest_later, cheapest_at, cheapest_unknown, cheapest_floor, later_gone, later_kept, open_later, least_later, slack_small, spent_since, fewer_since}
 use Rattle.bb_search.proofs.Measures.{fewer_places}
-use Rattle.stage_lanes.specs.ActionSets.{place_of}
+use Rattle.stage_lanes.specs.ActionSets.{place_of, has_place}
+use Rattle.action_lanes.specs.Costs.{cost_at}
 use Rattle.bb_search.proofs.FoldLemmas.{room_left}
 use Rattle.bb_search.proofs.KnownLemmas.{at_set, place_small}
 use Rattle.bb_search.proofs.TryLemmas.{same_above_more, refused_told, refused_slack, next_range, next_small, next_bound, learnt_told, learnt_slack, learnt_above, learnt_settling, learnt_known}
@@ -91,16 +94,19 @@ settle-explore-requires t c =
                     (
                       subst (λ (r : ListWithRoom Place). 13 * left job key ≤ r.room) (sym invariant.trail) c.requires.room,
                       (
-                        c.put_all_sums.ensures,
+                        subst (λ (j : JobData). AreLeads j key.mask c.leads-leads.result) c.requires.known.its_job c.leads-leads.ensures.leads,
                         (
-                          (invariant.choice at here).capped,
+                          c.put_all_sums.ensures,
                           (
-                            λ known stands. (invariant.choice known stands).least,
+                            (invariant.choice at here).capped,
                             (
-                              λ known stands.
-                                  open_of_choice job c.requires.job key known choice (invariant.choice known stands)
-                                  c.loop-leads.untested (invariant.untested known stands),
-                              λ none. (let yes = c.is_empty.ensures.1 none in let no = c.loop-leads-test.true in cc),
+                              λ known stands. (invariant.choice known stands).least,
+                              (
+                                λ known stands.
+                                    open_of_choice job c.requires.job key known choice (invariant.choice known stands)
+                                    c.loop-leads.untested (invariant.untested known stands),
+                                λ none. (let yes = c.is_empty.ensures.1 none in let no = c.loop-leads-test.true in cc),
+                              ),
                             ),
                           ),
                         ),
@@ -204,6 +210,21 @@ settle-returns-clause-known t c =
     c.worth_from-worth.ensures c.in_ok-row.row c.in_ok-row.ensures.row c.set_notes.new.self c.set_worth.new.self
     c.set_notes.ensures.set c.set_worth.ensures.set).1
 
+pub explore-next_open-requires-clause-leads : goal.explore-next_open-requires-clause-leads
+explore-next_open-requires-clause-leads t c =
+    let job = c.args.job.now in
+    let key = c.args.key.now in
+    let here = known_here job c.loop-action.pool c.loop-action.table c.loop-action.invariant.known key.mask c.requires.range.mask in
+    of_leads job c.requires.job key c.args.leads c.args.best here.0 c.loop-action.untested (c.loop-action.invariant.waiting here.0 here.1) c.requires.leads
+
+pub explore-next_open-requires-clause-sums : goal.explore-next_open-requires-clause-sums
+explore-next_open-requires-clause-sums t c =
+    let job = c.args.job.now in
+    let key = c.args.key.now in
+    let here = known_here job c.loop-action.pool c.loop-action.table c.loop-action.invariant.known key.mask c.requires.range.mask in
+    open_sums job c.requires.job key c.args.leads c.args.best here.0 c.loop-action.untested (c.loop-action.invariant.waiting here.0 here.1) c.args.sums.now
+    c.loop-action.untested_sums c.requires.sums c.loop-action.invariant.sums c.requires.capped
+
 pub explore-try_action-requires : goal.explore-try_action-requires
 explore-try_action-requires t c =
     let job = c.args.job.now in
@@ -216,9 +237,12 @@ explore-try_action-requires t c =
     let untested = c.loop-action.untested in
     let invariant = c.loop-action.invariant in
     let action = c.in-Some.action in
-    let cheapest = c.in-Some.ensures.some in
+    let cheapest = cheapest_by_sums sums c.loop-action.untested_sums untested invariant.sums action c.in-Some.ensures.some in
     let here = known_here job pool table invariant.known key.mask c.requires.range.mask in
     let at = cheapest_at job is_job key best here.0 untested (invariant.waiting here.0 here.1) c.args.leads sums c.requires.sums action cheapest in
+    let same = untested_cost sums c.loop-action.untested_sums untested invariant.sums (place_of action) (place_small action cheapest.among) cheapest.member in
+    let less = c.in-Some.ensures.below in
+    let below : cost_at sums (place_of action) < c.loop-action.limit = omega (arith, same, less) in
     let start = c.requires.settling in (
       omega (arith, c.decreases),
       (
@@ -236,7 +260,7 @@ explore-try_action-requires t c =
                   (
                     λ k is. cheapest_unknown job is_job key best k untested (invariant.waiting k is) c.args.leads sums c.requires.sums action cheapest,
                     (
-                      λ k is. cheapest_floor job is_job key best k untested (invariant.waiting k is) c.args.leads sums c.requires.sums action cheapest c.loop-action.limit c.in-Some.ensures.below (invariant.least k is),
+                      λ k is. cheapest_floor job is_job key best k untested (invariant.waiting k is) c.args.leads sums c.requires.sums action cheapest c.loop-action.limit below (invariant.least k is),
                       (
                         ap (λ (s : StateData). s.shape) invariant.state ∙ c.requires.shape,
                         (
@@ -281,7 +305,7 @@ explore-loop-action-smaller t c =
     let untested = c.loop-action.untested in
     let invariant = c.loop-action.invariant in
     let action = c.in-Some.action in
-    let cheapest = c.in-Some.ensures.some in
+    let cheapest = cheapest_by_sums sums c.loop-action.untested_sums untested invariant.sums action c.in-Some.ensures.some in
     let here = known_here job pool table invariant.known key.mask c.requires.range.mask in
     let at = cheapest_at job is_job key best here.0 untested (invariant.waiting here.0 here.1) c.args.leads sums c.requires.sums action cheapest in
     let later = c.except-untested.result in
@@ -305,7 +329,7 @@ explore-loop-action-preserved t c =
     let untested = c.loop-action.untested in
     let invariant = c.loop-action.invariant in
     let action = c.in-Some.action in
-    let cheapest = c.in-Some.ensures.some in
+    let cheapest = cheapest_by_sums sums c.loop-action.untested_sums untested invariant.sums action c.in-Some.ensures.some in
     let here = known_here job pool table invariant.known key.mask c.requires.range.mask in
     let at = cheapest_at job is_job key best here.0 untested (invariant.waiting here.0 here.1) c.args.leads sums c.requires.sums action cheapest in
     let later = c.except-untested.result in
@@ -313,6 +337,10 @@ explore-loop-action-preserved t c =
     let lower = c.min-limit.ensures in
     let slack = c.in_ok-slack.slack in
     let cost = c.cost.ensures ∙ c.requires.sums.each action at in
+    let sums_later = only_later sums c.loop-action.untested_sums c.set_cost.new.self action untested later later_are c.set_cost.ensures.costs invariant.sums in
+    let was : (place : ℕ) → place < 192 → has_place later place ≡ true → cost_at c.loop-action.untested_sums place ≡ cost_at sums place =
+    λ place within its. untested_cost sums c.loop-action.untested_sums untested invariant.sums place within
+    (first_holds (has_place untested place) (not (place == place_of action)) (sym (later_are place within) ∙ its)) in
     record {
       low = let low = invariant.low in omega (arith, lower, low);
       least = λ k is.
@@ -320,7 +348,10 @@ explore-loop-action-preserved t c =
           (omega (arith, lower)) (omega (arith, lower, cost)) (invariant.least here.0 here.1);
       waiting = λ k is.
           open_later job is_job key action at here.0 k (c.in_ok-slack.ensures.told here.0 k here.1 is) best untested later later_are (invariant.waiting here.0 here.1);
-      cheapest = cheapest_later sums action untested c.next_open.new.cheapest later c.except-cheapest.result later_are c.except-cheapest.ensures.places c.next_open.ensures.cheapest;
+      sums = sums_later;
+      cheapest = cheapest_by_others c.loop-action.untested_sums c.set_cost.new.self later c.except-cheapest.result
+          (λ place within its. was place within its ∙ sym (untested_cost sums c.set_cost.new.self later sums_later place within its))
+          (cheapest_later c.loop-action.untested_sums action untested c.next_open.new.cheapest later c.except-cheapest.result later_are c.except-cheapest.ensures.places c.next_open.ensures.cheapest);
       settling = λ before start. c.in_ok-slack.ensures.found before (invariant.settling before start);
       known = c.in_ok-slack.ensures.known;
       fewer = inr (fewer_since job is_job pool c.args.table.now table c.try_action.new.table key c.requires.range.mask invariant.known action cheapest.among

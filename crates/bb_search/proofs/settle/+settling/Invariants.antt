@@ -1,7 +1,7 @@
 use Rattle.std.proofs.Common.{◌≡◌, ◌⊎◌, ℕ, ◌+◌, ◌*◌, ◌<◌, ◌≤◌, ◌&&◌, not}
 use Rattle.brake_base.specs.declared.stroke.Action.{Action}
 use Rattle.stage_lanes.specs.ActionSets.{has_place, ArePlaces}
-use Rattle.action_lanes.specs.Cheapest.{AreCheapest}
+use Rattle.action_lanes.specs.Cheapest.{AreOnly, AreCheapest}
 use Rattle.handling_cost.specs.StepCost.{IsActionAt, left}
 use Rattle.handling_cost.specs.Bound.{sum_of}
 use Rattle.row_pool.specs.Rows.{Pool}
@@ -30,7 +30,8 @@ invariant-explore-loop-action l = record {
   least : IsKnownSo l.table l.key.mask (λ at. (action : Action) → IsActionAt l.job l.key action
       → (n : ℕ) → n ≤ l.best → n < l.limit → n ≤ sum_of l.job l.key action + slack_of at action);
   waiting : IsKnownSo l.table l.key.mask (λ at. AreOpen l.job l.key at l.best l.untested);
-  cheapest : AreCheapest l.sums l.untested l.cheapest;
+  sums : AreOnly l.sums l.untested l.untested_sums;
+  cheapest : AreCheapest l.untested_sums l.untested l.cheapest;
   settling : (before : Pool) → IsSettlingBy l.job before l.fn.pool l.key l.fn.table
       → IsSettlingBy l.job before l.pool l.key l.table;
   known : AreKnown l.job l.pool l.table;

@@ -28,5 +28,5 @@ returns c =
         from_least = omega (arith, from, at);
         is_lead = sym c.contains.ensures ∙ c.if-not-contains.false;
       },
-      c.in_ok-rest.ensures,
+      c.in_ok-rest.ensures.some,
     )

@@ -3,12 +3,12 @@ use Rattle.fold_boxes.specs.Pose.{pose_data}
 use Rattle.sweep_check.proofs.Tests.{clash}
 use Rattle.sweep_check.proofs.FirstHits.{each_more, each_all, least_at}
 use Rattle.stroke_table.specs.Gauging.{MakesPair}
-use Rattle.stroke_table.proofs.LegalBoxes.{among_at, left_at_top}
+use Rattle.stroke_table.proofs.LegalBoxes.{among_at, left_may_be}
 use Rattle.stroke_table.proofs.gauging.first_right.Goals as goal
 
-pub returns-then-not-is_at_top : goal.returns-then-not-is_at_top
-returns-then-not-is_at_top c = λ k d inside legal.
-    clash c.is_at_top.result c.if-not-is_at_top.true (c.is_at_top.ensures.1 (left_at_top c.args.job.now (pose_data c.args.pose.now) c.args.boxes.now c.requires.boxes c.requires.ascend c.args.left.now c.requires.left _ refl legal))
+pub returns-then-not-may_be_left : goal.returns-then-not-may_be_left
+returns-then-not-may_be_left c = λ k d inside legal.
+    clash c.may_be_left.result c.if-not-may_be_left.true (c.may_be_left.ensures.1 (left_may_be c.args.job.now (pose_data c.args.pose.now) c.args.boxes.now c.requires.boxes c.requires.ascend c.args.left.now c.requires.left _ refl legal))
 
 pub is_pair-requires-clause-right : goal.is_pair-requires-clause-right
 is_pair-requires-clause-right c = among_at c.args.boxes.now c.loop-right.right-index _ c.loop-right-test.true

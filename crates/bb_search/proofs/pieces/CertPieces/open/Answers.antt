@@ -1,4 +1,4 @@
-use Rattle.std.proofs.Common.{◌<◌, ◌^◌, length, subst, sym, arith}
+use Rattle.std.proofs.Common.{◌<◌, length, subst, sym, arith}
 use Rattle.bb_search.specs.WrittenRows.{AreWritable}
 use Rattle.bb_search.proofs.GoingOn.{can_go_on, opened_whole}
 use Rattle.bb_search.proofs.pieces.CertPieces.open.Goals as goal

@@ -1,4 +1,4 @@
-use Rattle.std.proofs.Common.{◌≡◌, ◌==◌, ◌∙◌, ap, ℕ, [], length, vec_len, None, true, false, arith, rules}
+use Rattle.std.proofs.Common.{◌≡◌, ◌==◌, ◌∙◌, ap, ℕ, [], length, vec_len, None, true, false, rules}
 use Rattle.bb_search.proofs.GoingOn.{empty_is, none_is, not_true, not_false, nothing_left, end_given}
 use Rattle.bb_search.proofs.pieces.CertPiecesPieces.next.Goals as goal
 

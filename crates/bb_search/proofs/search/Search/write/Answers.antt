@@ -1,4 +1,4 @@
-use Rattle.std.proofs.Common.{ℕ, sym, ◌∙◌, ap, subst}
+use Rattle.std.proofs.Common.{sym, ◌∙◌, ap, subst}
 use Rattle.bb_search.specs.declared.written.WrittenCert.{WrittenCert}
 use Rattle.bb_search.specs.Searches.{SearchData, search_data}
 use Rattle.bb_search.specs.Certificates.{HasAnswer, IsWritten}

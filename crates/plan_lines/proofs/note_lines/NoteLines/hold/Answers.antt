@@ -23,7 +23,7 @@ invariant_of-self c =
       known = known_alike facts.bends facts.stages own.bends own.stages note same.0 same.1 c.requires.known;
       at = ap (λ (stages : ℕ). number_of_action stages note.action) (sym same.1) ∙ sym c.action_number-number.ensures.value ∙ sym c.from-index.ensures;
     } in
-    let free : get_or held index None ≡ None = ap (λ (n : ℕ). get_or held n None) c.from-index.ensures ∙ c.is_free.ensures c.if-is_free.true in
+    let free : get_or held index None ≡ None = ap (λ (n : ℕ). get_or held n None) c.from-index.ensures ∙ c.is_free.ensures.0 c.if-is_free.true in
     record {
       few = c.self.invariant.few;
       are_held = one_kept (IsHeld own) held index note is c.self.invariant.are_held;

@@ -13,7 +13,7 @@ returns c =
     record {
       known = known_alike own.bends own.stages facts.bends facts.stages note (sym same.0) (sym same.1) is.known;
       cut = record {
-        whole = c.in_ok-rest.ensures ∙ append_assoc note.line.now (10 ∷ []) c.in_ok-rest.rest.now;
+        whole = c.in_ok-rest.ensures.some ∙ append_assoc note.line.now (10 ∷ []) c.in_ok-rest.rest.now;
         alone = is.known.alone;
       };
     }

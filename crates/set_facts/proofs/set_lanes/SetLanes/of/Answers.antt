@@ -12,7 +12,7 @@ bounds-sets-from c =
     let job = c.args.job.now in
     let mask = c.args.mask in
     let bend = c.in-Some.bend in
-    let after_is : c.union-after.result ≡ union mask (group_of job mask bend) = c.union-after.ensures.value ∙ ap (λ (g : Mask). union mask g) c.group.ensures.value in
+    let after_is : c.union.result ≡ union mask (group_of job mask bend) = c.union.ensures.value ∙ ap (λ (g : Mask). union mask g) c.group-group.ensures.value in
     let place = c.from.ensures ∙ ap (λ (m : Mask). m.0) after_is in
     let within = after_within job c.in-Some.ensures.valid mask bend c.in-Some.ensures.some c.requires.mask in
     omega (arith, place, within, c.requires.greater.places)
@@ -26,7 +26,7 @@ before-requires-clause-after c =
     let left = c.in-Some.ensures.some in
     let after = union mask (group_of job mask bend) in
     let set = c.index-sets-from.result in
-    let after_is : c.union-after.result ≡ union mask (group_of job mask bend) = c.union-after.ensures.value ∙ ap (λ (g : Mask). union mask g) c.group.ensures.value in
+    let after_is : c.union.result ≡ union mask (group_of job mask bend) = c.union.ensures.value ∙ ap (λ (g : Mask). union mask g) c.group-group.ensures.value in
     let place = c.from.ensures ∙ ap (λ (m : Mask). m.0) after_is in
     let read : get_or c.args.sets.now after.0 set ≡ set = sym (c.index-sets-from.is ∙ ap (λ (n : ℕ). get_or c.args.sets.now n set) place) in
     subst (λ (s : SetLanes). IsSetLanes job after s) read
