@@ -13,6 +13,7 @@ what_it_does() {
     merge) printf 'joins two tables of one job into one, which is the same in either order' ;;
     prove) printf 'confirms or refuses a table, and prints what it proves of every plan' ;;
     sheet) printf 'checks a certificate, and stores a page for the shop that shows the plan, or what stands in the way' ;;
+    *) bench_does "$1" ;;
   esac
 }
 
@@ -21,11 +22,17 @@ built_commands() {
   local name
   for name in $(commands_of_usage); do is_built "$name" && printf '%s\n' "$name"; done
   printf 'sheet\n'
+  bench_commands
 }
 
 # The line of the usage text for a command.
 # shellcheck disable=SC2154
-line_of() { if [ "$1" = sheet ]; then printf '%s\n' "$sheet_usage"; else usage_line "$1"; fi; }
+line_of() {
+  case "$1" in
+    sheet) printf '%s\n' "$sheet_usage" ;;
+    *) if is_bench "$1"; then printf '%s\n' "${bench_usage[$1]}"; else usage_line "$1"; fi ;;
+  esac
+}
 
 what_the_words_are() {
   printf '\nPART, TOOLS and MACHINE are TOML files; CERT is stored by plan and read by check and sheet. All lengths are whole micrometres.\n'
