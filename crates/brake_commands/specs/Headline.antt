@@ -31,7 +31,7 @@ use Rattle.brake_commands.specs.Forms.{command_of}
 use Rattle.brake_commands.specs.Run.{form_for}
 use Rattle.brake_commands.specs.JobAnswer.{job_of_files}
 use Rattle.brake_commands.specs.PlanAnswer.{claim_status, last_text, IsBlankOf, IsPlanCert, HasFewRows}
-use Rattle.brake_commands.specs.CheckAnswer.{verdict_answer, IsCheckAnswer}
+use Rattle.check_command.specs.CheckAnswer.{verdict_answer, IsCheckAnswer}
 use Rattle.handling_cost.specs.Claim.{IsTrueClaim}
 
 -- a fact of each step of a plan, at the key to which the steps before it lead

@@ -3,9 +3,9 @@ use Rattle.std.proofs.lemmas.Result.{IfOk-weaker}
 use Rattle.cert_check.specs.Checking.{checked_data}
 use Rattle.command_runner.specs.Answers.{answer_data}
 use Rattle.command_runner.specs.Reading.{AnswersText}
-use Rattle.brake_commands.specs.CheckAnswer.{verdict_answer, IsCertRefusal, IsCheckAnswer}
-use Rattle.brake_commands.proofs.CommandAnswers.{accepted_claim, refused_is}
-use Rattle.brake_commands.proofs.check.answer_alone.Goals as goal
+use Rattle.check_command.specs.CheckAnswer.{verdict_answer, IsCertRefusal, IsCheckAnswer}
+use Rattle.check_command.proofs.Checks.{accepted_claim, refused_is}
+use Rattle.check_command.proofs.answer.answer_alone.Goals as goal
 
 pub verdict_answer-requires : goal.verdict_answer-requires
 verdict_answer-requires g c =
