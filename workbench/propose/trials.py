@@ -1,0 +1,192 @@
+"""The files of a run: setups from the real rack on the real bed, and made-up stations for bounds."""
+from __future__ import annotations
+
+from collections import Counter
+from dataclasses import dataclass
+from typing import Any, Iterable
+
+import tomlkit
+
+from .bed import FAR, Placed, place, place_far
+from .job import Job, Table
+from .planner import Answer, Planner
+from .stations import Kind, Rack, Station
+
+Setup = tuple[Station, ...]
+MOST_SETUPS = 16
+"""Of one setups file."""
+MOST_STATIONS = 6
+"""Of one setup."""
+BARE = "bare"
+
+
+def toml(table: dict[str, Any]) -> str:
+    """A table's own keys as TOML; missing ones and lists of tables are left out."""
+    return tomlkit.dumps({key: value for key, value in table.items()
+                          if value != [] and not (isinstance(value, list) and value and isinstance(value[0], dict))})
+
+
+def setups_text(job: Job, setups: list[tuple[str, list[Placed]]]) -> str:
+    """A setups file without comments."""
+    lines = []
+    for name, placed in setups:
+        lines.append(f'[[setup]]\nname = "{name}"\n')
+        for one in placed:
+            lines.append("[[setup.stage]]\n" + tomlkit.dumps(stage_table(one)))
+    return "".join(lines)
+
+
+def stage_table(placed: Placed) -> dict[str, Any]:
+    """The keys of a setup's stage."""
+    station = placed.station
+    table: dict[str, Any] = {"punch": station.punch, "die": station.die, "at": placed.at, "length": station.length}
+    if station.die_length:
+        table |= {"die_at": placed.die_at, "die_length": station.die_length}
+    return table
+
+
+@dataclass
+class Trial:
+    """A setup that was tried, with the places of its stations."""
+
+    setup: Setup
+    shift: int
+    answer: Answer
+
+
+class Trials:
+    """Tries setups and made-up stations for one job and rack, each once."""
+
+    def __init__(self, job: Job, rack: Rack, planner: Planner, machine: Table, tools_file: str = "tools.toml",
+                 machine_file: str = "machine.toml") -> None:
+        self.job, self.rack, self.planner, self.machine = job, rack, planner, machine
+        self.tools_file, self.machine_file = tools_file, machine_file
+        self.tried: dict[tuple[Setup, int], Answer] = {}
+        self.made_up: dict[tuple[Setup, int | None], Answer] = {}
+        self.never: list[frozenset[Station]] = []
+        """Sets of stations none of whose subsets has a plan."""
+        self.twins: dict[str, str] = {}
+        """Of a turned punch, the punch whose pieces these are."""
+        self._texts: dict[tuple[str, str], str] = {}
+
+    # ---------------------------------------------------------------- the real rack on the real bed
+    def is_hopeless(self, setup: Iterable[Station]) -> bool:
+        """Whether it is known that these stations have no plan."""
+        stations = frozenset(setup)
+        return any(stations <= known for known in self.never)
+
+    def real(self, setups: Iterable[Setup], shift: int = 0) -> list[Trial]:
+        """Tries setups of the rack, up to 16 in one run, and gives those that have an answer now."""
+        wanted = list(dict.fromkeys(setups))
+        new = [(setup, placed) for setup in wanted if (setup, shift) not in self.tried and not self.is_hopeless(setup)
+               for placed in [place(self.job, setup, shift)] if placed is not None]
+        for start in range(0, len(new), MOST_SETUPS):
+            batch = new[start:start + MOST_SETUPS]
+
+            def text_of(places: list[int], batch: list[tuple[Setup, list[Placed]]] = batch) -> str:
+                return setups_text(self.job, [(f"s{at}", batch[at][1]) for at in places])
+            answers = self.planner.setups(text_of, len(batch), self.tools_file, self.machine_file)
+            for (setup, _), answer in zip(batch, answers):
+                self.tried[(setup, shift)] = answer if self._has_pieces(setup, answer) else Answer("short")
+        return [Trial(setup, shift, self.tried[(setup, shift)]) for setup in wanted if (setup, shift) in self.tried]
+
+    def _has_pieces(self, setup: Setup, answer: Answer) -> bool:
+        """Whether a punch and its turned twin together use no more pieces than there are."""
+        used = Counter((self.twins.get(station.punch, station.punch), length)
+                       for station, (punch, _) in zip(setup, answer.pieces) for length in punch)
+        return not self.twins or all(count <= self.rack.stock("punch", name).get(length, 0)
+                                     for (name, length), count in used.items())
+
+    # ---------------------------------------------------------------- made-up stations on a bed without end
+    def together(self, setup: Setup, move: int | None = None) -> Answer:
+        """All these stations at once, which neither rack nor bed forbids; `move` is the price of a step between them.
+
+        Where there is no plan, none of them alone and no pair of them has one.
+        """
+        key = (setup, move)
+        if key not in self.made_up:
+            placed = place_far(self.job, setup)
+            if placed is None:
+                return Answer("spent")
+            answer = self.planner.plan(self._tools(setup), self._machine(placed, move))
+            self.made_up[key] = answer
+            if answer.kind == "none":
+                self.never.append(frozenset(setup))
+        return self.made_up[key]
+
+    def relaxed(self, punch: Table, die: Table, lengths: list[int], uncovered: int) -> Answer:
+        """Stations of a made-up punch and die of these lengths, with no load and moves for nothing."""
+        stations = tuple(Station(BARE, BARE, length) for length in lengths)
+        placed = place_far(self.job, stations)
+        if placed is None:
+            return Answer("spent")
+        sections = [[length, 6] for length in sorted(set(lengths))]
+        tools = self._allow()
+        for kind, tool in (("punch", punch), ("die", die)):
+            tools += f"[[{kind}]]\n" + toml({**tool, "name": BARE, "sections": sections, "limit": 0})
+            tools += "body = []\n" if not tool["body"] else ""
+        return self.planner.plan(tools, self._machine(placed, 0, uncovered))
+
+    def bare(self) -> Answer:
+        """No tool and no machine at all: the part's own flanges and the fingers alone."""
+        punch = {"height": 1, "nose": 0, "body": []}
+        die = {"height": 1, "v": 2, "least_flange": 0, "body": []}
+        length = max(stroke.span for stroke in self.job.strokes)
+        stations = (Station(BARE, BARE, length),)
+        placed = place_far(self.job, stations)
+        if placed is None:
+            return Answer("spent")
+        sections = [[length, 1]]
+        tools = self._allow() + "[[punch]]\nbody = []\n" + toml({**punch, "name": BARE, "sections": sections})
+        tools += "[[die]]\nbody = []\n" + toml({**die, "name": BARE, "sections": sections})
+        machine = {**self.machine, "upper": [], "lower": [], "force": 0}
+        return self.planner.plan(tools, self._machine(placed, 0, None, machine))
+
+    def _allow(self) -> str:
+        return "".join("[[allow]]\n" + toml(row) for row in self.job.tools.get("allow", []))
+
+    def _tool(self, kind: str, name: str) -> str:
+        key = (kind, name)
+        if key not in self._texts:
+            tool = (self.rack.punches if kind == "punch" else self.rack.dies)[name]
+            text = toml({word: value for word, value in tool.items() if word != "sections"})
+            self._texts[key] = text + ("body = []\n" if not tool["body"] else "")
+        return self._texts[key]
+
+    def _tools(self, setup: Setup) -> str:
+        """The tools of some stations, with stock enough for these."""
+        text = self._allow()
+        for kind, names, lengths in (("punch", {s.punch for s in setup}, {s.length for s in setup}),
+                                     ("die", {s.die for s in setup}, {s.stand for s in setup})):
+            sections = [[length, 6] for length in sorted(lengths)]
+            for name in sorted(names):
+                text += f"[[{kind}]]\n{self._tool(kind, name)}sections = {sections}\n"
+        return text + "".join("[[load]]\n" + toml(row) for row in self.job.tools.get("load", []))
+
+    def _machine(self, placed: list[Placed], move: int | None, uncovered: int | None = None,
+                 machine: Table | None = None) -> str:
+        """The machine with a bed without end: what stands over the whole bed stands over all of it, and the rest is left out."""
+        machine = dict(machine or self.machine)
+        low, high = machine["bed"]
+        for word in ("upper", "lower"):
+            machine[word] = [[-FAR, FAR, *box[2:]] for box in machine.get(word, []) if box[0] <= low and high <= box[1]]
+        machine |= {"bed": [-FAR, FAR], "frames": []}
+        machine["cost"] = dict(machine["cost"])
+        if move is not None:
+            machine["cost"]["stage"] = move
+        if uncovered is not None:
+            machine["uncovered"] = uncovered
+        gauge, cost = machine.pop("gauge"), machine.pop("cost")
+        text = toml(machine) + "[gauge]\n" + toml(gauge) + "[cost]\n" + toml(cost)
+        for one in placed:
+            table = {key: value for key, value in stage_table(one).items() if key not in ("length", "die_length")}
+            table["pieces"] = [one.station.length]
+            if one.station.die_length:
+                table["die_pieces"] = [one.station.die_length]
+            text += "[[stage]]\n" + toml(table)
+        return text
+
+
+def covering(kinds: Iterable[Kind], strokes: int) -> bool:
+    """Whether the stations together reach every stroke."""
+    return len(frozenset().union(*(kind.serves for kind in kinds))) == strokes
