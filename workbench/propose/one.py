@@ -152,13 +152,18 @@ def _printable(text: str) -> str:
     return "".join(c if c.isprintable() else "?" for c in text)
 
 
-def report(proposal: Proposal, out: str) -> int:
-    """Stores the setups file and prints what was found. Gives the exit status."""
-    planned = proposal.cost is not None
+def store_proposal(proposal: Proposal, out: str) -> None:
+    """Stores the setups file, after the copy of the tools file that it needs where punches are turned."""
     if proposal.turned is not None:
         store(proposal.turned.file_beside(out), proposal.turned.text)
     if proposal.entries:
         store(out, file_text(proposal.job, proposal.entries, _head(proposal, out)))
+
+
+def report(proposal: Proposal, out: str) -> int:
+    """Stores what was proposed and prints it. Gives the exit status."""
+    planned = proposal.cost is not None
+    store_proposal(proposal, out)
     for place_, entry in enumerate(proposal.entries):
         if entry.found is not None:
             print(f"propose {place_} {name_of(place_, entry.setup)} {entry.found.cost} {len(entry.setup)} "

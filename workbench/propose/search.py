@@ -177,8 +177,7 @@ class Search:
         for block in blocks(kinds, self.strokes):
             members = [kinds[at] for at in block]
             before = out.best
-            if not self._block(members):
-                continue
+            self._block(members)
             if out.best <= bound:
                 return
             idle = idle + 1 if out.found and out.best == before else 0
@@ -186,15 +185,15 @@ class Search:
                 out.ended = f"{idle} blocks gave no cheaper plan"
                 return
 
-    def _block(self, members: list[Kind]) -> bool:
-        """Tries a block's pairs and what its plan uses; false where it can't give a cheaper plan."""
+    def _block(self, members: list[Kind]) -> None:
+        """Tries a block's pairs and what its plan uses, where these can give a cheaper plan."""
         out = self.outcome
         stations = tuple(kind.station for kind in members)
         if self.trials.is_hopeless(stations):
-            return False
+            return
         free = self.trials.together(stations, 0)
         if free.kind == "none" or free.is_plan and free.cost + self.move >= out.best:
-            return False
+            return
         pairs = [(a.station, b.station) for a, b in combinations(members, 2) if covering((a, b), self.strokes)]
         more = [_in_order(stations, free.steps)] if free.is_plan and len(free.used) > 2 else []
         trials = self._real(more + pairs)
@@ -202,7 +201,6 @@ class Search:
             self._make_otherwise([trial.setup for trial in trials if trial.answer.kind == "short"])
         if not out.found and free.is_plan:
             self._few_moves(stations)
-        return True
 
     def _few_moves(self, stations: Setup) -> None:
         """The block's plan at the real price of moves, with its stations in the order of the shortest way."""
