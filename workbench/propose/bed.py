@@ -2,6 +2,7 @@
 from __future__ import annotations
 
 from dataclasses import dataclass
+from typing import NamedTuple
 
 from .job import Job
 from .stations import Station
@@ -13,6 +14,19 @@ MARGIN = 10 * MM
 """Beside what a part reaches past its station."""
 FAR = 19_900_000
 """The ends of a bed without end, within what a machine file may say."""
+
+
+class Stand(NamedTuple):
+    """How a setup's stations stand."""
+
+    spot: str = "middle"
+    """middle: in the middle of the bed; left: from its left end on, and with several stations up to its right end;
+    right: up to its right end."""
+    die: int = 0
+    """The punch stands over the middle of its die (0), over the die's left end (-1) or its right end (1)."""
+
+
+MIDDLE = Stand()
 
 
 @dataclass(frozen=True)
@@ -35,10 +49,9 @@ def _up(length: int) -> int:
     return -(-length // MM) * MM
 
 
-def _placed(station: Station, die_at: int, shift: int) -> Placed:
-    """The punch stands over the middle of its die (shift 0), or over its left (-1) or right end (1)."""
+def _placed(station: Station, die_at: int, over: int) -> Placed:
     room = station.stand - station.length
-    inset = {0: room // 2 // MM * MM, -1: 0, 1: room}[shift]
+    inset = {0: room // 2 // MM * MM, -1: 0, 1: room}[over]
     return Placed(station, die_at + inset, die_at)
 
 
@@ -55,23 +68,32 @@ def free_range(job: Job) -> tuple[int, int]:
     return max(ranges, key=lambda r: (r[1] - r[0], -r[0]))
 
 
-def place(job: Job, stations: tuple[Station, ...], shift: int = 0) -> list[Placed] | None:
+def place(job: Job, stations: tuple[Station, ...], stand: Stand = MIDDLE) -> list[Placed] | None:
     """Places on the bed with room between them for what a part reaches past; None where they don't fit."""
     low, high = free_range(job)
-    gaps = [max(_up(max(overhang(job, one), overhang(job, other)) + MARGIN), LEAST_GAP)
-            for one, other in zip(stations, stations[1:])]
     room = high - low - sum(station.stand for station in stations)
     if room < 0:
         return None
-    if sum(gaps) > room:
-        total = sum(gaps)
-        gaps = [gap * room // total // MM * MM for gap in gaps]
-    at = max(low, low + (room - sum(gaps)) // 2 // MM * MM)
+    if stand.spot == "middle":
+        gaps = _gaps(job, stations, room)
+        at = max(low, low + (room - sum(gaps)) // 2 // MM * MM)
+    elif len(stations) == 1:
+        gaps, at = [], low if stand.spot == "left" else low + room
+    else:
+        gaps, at = [room // (len(stations) - 1)] * (len(stations) - 1), low
     placed = []
     for station, gap in zip(stations, [*gaps, 0]):
-        placed.append(_placed(station, at, shift))
+        placed.append(_placed(station, at, stand.die))
         at += station.stand + gap
     return placed
+
+
+def _gaps(job: Job, stations: tuple[Station, ...], room: int) -> list[int]:
+    """The room between neighbours, less where the bed is short of it."""
+    gaps = [max(_up(max(overhang(job, one), overhang(job, other)) + MARGIN), LEAST_GAP)
+            for one, other in zip(stations, stations[1:])]
+    total = sum(gaps)
+    return gaps if total <= room else [gap * room // total // MM * MM for gap in gaps]
 
 
 def place_far(job: Job, stations: tuple[Station, ...]) -> list[Placed] | None:

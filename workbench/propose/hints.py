@@ -13,7 +13,7 @@ from .trials import Trials
 
 FINE = 10
 """How often a piece is halved in a machine file that wants parts with flanges on several sides."""
-MOST_RUNS = 12
+MOST_RUNS = 7
 """Runs of the program for one changed machine file."""
 
 
@@ -47,7 +47,7 @@ def keys_that_help(search: Search, told: Callable[[str], None]) -> list[str]:
         name = planner.write(f"changed_{number}.toml", tomlkit.dumps(machine))
         trials = Trials(search.job, search.rack, planner, machine, search.trials.tools_file, name)
         try:
-            outcome = Search(trials, search.rack, told, patience=1).run()
+            outcome = Search(trials, search.rack, told, thorough=False).run()
         except (Refused, TriesUsed):
             continue
         finally:

@@ -5,6 +5,7 @@ from collections import Counter
 from dataclasses import dataclass
 from pathlib import Path
 
+from .bed import MIDDLE
 from .job import Job
 from .stations import Rack
 from .trials import Setup, Trials
@@ -48,7 +49,7 @@ def furthest_of(trials: Trials, setups: list[Setup], folder: Path) -> list[Furth
     """Plans setups that have no plan once more, and says how far each gets; the furthest first."""
     found, trials.never = [], []
     for setup in setups:
-        trials.tried.pop((setup, 0), None)
+        trials.tried.pop((setup, MIDDLE), None)
         got = trials.real([setup])
         cert = folder / "run.0"
         if got and got[0].answer.kind == "none" and cert.exists():

@@ -77,7 +77,7 @@ def _kept(job: Job, search: Search, keep: int) -> list[Entry]:
         if len({stage for _, stage in found.steps}) < len(found.setup) or alike.get(tools, 0) == MOST_ALIKE:
             continue
         alike[tools] = alike.get(tools, 0) + 1
-        entries.append(Entry(found.setup, place(job, found.setup, found.shift) or [], found))
+        entries.append(Entry(found.setup, place(job, found.setup, found.stand) or [], found))
         if len(entries) == keep:
             break
     return entries

@@ -5,7 +5,9 @@
 3. Made-up tools that are in the way only where all tools of the rack are: no plan there ends the search, and their
    cost with one move is a bound for two stations and more.
 4. Pairs of stations by blocks of six, and longer or otherwise made ones where the stock is short.
-5. The best ones with fewer pieces and no bend left uncovered, where the cost stays.
+5. Where all this gave nothing: at the ends of the bed, where a part may reach past the beam, and with the punch over an
+   end of a longer die.
+6. The best ones with fewer pieces and no bend left uncovered, where the cost stays.
 """
 from __future__ import annotations
 
@@ -13,17 +15,20 @@ from dataclasses import dataclass, field
 from itertools import combinations, permutations, product
 from typing import Callable, Iterator
 
-from .blocks import blocks
+from .bed import Stand
+from .blocks import blocks, useful_pairs
 from .errors import TriesUsed
 from .job import Table
-from .planner import Pieces
+from .planner import Answer, Pieces
 from .stations import Kind, Rack, Station
-from .trials import MOST_SETUPS, MOST_STATIONS, Setup, Trial, Trials, covering
+from .trials import MOST_SETUPS, MOST_STATIONS, Setup, Trial, Trials, covering, without_body
 
 MOST_KINDS = 96
 """So many kinds of station are looked at, the preferred ones first."""
 PATIENCE = 4
 """Blocks without a cheaper plan, once there is one, before the search ends."""
+MOST_ELSEWHERE = 4
+"""Runs with single stations at the ends of the bed, and as many with pairs."""
 NOTHING = 10**12
 
 
@@ -32,7 +37,7 @@ class Found:
     """A setup with a plan."""
 
     setup: Setup
-    shift: int
+    stand: Stand
     cost: int
     steps: tuple[tuple[int, int], ...]
     pieces: tuple[Pieces, ...]
@@ -68,8 +73,8 @@ class Outcome:
 class Search:
     """One search for a job and a rack."""
 
-    def __init__(self, trials: Trials, rack: Rack, told: Callable[[str], None], patience: int = PATIENCE) -> None:
-        self.trials, self.rack, self.job, self.told, self.patience = trials, rack, trials.job, told, patience
+    def __init__(self, trials: Trials, rack: Rack, told: Callable[[str], None], thorough: bool = True) -> None:
+        self.trials, self.rack, self.job, self.told, self.thorough = trials, rack, trials.job, told, thorough
         self.strokes = len(self.job.strokes)
         self.move = trials.machine["cost"]["stage"]
         self.outcome = Outcome()
@@ -102,7 +107,10 @@ class Search:
                 break
         if out.found:
             out.least = min([*lows, out.best])
-            self._polish()
+        elif self.thorough:
+            self._elsewhere()
+            out.least = out.bare
+        self._polish()
 
     def _class(self, tools: list[tuple[str, str]], bare: int) -> int:
         """Searches with tools of one height. Gives what no setup of them goes below."""
@@ -129,24 +137,53 @@ class Search:
             self._pairs(kinds, two)
         return min(out.best, two)
 
-    # ---------------------------------------------------------------- bounds
-    def _relaxed(self, tools: list[tuple[str, str]], kinds: list[Kind]) -> int | None:
-        """A cost that no setup of these kinds goes below, moves left out; None where they have no plan."""
-        if len(kinds) <= MOST_STATIONS:
-            answer = self.trials.together(tuple(kind.station for kind in kinds), 0)
-        else:
-            punches = [self.rack.punches[name] for name in dict.fromkeys(punch for punch, _ in tools)]
-            dies = [self.rack.dies[name] for name in dict.fromkeys(die for _, die in tools)]
-            lengths, uncovered = self._few_lengths(kinds)
-            answer = self.trials.relaxed(_least_punch(punches), _least_die(dies), lengths, uncovered)
-        if answer.kind == "none":
-            return None
-        return answer.cost if answer.is_plan else 0
+    def _elsewhere(self) -> None:
+        """At the ends of the bed, and over the ends of longer dies."""
+        kinds, stands = self.outcome.kinds, [Stand("left"), Stand("right")]
+        tools = [(kind.station.punch, kind.station.die) for kind in kinds]
+        if not kinds or self._relaxed(tools, kinds, without_body(self.trials.machine)) is None:
+            return
+        if any(kind.station.die_length for kind in kinds):
+            stands += [Stand("middle", -1), Stand("middle", 1)]
+        singles = [(kind.station,) for kind in kinds if covering((kind,), self.strokes)]
+        pairs = [(kinds[a].station, kinds[b].station) for a, b in useful_pairs(kinds, self.strokes)
+                 if self._alike(kinds[a].station, kinds[b].station)]
+        for setups, where in ((singles, stands), (pairs, stands[:1] + stands[2:])):
+            some = setups[:MOST_ELSEWHERE * MOST_SETUPS // len(where)]
+            for start in range(0, len(some), per := MOST_SETUPS // len(where)):
+                self._real(some[start:start + per], *where)
+                if self.outcome.found:
+                    return
 
-    def _few_lengths(self, kinds: list[Kind]) -> tuple[list[int], int]:
-        """At most six lengths, and how far a bend may reach past them so that each kind's strokes are reached."""
+    def _alike(self, one: Station, other: Station) -> bool:
+        """Whether the tools of two stations are equally high."""
+        return (self.rack.punches[one.punch]["height"] == self.rack.punches[other.punch]["height"]
+                and self.rack.dies[one.die]["height"] == self.rack.dies[other.die]["height"])
+
+    # ---------------------------------------------------------------- bounds
+    def _relaxed(self, tools: list[tuple[str, str]], kinds: list[Kind], machine: Table | None = None) -> int | None:
+        """A cost that no setup of these kinds goes below, moves left out; None where they have no plan."""
+        if len(kinds) <= MOST_STATIONS and machine is None:
+            return _bound(self.trials.together(tuple(kind.station for kind in kinds), 0))
+        punches = [self.rack.punches[name] for name in dict.fromkeys(punch for punch, _ in tools)]
+        dies = [self.rack.dies[name] for name in dict.fromkeys(die for _, die in tools)]
+        low = 0
+        for of_punches, of_dies in ((1, 1), (MOST_STATIONS, 1), (1, MOST_STATIONS)):
+            some, under = _parted(punches, of_punches), _parted(dies, of_dies)
+            lengths, uncovered = self._few_lengths(kinds, MOST_STATIONS // max(len(some), len(under)))
+            made_up = [(_least_punch(a), _least_die(b), length) for a in some for b in under for length in lengths]
+            bound = _bound(self.trials.relaxed(made_up, uncovered, machine))
+            if bound is None:
+                return None
+            low = max(low, bound)
+            if self.outcome.best <= low + self.move:
+                break
+        return low
+
+    def _few_lengths(self, kinds: list[Kind], most: int) -> tuple[list[int], int]:
+        """At most so many lengths, and how far a bend may reach past them so that each kind's strokes are reached."""
         lengths = sorted({kind.station.length for kind in kinds})
-        per = -(-len(lengths) // MOST_STATIONS)
+        per = -(-len(lengths) // most)
         parts = [lengths[start:start + per] for start in range(0, len(lengths), per)]
         more = max(part[-1] - part[0] for part in parts)
         return [part[0] for part in parts], min(self.job.uncovered + -(-more // 2), 1_000_000)
@@ -160,10 +197,10 @@ class Search:
             out.first = self.trials.planner.runs
         setup = trial.setup
         if setup not in out.found:
-            out.found[setup] = Found(setup, trial.shift, answer.cost, answer.steps, answer.pieces)
+            out.found[setup] = Found(setup, trial.stand, answer.cost, answer.steps, answer.pieces)
 
-    def _real(self, setups: list[Setup], shift: int = 0) -> list[Trial]:
-        trials = self.trials.real(setups, shift)
+    def _real(self, setups: list[Setup], *stands: Stand) -> list[Trial]:
+        trials = self.trials.real(setups, *stands)
         for trial in trials:
             self._note(trial)
         best = self.outcome.best
@@ -181,7 +218,7 @@ class Search:
             if out.best <= bound:
                 return
             idle = idle + 1 if out.found and out.best == before else 0
-            if idle >= self.patience:
+            if idle >= PATIENCE:
                 out.ended = f"{idle} blocks gave no cheaper plan"
                 return
 
@@ -265,7 +302,7 @@ class Search:
                 for other in self._handier(station):
                     variants[found.setup[:at] + (other,) + found.setup[at + 1:]] = None
         if variants and self.trials.planner.left:
-            self._real(list(variants)[:MOST_SETUPS])
+            self._real(list(variants)[:MOST_SETUPS], best[0].stand)
 
     def _handier(self, station: Station) -> list[Station]:
         lengths = self.rack.of("punch", station.punch) if station.die_length else self.rack.both(station.punch, station.die)
@@ -279,6 +316,17 @@ class Search:
         chosen = dict.fromkeys([*([whole] if whole and whole > station.length else []), *few[:3]])
         stands = [(length, self.rack.of("die", station.die).at_least(length) if station.die_length else 0) for length in chosen]
         return [Station(station.punch, station.die, length, stand) for length, stand in stands if stand is not None]
+
+
+def _bound(answer: Answer) -> int | None:
+    """The cost of a plan, 0 where it isn't known, None where there is none."""
+    return None if answer.kind == "none" else answer.cost
+
+
+def _parted(tools: list[Table], most: int) -> list[list[Table]]:
+    """The tools in at most so many parts, in their order."""
+    per = -(-len(tools) // most)
+    return [tools[start:start + per] for start in range(0, len(tools), per)]
 
 
 def _in_order(stations: Setup, steps: tuple[tuple[int, int], ...]) -> Setup:

@@ -7,7 +7,7 @@ from typing import Any, Iterable
 
 import tomlkit
 
-from .bed import FAR, Placed, place, place_far
+from .bed import FAR, MIDDLE, Placed, Stand, place, place_far
 from .job import Job, Table
 from .planner import Answer, Planner
 from .stations import Kind, Rack, Station
@@ -17,7 +17,6 @@ MOST_SETUPS = 16
 """Of one setups file."""
 MOST_STATIONS = 6
 """Of one setup."""
-BARE = "bare"
 
 
 def toml(table: dict[str, Any]) -> str:
@@ -26,7 +25,7 @@ def toml(table: dict[str, Any]) -> str:
                           if value != [] and not (isinstance(value, list) and value and isinstance(value[0], dict))})
 
 
-def setups_text(job: Job, setups: list[tuple[str, list[Placed]]]) -> str:
+def setups_text(setups: list[tuple[str, list[Placed]]]) -> str:
     """A setups file without comments."""
     lines = []
     for name, placed in setups:
@@ -50,7 +49,7 @@ class Trial:
     """A setup that was tried, with the places of its stations."""
 
     setup: Setup
-    shift: int
+    stand: Stand
     answer: Answer
 
 
@@ -61,7 +60,7 @@ class Trials:
                  machine_file: str = "machine.toml") -> None:
         self.job, self.rack, self.planner, self.machine = job, rack, planner, machine
         self.tools_file, self.machine_file = tools_file, machine_file
-        self.tried: dict[tuple[Setup, int], Answer] = {}
+        self.tried: dict[tuple[Setup, Stand], Answer] = {}
         self.made_up: dict[tuple[Setup, int | None], Answer] = {}
         self.never: list[frozenset[Station]] = []
         """Sets of stations none of whose subsets has a plan."""
@@ -75,20 +74,20 @@ class Trials:
         stations = frozenset(setup)
         return any(stations <= known for known in self.never)
 
-    def real(self, setups: Iterable[Setup], shift: int = 0) -> list[Trial]:
-        """Tries setups of the rack, up to 16 in one run, and gives those that have an answer now."""
-        wanted = list(dict.fromkeys(setups))
-        new = [(setup, placed) for setup in wanted if (setup, shift) not in self.tried and not self.is_hopeless(setup)
-               for placed in [place(self.job, setup, shift)] if placed is not None]
+    def real(self, setups: Iterable[Setup], *stands: Stand) -> list[Trial]:
+        """Tries setups of the rack on the bed, up to 16 in one run, and gives those that have an answer now."""
+        wanted = list(dict.fromkeys((setup, stand) for setup in setups for stand in stands or (MIDDLE,)))
+        new = [(key, placed) for key in wanted if key not in self.tried and not (key[1] == MIDDLE and self.is_hopeless(key[0]))
+               for placed in [place(self.job, *key)] if placed is not None]
         for start in range(0, len(new), MOST_SETUPS):
             batch = new[start:start + MOST_SETUPS]
 
-            def text_of(places: list[int], batch: list[tuple[Setup, list[Placed]]] = batch) -> str:
-                return setups_text(self.job, [(f"s{at}", batch[at][1]) for at in places])
+            def text_of(places: list[int], batch: list[tuple[tuple[Setup, Stand], list[Placed]]] = batch) -> str:
+                return setups_text([(f"s{at}", batch[at][1]) for at in places])
             answers = self.planner.setups(text_of, len(batch), self.tools_file, self.machine_file)
-            for (setup, _), answer in zip(batch, answers):
-                self.tried[(setup, shift)] = answer if self._has_pieces(setup, answer) else Answer("short")
-        return [Trial(setup, shift, self.tried[(setup, shift)]) for setup in wanted if (setup, shift) in self.tried]
+            for (key, _), answer in zip(batch, answers):
+                self.tried[key] = answer if self._has_pieces(key[0], answer) else Answer("short")
+        return [Trial(*key, self.tried[key]) for key in wanted if key in self.tried]
 
     def _has_pieces(self, setup: Setup, answer: Answer) -> bool:
         """Whether a punch and its turned twin together use no more pieces than there are."""
@@ -114,33 +113,25 @@ class Trials:
                 self.never.append(frozenset(setup))
         return self.made_up[key]
 
-    def relaxed(self, punch: Table, die: Table, lengths: list[int], uncovered: int) -> Answer:
-        """Stations of a made-up punch and die of these lengths, with no load and moves for nothing."""
-        stations = tuple(Station(BARE, BARE, length) for length in lengths)
+    def relaxed(self, made_up: list[tuple[Table, Table, int]], uncovered: int, machine: Table | None = None) -> Answer:
+        """Stations of made-up punches and dies of some lengths, with no load and moves for nothing."""
+        stations = tuple(Station(f"p{at}", f"d{at}", length) for at, (_, _, length) in enumerate(made_up))
         placed = place_far(self.job, stations)
         if placed is None:
             return Answer("spent")
-        sections = [[length, 6] for length in sorted(set(lengths))]
         tools = self._allow()
-        for kind, tool in (("punch", punch), ("die", die)):
-            tools += f"[[{kind}]]\n" + toml({**tool, "name": BARE, "sections": sections, "limit": 0})
-            tools += "body = []\n" if not tool["body"] else ""
-        return self.planner.plan(tools, self._machine(placed, 0, uncovered))
+        for kind, place_ in (("punch", 0), ("die", 1)):
+            for at, row in enumerate(made_up):
+                tool = {**row[place_], "name": f"{kind[0]}{at}", "sections": [[row[2], 1]], "limit": 0}
+                tools += f"[[{kind}]]\n" + ("body = []\n" if not tool["body"] else "") + toml(tool)
+        return self.planner.plan(tools, self._machine(placed, 0, uncovered, machine))
 
     def bare(self) -> Answer:
         """No tool and no machine at all: the part's own flanges and the fingers alone."""
         punch = {"height": 1, "nose": 0, "body": []}
         die = {"height": 1, "v": 2, "least_flange": 0, "body": []}
         length = max(stroke.span for stroke in self.job.strokes)
-        stations = (Station(BARE, BARE, length),)
-        placed = place_far(self.job, stations)
-        if placed is None:
-            return Answer("spent")
-        sections = [[length, 1]]
-        tools = self._allow() + "[[punch]]\nbody = []\n" + toml({**punch, "name": BARE, "sections": sections})
-        tools += "[[die]]\nbody = []\n" + toml({**die, "name": BARE, "sections": sections})
-        machine = {**self.machine, "upper": [], "lower": [], "force": 0}
-        return self.planner.plan(tools, self._machine(placed, 0, None, machine))
+        return self.relaxed([(punch, die, length)], self.job.uncovered, without_body(self.machine))
 
     def _allow(self) -> str:
         return "".join("[[allow]]\n" + toml(row) for row in self.job.tools.get("allow", []))
@@ -185,6 +176,11 @@ class Trials:
                 table["die_pieces"] = [one.station.die_length]
             text += "[[stage]]\n" + toml(table)
         return text
+
+
+def without_body(machine: Table) -> Table:
+    """The machine without its beam, its bed's body and its limit of force."""
+    return {**machine, "upper": [], "lower": [], "force": 0}
 
 
 def covering(kinds: Iterable[Kind], strokes: int) -> bool:

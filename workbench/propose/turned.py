@@ -54,5 +54,5 @@ def with_turned(search: Search, told: Callable[[str], None]) -> tuple[Search, Tu
     again.never, again.made_up = trials.never, trials.made_up
     again.tried = trials.tried
     again.twins = twins
-    second = Search(again, wider, told, patience=2)
+    second = Search(again, wider, told, thorough=False)
     return (second, TurnedTools(text)) if second.run().found else None
