@@ -15,7 +15,7 @@ COSTS = ("stroke", "quarter", "half", "flip", "roll", "stage")
 
 @dataclass(frozen=True)
 class Face:
-    """A face that stands on a side of an earlier one: where along it, how wide and how long, and which way it is bent."""
+    """A face that stands on a side of an earlier one: where along it, its size, and which way it is bent."""
 
     name: str
     on: str
@@ -76,7 +76,7 @@ def sections() -> str:
 
 
 def punch(name: str, body: list[list[int]], limit: int | None = None) -> str:
-    """A punch of 400 mm with a nose of 1 mm, and boxes [from, to, low, high]; with a greatest load where there is one."""
+    """A punch of 400 mm with a nose of 1 mm, and boxes [from, to, low, high]; perhaps with a limit."""
     load = "" if limit is None else f"limit = {limit}\n"
     return f'[[punch]]\nname = "{name}"\n{load}height = 400000\nnose = 1000\nbody = {body}\n{sections()}'
 

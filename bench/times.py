@@ -5,11 +5,12 @@
     bench/times.py PROGRAM [OTHER] --check FILE..       `check` of each of these files
 
 Prints a row for each run: its command and job, the exit status, the last line that was printed, the bytes that were
-stored, the least time of N runs (5) in milliseconds, from the start of the process to its end, and the greatest
-memory in KiB of a run of its own. With OTHER the two take turns, and its figures, the ratio, and whether answers, statuses and
-stored files are equal stand beside; OTHER is any program with the same commands. Files are stored in a temporary folder,
-on a RAM disk where there is one with room. Memory needs GNU time: sudo apt-get install time. The exit status is 0 where
-all is equal or there is no OTHER, 1 where something differs or takes longer than S seconds (900), 2 for faulty words.
+stored, the least time of N runs (5) in milliseconds, from the start of the process to its end, and the greatest memory
+in KiB of a run of its own. With OTHER the two take turns, and its figures, the ratio, and whether answers, statuses
+and stored files are equal stand beside; OTHER is any program with the same commands. Files are stored in a temporary
+folder, on a RAM disk where there is one with room. Memory needs GNU time: sudo apt-get install time. The exit status
+is 0 where all is equal or there is no OTHER, 1 where something differs or takes longer than S seconds (900), 2 for
+faulty words.
 """
 from __future__ import annotations
 
@@ -51,7 +52,7 @@ class Case:
 
 @dataclass
 class Figures:
-    """What came of a case with one program: status, last line, bytes stored, least seconds, and all different answers."""
+    """What came of a case with one program: status, last line, bytes stored, least seconds, all answers."""
 
     status: int | None = None
     line: str = ""

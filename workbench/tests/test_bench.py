@@ -1,4 +1,4 @@
-"""The benchmark jobs stay the same bytes, hostile texts are refused, and a timed run tells where two programs differ."""
+"""The benchmark jobs stay the same bytes, hostile texts are refused, and it is told where two programs differ."""
 from __future__ import annotations
 
 import hashlib
