@@ -1,7 +1,7 @@
 """A wide search, to compare `brake propose` with: every single station and every pair of stations, by `brake setups`.
 
-Of each punch and die it takes for each bend the shortest length of the stock that reaches it, and the next longer one,
-prunes nothing, and has all setups planned by the program.
+Of each punch and die it takes for each bend the shortest length of the stock that reaches it, for single stations also
+the next longer one. It prunes nothing, and has all setups planned by the program.
 """
 from __future__ import annotations
 
@@ -107,12 +107,11 @@ class WideSearch:
                 if said.isdigit() and (wide.cost is None or int(said) < wide.cost):
                     wide.cost, wide.best = int(said), setup
 
-    def run(self, next_ones: int = 2, most: int = 3000) -> Wide:
-        """Tries the singles and then the pairs; only the shortest lengths in pairs where there are more than `most`."""
-        wide, stations = Wide(), self.stations(next_ones)
-        self._try(wide, [(station,) for station in stations])
-        pairs = list(combinations(stations, 2))
-        if len(pairs) > most:
-            pairs = list(combinations(self.stations(1), 2))
-        self._try(wide, pairs)
+    def run(self) -> Wide:
+        """Tries the singles, of the two next lengths, and then the pairs of the shortest ones, one of which at least
+        reaches the longest bend."""
+        wide, longest = Wide(), max(self._spans()) - 2 * self.machine["uncovered"]
+        self._try(wide, [(station,) for station in self.stations(2)])
+        pairs = combinations(self.stations(1), 2)
+        self._try(wide, [pair for pair in pairs if max(station[2] for station in pair) >= longest])
         return wide
