@@ -1,6 +1,6 @@
 // The faces of the part as a table, indented as the tree in which they stand on one another.
 import { button, el } from "./dom.js";
-import { field } from "./field.js";
+import { field, syncField } from "./field.js";
 import { edit, faces, part, wrongPlace } from "./part.js";
 import { look } from "./part_view.js";
 
@@ -9,9 +9,29 @@ let body = null;
 
 export function facesTable(table) { body = table.tBodies[0]; }
 
+// The field that has the focus is kept as it is, so that nothing disturbs who types into it.
 export function paintFaces() {
-  const rows = faces().flatMap((face, number) => rowsOf(face, number));
-  body.replaceChildren(...rows);
+  const fresh = faces().map((face, number) => rowsOf(face, number)), old = [...body.querySelectorAll("tr.row")];
+  const active = body.contains(document.activeElement) ? document.activeElement.closest("tr.row") : null;
+  if (!active || old.length !== fresh.length) { body.replaceChildren(...fresh.flat()); return; }
+  for (const why of body.querySelectorAll("tr.why")) why.remove();
+  fresh.forEach(([row, ...why], number) => {
+    if (old[number] === active) mergeRow(active, row); else old[number].replaceWith(row);
+    (old[number] === active ? active : row).after(...why);
+  });
+}
+
+function mergeRow(active, row) {
+  active.className = row.className;
+  const cells = [...row.cells];
+  [...active.cells].forEach((cell, at) => {
+    if (cell.contains(document.activeElement)) syncCell(cell, cells[at]); else cell.replaceWith(cells[at]);
+  });
+}
+
+function syncCell(cell, fresh) {
+  const field = cell.querySelector("input"), made = fresh.querySelector("input");
+  if (field === document.activeElement) syncField(field, made); else cell.replaceWith(fresh);
 }
 
 const parentOf = number => faces().findIndex(face => face.name === faces()[number].on);

@@ -30,6 +30,15 @@ export function field(value, path, isLength, label) {
   return made;
 }
 
+// Takes over the state of a newer field of the same path, but not its text where another is being typed.
+export function syncField(old, made) {
+  const isTyped = old.value !== old.defaultValue;
+  old.className = made.className;
+  old.ariaLabel = made.ariaLabel;
+  old.defaultValue = made.defaultValue;
+  if (!isTyped) old.value = made.defaultValue;
+}
+
 function step(event, made, read) {
   const by = STEPS[event.key], now = read();
   if (!by || now === null) return;
@@ -49,7 +58,10 @@ function leave(made, key, path, now, label) {
   if (now === null) {
     part.bad[key] = { text: made.value, words: `${label}: a length in mm, of at most three decimals, as 12.5` };
     tell("part", {});
-  } else if (now !== current(path)) {
+    return;
+  }
+  made.value = made.defaultValue = shown(now, typeof now === "number");
+  if (now !== current(path)) {
     edit([{ op: "set", path, value: now }], { merge: key });
   } else tell("part", {});
 }

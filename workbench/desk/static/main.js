@@ -47,10 +47,13 @@ async function follow() {
 // ---- the files in use
 
 async function choosePart() {
+  const main = document.querySelector("main");
+  main.ariaBusy = "true";
   forgetPlan();
   choosePartners(chosen("part"));
   await Promise.all([loadTools(), loadMachine()]);
   await openPart(chosen("part"));
+  main.ariaBusy = "false";
 }
 
 async function changed(name) {

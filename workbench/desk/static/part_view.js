@@ -3,7 +3,7 @@ import { post } from "./api.js";
 import { drawBlank, noPicture } from "./blank_picture.js";
 import { $, ask, button, download, el, note, on, say } from "./dom.js";
 import { facesTable, paintFaces } from "./faces_table.js";
-import { field } from "./field.js";
+import { field, syncField } from "./field.js";
 import { chosen, folder, listFolder } from "./files.js";
 import { mm } from "./mm.js";
 import { edit, faces, isSaved, newFile, newPartText, openPart, part, setText, step, store, wrongPlace } from "./part.js";
@@ -48,7 +48,7 @@ function focused() {
 
 function restore(keep) {
   const made = keep && document.querySelector(`[data-path="${CSS.escape(keep.path)}"]`);
-  if (!made) return;
+  if (!made || made === document.activeElement) return;
   made.focus();
   if (keep.typed && made.tagName === "INPUT") {
     const [text, from, to] = keep.typed;
@@ -65,7 +65,7 @@ function paintSheet() {
     if (key === "material") made.setAttribute("list", "materials");
     const isBad = part.bad[key] || wrong && (wrong.key === key && !wrong.faces.length || wrong.also.includes(key));
     made.classList.toggle("bad", !!isBad);
-    $(id).replaceWith(made);
+    if ($(id) === document.activeElement) syncField($(id), made); else $(id).replaceWith(made);
   }
   const rows = folder.tools.allow || [], { material, thickness, radius } = part.data;
   const at = rows.findIndex(row => row.material === material && row.thickness === thickness && row.radius === radius);

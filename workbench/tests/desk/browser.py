@@ -12,20 +12,21 @@ import pytest
 from workbench.tests.desk.helper import LIMIT, Desk
 
 DRIVER = "/usr/bin/chromedriver"
-WORDS = ("--headless=new", "--no-sandbox", "--disable-dev-shm-usage", "--window-size=1500,950", "--use-gl=angle",
-         "--use-angle=swiftshader", "--enable-unsafe-swiftshader", "--disable-gpu-shader-disk-cache")
+WORDS = ("--headless=new", "--no-sandbox", "--disable-dev-shm-usage", "--window-size=1400,900")
+WITHOUT_WEBGL = ("--disable-gpu",)
+WITH_WEBGL = ("--use-gl=angle", "--use-angle=swiftshader", "--enable-unsafe-swiftshader")
 EXPECTED = ("ERR_CONNECTION", "409", "400", "403")
 """Marks of lines in the console that belong to what a test does: refused requests, a server that is ended."""
 
 
-def chrome(folder: Path) -> Any:
-    """A headless Chromium; the test is skipped where it, its driver or selenium is missing."""
+def chrome(folder: Path, has_webgl: bool = False) -> Any:
+    """A headless Chromium, which draws WebGL by software where that is wanted (it is slow); the test is skipped where it, its driver or selenium is missing."""
     webdriver = pytest.importorskip("selenium.webdriver", reason="python3-selenium isn't installed: pages are left out")
     from selenium.webdriver.chrome.service import Service
     if not shutil.which("chromium") or not Path(DRIVER).exists():
         pytest.skip("chromium and chromium-driver aren't installed: pages are left out")
     options = webdriver.ChromeOptions()
-    for word in (*WORDS, f"--user-data-dir={folder}"):
+    for word in (*WORDS, *(WITH_WEBGL if has_webgl else WITHOUT_WEBGL), f"--user-data-dir={folder}"):
         options.add_argument(word)
     options.set_capability("goog:loggingPrefs", {"browser": "ALL"})
     return webdriver.Chrome(service=Service(DRIVER), options=options)
@@ -89,7 +90,7 @@ class Page:
     def part(self, name: str) -> None:
         """Chooses a part, by its file."""
         self.js("const s=document.getElementById('f-part');s.value=arguments[0];s.dispatchEvent(new Event('change'))", name)
-        self.until(lambda: self.text("#p-title") == name or not self.find("#page-part").is_displayed())
+        self.until(lambda: self.js("return document.querySelector('main').ariaBusy") == "false")
         self.until(lambda: self.js("return location.hash").endswith(name))
 
     def press(self, query: str) -> None:
