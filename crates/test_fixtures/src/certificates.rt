@@ -1,5 +1,4 @@
 //! The texts of the worked certificates, in the pieces that tests put together.
-#![tactic(auto)]
 
 /// The lines of the U channel.
 const U_CHANNEL: &str = "part S235 2000 2000 1919

@@ -1,6 +1,5 @@
 //! The texts of files that the tests of several crates read. Sheets are 2,000 micrometres thick with
 //! an inner radius of 2,000, so that half of a bend's deduction is 1,919.
-#![tactic(auto)]
 
 /// A base of 100,000 by 50,000 micrometres with a leg of 30,000 on its side N.
 pub const L_SECTION: &str = "material = \"S235\"

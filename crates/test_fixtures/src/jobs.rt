@@ -1,5 +1,4 @@
 //! The jobs of tests, made from the texts of files.
-#![tactic(auto)]
 
 ghost use Rattle.std.specs.Prelude.{◌≡◌, Ok, IfOk};
 ghost use Rattle.job_setup.specs.JobOf.{refusing, job_refused, job_of};
