@@ -59,3 +59,11 @@ def test_links_lead_somewhere() -> None:
     for page in [ROOT / "README.md", *(ROOT / "docs").glob("*.md")]:
         for link in re.findall(r"\]\(([^)#:]+)\)", page.read_text()):
             assert (page.parent / link).exists(), f"{page.name} links to {link}"
+
+
+def test_the_gallery_shows_what_stands_there() -> None:
+    """Each piece of docs/GALLERY.md stands, line by line, in the file that is named above it."""
+    pieces = re.findall(r"^`([\w/.]+)`\n\n```\n(.*?)^```$", (ROOT / "docs/GALLERY.md").read_text(), re.M | re.S)
+    assert len(pieces) == 5
+    for file, piece in pieces:
+        assert piece in (ROOT / file).read_text(), file
