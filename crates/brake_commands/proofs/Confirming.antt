@@ -1,44 +1,32 @@
 -- The checker confirms each good certificate.
-use Rattle.std.proofs.Common.{ℕ, List, [], ◌∷◌, Option, Some, None, Ok, refl}
-use Rattle.brake_base.specs.declared.stroke.Worth.{Worth}
-use Rattle.brake_base.specs.declared.stroke.Worth.TheVariants.{Cost, Blocked}
+use Rattle.std.proofs.Common.{ℕ, List, Option, Some, None, Ok, refl, ap}
+use Rattle.std.proofs.lemmas.Option.{same_Some}
+use Rattle.std.specs.Result.{result_ok}
 use Rattle.job_setup.specs.Setup.{JobData}
 use Rattle.job_setup.specs.ValidJob.{IsJob}
-use Rattle.handling_cost.specs.Claim.{IsTrueClaim}
 use Rattle.plan_cert.specs.Cert.{CertData}
 use Rattle.plan_cert.specs.CertText.{cert_text2}
 use Rattle.plan_cert.specs.GoodCert.{IsGoodCert}
-use Rattle.cert_check.specs.Checking.{verdict_of, IsGoodText, IsTrueOf}
+use Rattle.cert_check.specs.Checking.{IsGoodText}
+use Rattle.cert_check.proofs.Accepting.{good_text_accepted}
 use Rattle.command_runner.specs.declared.status.Status.{Status}
 use Rattle.command_runner.specs.Fetching.{word_at}
 use Rattle.command_runner.specs.Delivery.{Outside}
 use Rattle.command_runner.specs.Ends.{IsOutcome}
-use Rattle.check_command.specs.CheckAnswer.{verdict_answer, IsCheckAnswer}
-use Rattle.check_command.proofs.Checks.{good_answer}
 use Rattle.check_command.proofs.Confirming.{confirms_named}
 use Rattle.brake_commands.specs.declared.command.Command.{Command}
 use Rattle.brake_commands.specs.declared.command.Command.TheVariants.{Blank, Plan, Check, CheckFiles, Trial, Why, Setups, Settle, Merge, Prove}
 use Rattle.brake_commands.specs.Run.{form_for, meaning_for}
-use Rattle.brake_commands.specs.Headline.{ConfirmsAlone}
+use Rattle.brake_commands.specs.Headline.{ConfirmsAlone, claim_of}
 use Rattle.brake_commands.specs.Confirmed.{ConfirmsHeldBy}
 use Rattle.brake_commands.proofs.CertTexts.{text_is}
-use Rattle.brake_commands.proofs.Claims.{good_claim_true}
 
-verdict_true : (job : JobData) (claim : Worth) → IsTrueClaim job claim → IsTrueOf job (verdict_of claim)
-verdict_true job (Cost cost) is = is
-verdict_true job Blocked is = is
-
--- the claim is an answer to a good certificate's text
-good_answers : (text : List ℕ) (job : JobData) (cert : CertData) → IsJob job → IsGoodText text job cert → IsCheckAnswer (text ∷ []) (verdict_answer (verdict_of cert.claim))
-good_answers text job cert valid good =
-    (Ok (record { verdict = verdict_of cert.claim; job = job }), (record { cert = cert; good = good; verdict = refl }, verdict_true job cert.claim (good_claim_true job cert valid good.good)), refl)
-
-pub confirms : (job : JobData) (cert : CertData) → IsJob job → IsGoodCert job cert → ConfirmsAlone (cert_text2 job cert) cert
+pub confirms : (job : JobData) (cert : CertData) → IsJob job → IsGoodCert job cert → ConfirmsAlone (cert_text2 job cert) job cert
 confirms job cert valid good =
     let text : IsGoodText (cert_text2 job cert) job cert = record { written = text_is job cert valid good.form; good = good } in
     record {
-      answers = good_answers (cert_text2 job cert) job cert valid text;
-      alone = λ answer checks. good_answer (cert_text2 job cert) job cert answer text checks;
+      accepted = record { cert = cert; good = text; verdict = refl };
+      alone = λ checked is. same_Some checked (claim_of job cert) (ap result_ok (good_text_accepted (cert_text2 job cert) job cert (Ok checked) text is));
     }
 
 -- a run of any command

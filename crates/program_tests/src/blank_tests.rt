@@ -5,9 +5,9 @@ use crate::asserts::assert_equal;
 use crate::test_runs::run;
 use brake_io::{MemShelf, MemSink};
 use command_runner::Status;
-use common_files::{FLAT_OVERLAP, L_SECTION};
 use std::alloc::{AllocError, Global};
 use std::test::Fail;
+use test_fixtures::{FLAT_OVERLAP, L_SECTION};
 
 /// A tools file of one row of deductions.
 const TOOLS: &str = "[[allow]]\nmaterial = \"S235\"\nthickness = 2000\nradius = 2000\nk = 650\n";

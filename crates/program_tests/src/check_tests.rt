@@ -3,11 +3,10 @@
 use crate::asserts::assert_equal;
 use crate::test_runs::{certificate, run, shelf_with};
 use brake_io::{MemShelf, MemSink};
-use certificate_texts::{STEPS, VERSION_1_JOB, VERSION_2_JOB};
 use command_runner::Status;
-use common_files::{L_SECTION, STAGE, U_CHANNEL};
 use std::alloc::{AllocError, Global};
 use std::test::Fail;
+use test_fixtures::{L_SECTION, STAGE, STEPS, U_CHANNEL, VERSION_1_JOB, VERSION_2_JOB};
 
 /// The line of a certificate that is of another job than the files.
 const OTHER_JOB: &str = "certificate refused job\n";

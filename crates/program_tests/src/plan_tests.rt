@@ -4,10 +4,9 @@
 use crate::asserts::assert_equal;
 use crate::test_runs::{certificate, run, shelf_with};
 use brake_io::MemSink;
-use certificate_texts::VERSION_2_JOB;
 use command_runner::Status;
-use common_files::{L_SECTION, STAGE, U_CHANNEL};
 use std::test::Fail;
+use test_fixtures::{L_SECTION, STAGE, U_CHANNEL, VERSION_2_JOB};
 
 /// What `plan` puts for the U channel.
 const U_SHEETS: &str = "blank

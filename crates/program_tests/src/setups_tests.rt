@@ -5,9 +5,9 @@ use crate::asserts::assert_equal;
 use crate::test_runs::{run, shelf_with};
 use brake_io::{MemShelf, MemSink};
 use command_runner::Status;
-use common_files::L_SECTION;
 use std::alloc::{AllocError, Global};
 use std::test::Fail;
+use test_fixtures::L_SECTION;
 
 /// Three setups of one stage each: one too short for the L section, one whose length no pieces make
 /// up, and one that is wide enough.

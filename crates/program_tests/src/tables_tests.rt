@@ -5,9 +5,9 @@ use crate::asserts::assert_equal;
 use crate::test_runs::{run, shelf_with};
 use brake_io::{MemShelf, MemSink};
 use command_runner::Status;
-use common_files::{STAGE, U_CHANNEL};
 use std::alloc::{AllocError, Global};
 use std::test::Fail;
+use test_fixtures::{STAGE, U_CHANNEL};
 
 /// A range of all sets of the U channel that leave a bend unfolded.
 const WHOLE: &[&str] = &["settle", "part", "tools", "machine", "out", "0", "2"];

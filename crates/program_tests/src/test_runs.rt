@@ -2,10 +2,9 @@
 
 use brake_commands::brake;
 use brake_io::{MemShelf, MemSink};
-use certificate_texts::{ROWS, STEPS};
 use command_runner::Status;
-use common_files::{MACHINE, TOOLS};
 use std::alloc::{AllocError, Global};
+use test_fixtures::{MACHINE, ROWS, STEPS, TOOLS};
 
 /// A shelf with this part's file, a tools file and a machine file with this stage.
 pub fn shelf_with(alloc: Global, part: &str, stage: &str) -> Result<MemShelf, AllocError> {

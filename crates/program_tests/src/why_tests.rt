@@ -5,8 +5,8 @@ use crate::asserts::assert_equal;
 use crate::test_runs::{run, shelf_with};
 use brake_io::MemSink;
 use command_runner::Status;
-use common_files::{L_SECTION, STAGE, U_CHANNEL};
 use std::test::Fail;
+use test_fixtures::{L_SECTION, STAGE, U_CHANNEL};
 
 /// A stage that is too short for the L section.
 const SHORT_STAGE: &str = "[[stage]]
