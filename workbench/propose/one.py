@@ -93,6 +93,11 @@ def _widest(search: Search, most: int) -> list[Setup]:
     return [(kind.station,) for kind in widest]
 
 
+def kept_back(tries: int) -> int:
+    """Runs that the search leaves, so that it can be said what stands in the way."""
+    return min(MOST_WITHOUT_PLAN, tries // 4)
+
+
 def propose(program: Path, folder: Path, choices: Choices, progress: Callable[[str], None]) -> Proposal:
     """Proposes setups for the copied files of a folder. Raises Refused and Stop."""
     planner = Planner(program, folder, choices.tries, choices.budget, progress)
@@ -102,12 +107,14 @@ def propose(program: Path, folder: Path, choices: Choices, progress: Callable[[s
     punches, dies = _named("punch", job.tools, choices.punches), _named("die", job.tools, choices.dies)
     rack = Rack(job, punches, dies, own_dies, bool(choices.dies))
     search = Search(Trials(job, rack, planner, job.machine), rack, progress)
+    planner.tries -= kept_back(choices.tries)
     outcome = search.run()
     turned = None
     if not outcome.found and outcome.bare is not None and job.strokes and planner.left > 0:
         again = with_turned(search, progress)
         if again is not None:
             search, turned = again
+    planner.tries = choices.tries
     entries = _kept(job, search, choices.keep)
     words: list[str] = []
     if not entries:
@@ -125,7 +132,6 @@ def _without_plan(search: Search, choices: Choices, progress: Callable[[str], No
             words.append(f"the rack has no {kind}")
     words += lacking(job, search.rack)
     entries = []
-    planner.tries += MOST_WITHOUT_PLAN
     try:
         found = furthest_of(search.trials, _widest(search, min(choices.keep, MOST_WITHOUT_PLAN)), planner.folder)
         if found:
