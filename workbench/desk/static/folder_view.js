@@ -1,0 +1,67 @@
+// The Folder view: each part, and whether it is planned as it stands.
+import { get, run } from "./api.js";
+import { $, busy, button, el, tell } from "./dom.js";
+import { partners } from "./files.js";
+import { mm, seconds } from "./mm.js";
+
+const HEADS = ["part", "material", "thickness", "bends", "plan"];
+const view = { rows: [], find: null, body: null, state: null, all: null };
+
+function stateOf(row) {
+  if (row.wrong) return row.wrong;
+  if (row.claim === undefined) return "not planned";
+  return (row.claim === "none" ? "no plan" : seconds(+row.claim)) + (row.current ? "" : ", of an earlier state");
+}
+
+const kindOf = row => (row.claim === undefined || !row.current ? "" : row.claim === "none" ? "none" : "yes");
+
+function rowOf(row) {
+  const open = button(row.name, () => tell("open", row.name), { className: "link" });
+  const thick = row.thickness === undefined ? "" : mm(row.thickness);
+  return el("tr", { className: `row ${kindOf(row)}` },
+    el("td", {}, open), el("td", { textContent: row.material ?? "" }), el("td", { className: "n", textContent: thick }),
+    el("td", { className: "n", textContent: row.bends ?? "" }), el("td", { className: "how", textContent: stateOf(row) }));
+}
+
+function draw() {
+  const wanted = view.find.value.toLowerCase();
+  view.body.replaceChildren(...view.rows.filter(row => row.name.toLowerCase().includes(wanted)).map(rowOf));
+}
+
+async function planOne(row) {
+  const state = await run("plan", { part: row.name, ...partners(row.name), keep: true })
+    .catch(fault => ({ answer: { error: fault.message } }));
+  const answer = state.answer || {};
+  if (answer.status === 0) Object.assign(row, { claim: /\ntotal (\d+)/.exec(answer.out)[1], current: true });
+  else if (answer.status === 1) Object.assign(row, { claim: "none", current: true });
+  else row.wrong = answer.error || answer.words?.at(-1) || answer.out || "no answer";
+}
+
+async function planAll() {
+  view.all.disabled = true;
+  for (const row of view.rows.filter(one => !one.wrong && !one.current)) {
+    view.state.replaceChildren(busy(), ` ${row.name}`);
+    await planOne(row);
+    draw();
+  }
+  view.state.textContent = "done";
+  view.all.disabled = false;
+}
+
+async function show() {
+  view.rows = (await get("parts")).parts;
+  const old = view.find?.value || "";
+  view.find = el("input", { type: "search", placeholder: "find a part", ariaLabel: "find a part", value: old, oninput: draw });
+  view.state = el("span", { className: "state", role: "status" });
+  view.all = button("Plan all that aren't", planAll);
+  view.body = el("tbody");
+  const bar = el("div", { className: "bar" }, el("h2", { textContent: "Parts" }), view.find, el("span", { className: "gap" }),
+    view.state, view.all, button("New part", () => tell("new part")));
+  const head = el("thead", {}, el("tr", {}, ...HEADS.map(text => el("th", { textContent: text, scope: "col" }))));
+  const empty = "There is no part file in this folder yet. A part file is a .toml with [[face]] tables; New part makes one.";
+  $("folder").replaceChildren(bar, view.rows.length ? el("table", { className: "parts" }, head, view.body)
+    : el("p", { className: "hint", textContent: empty }));
+  draw();
+}
+
+export const folderView = { show };

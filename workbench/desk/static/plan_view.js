@@ -1,0 +1,219 @@
+// The Plan view: the plan with its sheet, or what stands in the way and what to try.
+import { endRun, readFile, run, storeFile } from "./api.js";
+import { $, busy, button, download, el, note, on, say, tell, told } from "./dom.js";
+import { base, chosen, folder, job, listFolder, mine } from "./files.js";
+import { mm, seconds } from "./mm.js";
+import { faces, isSaved, names, part, store } from "./part.js";
+import { storeDxf } from "./part_view.js";
+import { forgetStrokes, showStrokes, startStrokes } from "./strokes_3d.js";
+import { strokesSheet, TURNS } from "./strokes_sheet.js";
+
+export const plan = { answer: null, of: null, job: null, steps: [] };
+let running = null, offers = {};
+const NO_DRAWER = "The program that draws the setup sheet isn't built; this is the desk's own sheet of strokes.";
+
+// ---- reading what was printed
+
+// A line `step ..`; behind the flange's name, which may be any word, each word has its value.
+export function readSteps(printed) {
+  return printed.split("\n").filter(line => line.startsWith("step ")).map(line => {
+    const words = line.split(" "), rest = words.slice(5), behind = word => rest[rest.indexOf(word) + 1];
+    const mates = rest[0] === "with" ? rest.slice(1, rest.indexOf("back")) : [];
+    return {
+      bend: +words[3], with: mates.map(Number), back: behind("back"), stage: +behind("stage"), turn: behind("turn"),
+      gauge: +behind("gauge"), cost: +behind("cost"),
+    };
+  });
+}
+
+export const leastOf = answer => (answer?.status === 0 ? +/\ntotal (\d+)/.exec(answer.out)[1] : null);
+
+// ---- planning
+
+async function goPlan() {
+  if (!isSaved() && !await store()) return;
+  const which = job();
+  await during("plan", { ...which, keep: true }, answer => showAnswer(answer, which));
+}
+
+async function during(kind, body, work) {
+  $("r-go").disabled = true;
+  $("r-stop").hidden = false;
+  $("r-state").replaceChildren(busy());
+  try {
+    const state = await run(kind, body, (now, id) => {
+      running = id;
+      if (!now.answer) $("r-state").replaceChildren(busy(), ` ${now.seconds.toFixed(1)} s`);
+    });
+    const isEnded = state.state === "cancelled";
+    $("r-state").textContent = isEnded ? "cancelled: nothing was stored" : `${state.seconds.toFixed(1)} s`;
+    if (!isEnded) await work(state.answer);
+  } catch (fault) { $("r-state").textContent = fault.message; }
+  $("r-go").disabled = false;
+  $("r-stop").hidden = true;
+  markOld();
+}
+
+function showAnswer(answer, which) {
+  Object.assign(plan, { answer, of: part.saved, job: which, steps: answer.out ? readSteps(answer.out) : [] });
+  forgetStrokes();
+  if (answer.error || ![0, 1].includes(answer.status)) { showRefusal(answer); return; }
+  $("r-result").replaceChildren(...(answer.status === 0 ? planCards(answer) : noPlanCards(answer)));
+  showSheet(answer);
+  tell("planned");
+}
+
+function showRefusal(answer) {
+  const words = el("div", { className: "words" });
+  say(words, [answer.error || answer.words?.at(-1) || answer.out || "the program gave no answer"]);
+  $("r-result").replaceChildren(words);
+  emptySheet("Refused: see at the left.");
+}
+
+function planCards(answer) {
+  const all = names(), facts = [["blank", $("b-size").textContent || sizeOf(answer.out)], ["certificate", answer.cert || ""]];
+  const strokes = plan.steps.map(step => {
+    const mates = step.with.length ? ` with ${step.with.join(", ")}` : "";
+    const ball = el("span", { className: "num" + (faces()[step.bend]?.dir === "down" ? " down" : ""), textContent: step.bend });
+    const where = [TURNS[step.turn], `gauge ${mm(step.gauge)}`,
+      `${step.back === "child" ? all[step.bend] : "the rest"} at the back`, `station ${step.stage}`];
+    return el("li", {}, ball, el("b", { textContent: all[step.bend] + mates }), el("span", { textContent: seconds(step.cost) }),
+      el("small", { textContent: where.join(", ") }));
+  });
+  return [el("div", { className: "card" }, el("div", { className: "big", textContent: seconds(leastOf(answer)) }),
+    el("div", { textContent: `${plan.steps.length} strokes; no other order costs less` }),
+    el("dl", { className: "facts" }, ...facts.flatMap(([key, value]) => [el("dt", { textContent: key }), el("dd", { textContent: value })])),
+    el("ol", { className: "strokes" }, ...strokes)), proposeCard("Cheaper stations?")];
+}
+
+const sizeOf = printed => printed.split("\n")[1].split(" ").slice(1).map(mm).join(" × ") + " mm";
+
+function noPlanCards(answer) {
+  const why = answer.words.slice(-1).map(text => el("p", { className: "tip", textContent: text.replace(/; '?brake .*$/, "") }));
+  return [el("div", { className: "card" }, el("div", { className: "big", textContent: "No plan" }),
+    el("div", { textContent: "With these stations no order of bends is possible; this is proved. The sheet shows in red what is in the way." }),
+    el("div", { className: "bar" }, button("Try my own order", () => tell("go", "order")))),
+  el("div", { className: "words" }, ...why), proposeCard("Other stations")];
+}
+
+// ---- proposals of stations
+
+function proposeCard(title) {
+  const state = el("span", { className: "state", role: "status" }), list = el("div");
+  const ask = button("Propose stations", () => propose(list, state), { disabled: !offers.propose });
+  const words = offers.propose ? "Stations of the rack for this part, each planned; the cheapest is shown first."
+    : "This brake has no command propose yet.";
+  return el("div", { className: "card" }, el("div", { className: "bar" }, el("h2", { textContent: title }),
+    el("span", { className: "gap" }), state, ask), el("p", { className: "hint", textContent: words }), list);
+}
+
+async function propose(list, state) {
+  state.replaceChildren(busy());
+  const ended = await run("propose", plan.job, (now, id) => { running = id; }).catch(fault => ({ answer: { error: fault.message } }));
+  const answer = ended.answer || { error: "cancelled" };
+  state.textContent = "";
+  if (answer.error || ![0, 1].includes(answer.status)) { say(list, [answer.error || answer.words?.at(-1) || "no proposal"]); return; }
+  list.replaceChildren(...proposalRows(answer));
+}
+
+// The lines of `setups`: one for each setup of the list, then the cheapest one's plan.
+function proposalRows(answer) {
+  const rows = answer.out.split("\n").filter(line => /^setup \d+ /.test(line)).map(line => {
+    const words = line.split(" ");
+    return { number: +words[1], name: words[2], cost: /^\d+$/.test(words.at(-1)) ? +words.at(-1) : null, line };
+  });
+  rows.sort((one, other) => (one.cost ?? Infinity) - (other.cost ?? Infinity));
+  return rows.map(row => el("div", { className: "try " + (row.cost === null ? "no" : "yes") },
+    el("b", { textContent: row.name }), el("span", { textContent: row.cost === null ? "no plan" : seconds(row.cost) }),
+    el("small", { textContent: row.line })));
+}
+
+// ---- the sheet
+
+export function emptySheet(text) {
+  for (const id of ["sheet", "strokes", "r-bar"]) $(id).hidden = true;
+  $("r-empty").hidden = false;
+  $("r-empty").textContent = text;
+}
+
+async function showSheet(answer) {
+  $("r-empty").hidden = true;
+  $("r-bar").hidden = false;
+  $("r-motion").disabled = answer.status !== 0;
+  const frame = $("sheet");
+  frame.onload = () => { if (answer.status === 1) showRed(frame.contentDocument); };
+  frame.srcdoc = answer.sheet || await ownSheet(answer);
+  showPage("sheet");
+}
+
+// The first heading of the sheet that has red pictures.
+function showRed(page) {
+  const heads = [...page.querySelectorAll("h2")];
+  const red = heads.find(head => head.textContent.startsWith("As far as")) || heads.find(head => head.textContent.startsWith("No order"));
+  red?.scrollIntoView();
+}
+
+async function ownSheet(answer) {
+  if (answer.status !== 0) return "<p>The program that draws the setup sheet isn't built: brake --build sheet";
+  const state = await run("motion", plan.job), made = state.answer;
+  if (!made || made.error) return "<p>No sheet could be drawn.";
+  return strokesSheet({
+    title: part.name, mark: `The plan of least cost. ${NO_DRAWER}`, strokes: made.strokes, names: made.names, total: leastOf(answer),
+  });
+}
+
+function showPage(which) {
+  for (const one of $("r-bar").querySelectorAll("[data-view]")) {
+    one.setAttribute("aria-pressed", one.dataset.view === which);
+  }
+  $("sheet").hidden = which !== "sheet";
+  $("strokes").hidden = which !== "strokes";
+  if (which === "strokes") showStrokes(plan.job);
+}
+
+// ---- old plans
+
+export function markOld() {
+  const isOld = !!plan.answer && (part.text !== plan.of || JSON.stringify(plan.job) !== JSON.stringify(job()) || plan.isOld);
+  $("r-old").hidden = !isOld;
+  $("page-plan").classList.toggle("old", isOld);
+  $("r-go").textContent = isSaved() ? "Plan" : "Save and plan";
+}
+
+export function forgetPlan() {
+  Object.assign(plan, { answer: null, of: null, job: null, steps: [], isOld: false });
+  forgetStrokes();
+  $("r-result").replaceChildren();
+  $("r-state").textContent = "";
+  emptySheet("The drawn setup sheet comes here.");
+}
+
+// Takes stations as a machine file of the part's own; the shared one stays as it is.
+export async function takeMachine(text, words) {
+  const own = chosen("machine").replace(/[^/]*$/, "") + base() + "_machine.toml";
+  const old = folder.files.some(file => file.name === own) ? (await readFile(own)).tag : null;
+  try { await storeFile(own, text, old); } catch (fault) { note(fault.message, true); return; }
+  mine(own);
+  await listFolder();
+  told(`${words}: written to ${own}; ${chosen("machine")} stays as it is.`);
+  $("f-machine").value = own;
+  await goPlan();
+}
+
+export function startPlan(offered) {
+  offers = offered;
+  $("r-go").onclick = goPlan;
+  $("r-stop").onclick = () => running && endRun(running);
+  $("r-print").onclick = () => $("sheet").contentWindow.print();
+  $("r-html").onclick = () => download(base() + ".html", $("sheet").srcdoc, "text/html");
+  $("r-cert").onclick = () => download(base() + ".cert", plan.answer.certtext, "text/plain");
+  $("r-dxf").onclick = storeDxf;
+  $("r-dxf").hidden = !offers.dxf;
+  $("r-bar").onclick = event => event.target.dataset.view && showPage(event.target.dataset.view);
+  on("part", markOld);
+  on("changed", name => { if (plan.job && Object.values(plan.job).includes(name)) { plan.isOld = name !== part.name; markOld(); } });
+  startStrokes();
+  forgetPlan();
+}
+
+export const planView = { show: markOld };
