@@ -93,6 +93,7 @@ def dxf_of(desk: Desk, given: dict[str, Any]) -> str:
         put(place, "blank.txt", run.printed)
         made = desk.runs.call([], place, 60, None, bench_words("dxf", ["blank.txt", "blank.dxf"]))
         if made.status:
-            raise Refused(409, made.said.decode("utf-8", "replace").strip().removeprefix("brake: ") or "no DXF was made")
+            said = made.said.decode("utf-8", "replace").strip().removeprefix("brake: ")
+            raise Refused(409, said or "no DXF was made")
         with open(os.path.join(place, "blank.dxf"), encoding="utf-8", newline="") as file:
             return file.read()
