@@ -160,8 +160,14 @@ class Folder:
             return None
 
     def keep_draft(self, name: str, text: str) -> None:
-        """Keeps what is being edited, so that a killed desk loses none of it. Raises Refused."""
+        """Keeps what is being edited, so that a killed desk loses none of it; not where it is stored. Raises Refused."""
         path = Path(self.draft_path(name))
+        try:
+            if self.take(self.path(name), name, MOST_FILE + 1) == text.encode():
+                path.unlink(missing_ok=True)
+                return
+        except Refused:
+            pass  # a new file, or one that can't be read
         try:
             path.parent.mkdir(parents=True, exist_ok=True)
             store_whole(path, text.encode())

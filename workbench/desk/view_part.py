@@ -55,7 +55,7 @@ def edited(desk: Desk, given: dict[str, Any]) -> dict[str, Any]:
         except FaultyEdit as fault:
             raise Refused(400, str(fault)) from None
     if name:
-        desk.folder.keep_draft(name, text)
+        desk.folder.keep_draft(name, text)  # of a text that is stored there is no draft
     answer: dict[str, Any] = {"text": text, "data": parsed(text), "slips": []}
     if given.get("tools"):
         answer["blank"] = blank_of(desk, text, name or "part.toml", given["tools"])

@@ -54,7 +54,7 @@ class Page:
         """Runs a script in the page."""
         return self.driver.execute_script(text, *given)
 
-    def until(self, is_so: Callable[[], Any], seconds: float = 30.0) -> Any:
+    def until(self, is_so: Callable[[], Any], seconds: float = 90.0) -> Any:
         """Waits until something holds; after so many seconds the test fails."""
         from selenium.common.exceptions import WebDriverException
         end = time.monotonic() + seconds

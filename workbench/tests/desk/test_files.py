@@ -177,6 +177,14 @@ def test_drafts_outlive_a_killed_desk(tmp_path: Path) -> None:
         desk.end()
 
 
+def test_what_is_taken_back_leaves_no_draft(desk: Desk, shop: Path) -> None:
+    text = (shop / PART).read_text()
+    edit(desk, text, LENGTH, name=PART)
+    assert desk.file(PART)["draft"] is not None
+    edit(desk, text, [], name=PART)
+    assert desk.file(PART)["draft"] is None
+
+
 def test_killed_while_storing(tmp_path: Path) -> None:
     """The file is whole at whatever moment the desk is killed."""
     fill(tmp_path, ("lid",))

@@ -44,10 +44,9 @@ def open_part(page: Page, name: str) -> None:
 
 def undo_all(page: Page) -> None:
     """Takes back all edits of the part."""
-    while page.find("#p-undo").is_enabled():
-        page.press("#p-undo")
-        page.until(lambda: True)
-    page.until(lambda: page.text("#p-state") == "saved")
+    page.until(lambda: page.js(
+        "const undo = document.getElementById('p-undo'), state = document.getElementById('p-state');"
+        "if (state.textContent === 'saved') return true; if (!undo.disabled) undo.click(); return false;"))
 
 
 def test_the_token_leaves_the_address(page: Page, desk: Desk) -> None:
@@ -108,7 +107,7 @@ def test_a_refusal_stands_at_its_field(page: Page) -> None:
     assert "bad" in page.find('[data-path="face.1.at"]').get_attribute("class")
     assert page.text("#b-size") == "as it was, before the refusal"
     undo_all(page)
-    assert not page.all("tr.why")
+    page.until(lambda: not page.all("tr.why"))
 
 
 def test_four_decimals_are_told(page: Page) -> None:
