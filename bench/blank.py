@@ -19,7 +19,8 @@ def thirteen_faces():
     text = 'material = "S235"\nthickness = 2000\nradius = 2000\n'
     text += '[[face]]\nname = "f0"\nwidth = 20000\nlength = 30000\n'
     for i in range(1, 13):
-        text += f'[[face]]\nname = "f{i}"\non = "f{i - 1}"\nside = "N"\nat = 0\nwidth = 20000\nlength = 30000\ndir = "up"\n'
+        text += f'[[face]]\nname = "f{i}"\non = "f{i - 1}"\nside = "N"\nat = 0\n'
+        text += 'width = 20000\nlength = 30000\ndir = "up"\n'
     return text
 
 
@@ -62,7 +63,8 @@ def main():
                 got = subprocess.run(words, cwd=place, capture_output=True)
                 times.append((time.perf_counter() - start) * 1000)
             first = got.stdout.decode().splitlines()[:1]
-            print(f"{name:44} median {statistics.median(times):7.2f} ms  least {min(times):7.2f} ms  status {got.returncode}  {first}")
+            median, least = statistics.median(times), min(times)
+            print(f"{name:44} median {median:7.2f} ms  least {least:7.2f} ms  status {got.returncode}  {first}")
 
 
 if __name__ == "__main__":

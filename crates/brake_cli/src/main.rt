@@ -1,25 +1,6 @@
 //! A press brake bend planner: the program `brake`.
 #![tactic(auto)]
 
-#[cfg(test)]
-mod asserts;
-#[cfg(test)]
-mod blank_tests;
-#[cfg(test)]
-mod check_tests;
-#[cfg(test)]
-mod plan_tests;
-#[cfg(test)]
-mod setups_tests;
-#[cfg(test)]
-mod tables_tests;
-#[cfg(test)]
-mod test_runs;
-#[cfg(test)]
-mod why_tests;
-#[cfg(test)]
-mod words_tests;
-
 use brake_commands::run_program;
 use brake_io::{DirShelf, StdSink};
 use std::env;

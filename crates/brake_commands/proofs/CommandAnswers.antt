@@ -1,12 +1,5 @@
 -- From what a call answers to what a command answers.
-use Rattle.std.proofs.Common.{◌≡◌, ◌⊎◌, inl, inr, ℕ, List, length, Option, Some, None, Result, Ok, Err, refl}
-use Rattle.brake_base.specs.declared.stroke.Worth.{Worth}
-use Rattle.brake_base.specs.declared.stroke.Worth.TheVariants.{Cost, Blocked}
-use Rattle.cert_lines.specs.Lines.{IsWorth}
-use Rattle.cert_check.specs.declared.fault.CheckFault.{CheckFault}
-use Rattle.cert_check.specs.declared.fault.CheckFault.TheVariants as check
-use Rattle.cert_check.specs.Checking.{CheckedData, IsAccepted, IsAnswer, verdict_of}
-use Rattle.brake_commands.specs.CheckAnswer.{IsClaim, ChecksTo}
+use Rattle.std.proofs.Common.{◌≡◌, ℕ, length, Option, Some, None, Result, Ok, refl}
 use Rattle.job_setup.specs.Setup.{JobData}
 use Rattle.job_setup.specs.JobOf.{FileFault}
 use Rattle.command_runner.specs.Answers.{AnswerData}
@@ -27,24 +20,6 @@ stop_answers P NoMemory read answer stops told = absurd told
 -- the answer to files that give a job
 pub job_answers : (P : JobData → AnswerData → Type 0) (job : JobData) (read : Result JobData FileFault) (answer : AnswerData) → read ≡ Ok job → P job answer → AnswersJob P read answer
 job_answers P job read answer reads is = rw reads is
-
-worth_claim : (worth : Worth) → IsWorth worth → IsClaim (verdict_of worth)
-worth_claim (Cost cost) small = small
-worth_claim Blocked small = tt
-
--- what is accepted may be claimed
-pub accepted_claim : (text : List ℕ) (checked : CheckedData) → IsAccepted text checked → IsClaim checked.verdict
-accepted_claim text checked is = rw is.verdict (worth_claim is.cert.claim is.good.good.form.claim)
-
--- a refusal other than for want of memory is what a check comes to
-pub refused_is : (text : List ℕ) (fault : CheckFault) → (fault ≡ check.NoMemory) ⊎ IsAnswer text (Err fault) → (fault ≡ check.NoMemory → ⊥) → IsAnswer text (Err fault)
-refused_is text fault (inl memory) other = absurd (other memory)
-refused_is text fault (inr is) other = is
-
--- what a check comes to is its answer
-pub checks_answer : (text : List ℕ) (checked : Result CheckedData CheckFault) → ChecksTo text checked → IsAnswer text checked
-checks_answer text (Ok checked) checks = checks.0
-checks_answer text (Err fault) checks = checks
 
 -- `plan` has three files, with a budget and without
 pub plan_files : (part tools machine cert : ℕ) (budget : Option ℕ) → length (file_words (kinds_of (form_of (Plan part tools machine cert budget)))) ≡ 3

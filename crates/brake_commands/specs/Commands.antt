@@ -17,7 +17,8 @@ use Rattle.brake_commands.specs.declared.form.Form.TheVariants as form
 use Rattle.brake_commands.specs.Forms.{kinds_of}
 use Rattle.brake_commands.specs.BlankAnswer.{blank_answer}
 use Rattle.brake_commands.specs.PlanAnswer.{IsStoredOf, IsPlanAnswer}
-use Rattle.brake_commands.specs.CheckAnswer.{IsCheckAnswer, IsCheckFilesAnswer}
+use Rattle.check_command.specs.CheckAnswer.{IsCheckAnswer}
+use Rattle.brake_commands.specs.CheckAnswer.{IsCheckFilesAnswer}
 use Rattle.brake_commands.specs.TrialAnswer.{IsTrialAnswer}
 use Rattle.brake_commands.specs.WhyAnswer.{IsWhyAnswer}
 use Rattle.brake_commands.specs.SetupsAnswer.{IsSetupsAnswer}

@@ -17,12 +17,11 @@ use Rattle.handling_cost.specs.Good.{AreClaimed}
 use Rattle.setup_sheet.specs.Sheets.{blank_text, setup_text}
 use Rattle.plan_cert.specs.Cert.{CertData}
 use Rattle.plan_cert.specs.CertText.{cert_text2}
-use Rattle.cert_check.specs.Checking.{verdict_of}
+use Rattle.cert_check.specs.Checking.{CheckedData, IsAccepted, verdict_of}
 use Rattle.brake_io.specs.Meanings.{WhereTold, Puts}
 use Rattle.command_runner.specs.declared.word_kind.WordKind.{WordKind}
 use Rattle.command_runner.specs.declared.status.Status.{Status}
 use Rattle.command_runner.specs.declared.status.Status.TheVariants as ended
-use Rattle.command_runner.specs.Answers.{AnswerData}
 use Rattle.command_runner.specs.Fetching.{word_at, files_of, IsContent}
 use Rattle.command_runner.specs.Delivery.{Outside, HoldsAll}
 use Rattle.brake_commands.specs.declared.command.Command.{Command}
@@ -31,7 +30,6 @@ use Rattle.brake_commands.specs.Forms.{command_of}
 use Rattle.brake_commands.specs.Run.{form_for}
 use Rattle.brake_commands.specs.JobAnswer.{job_of_files}
 use Rattle.brake_commands.specs.PlanAnswer.{claim_status, last_text, IsBlankOf, IsPlanCert, HasFewRows}
-use Rattle.brake_commands.specs.CheckAnswer.{verdict_answer, IsCheckAnswer}
 use Rattle.handling_cost.specs.Claim.{IsTrueClaim}
 
 -- a fact of each step of a plan, at the key to which the steps before it lead
@@ -55,12 +53,15 @@ MovesFree job key step =
 abbrev pub TouchesLegalEdge : JobData → Key → Step → Type 0
 TouchesLegalEdge job key step = IsGaugeFor job key.mask step.action step.gauge
 
--- the checker confirms the claim from this text alone: `check`, which reads no other file, answers
--- the claim to it, and has no other answer
-pub record ConfirmsAlone (text : List ℕ) (cert : CertData) : Type 0 where
-  pub answers : IsCheckAnswer (text ∷ []) (verdict_answer (verdict_of cert.claim))
-  pub alone : (answer : AnswerData) → IsCheckAnswer (text ∷ []) answer
-      → answer ≡ verdict_answer (verdict_of cert.claim)
+-- the claim and its job, as the checker answers them
+abbrev pub claim_of : JobData → CertData → CheckedData
+claim_of job cert = record { verdict = verdict_of cert.claim; job = job }
+
+-- the checker confirms the claim from this text alone: the text is accepted as this claim of this
+-- job, and as no other
+pub record ConfirmsAlone (text : List ℕ) (job : JobData) (cert : CertData) : Type 0 where
+  pub accepted : IsAccepted text (claim_of job cert)
+  pub alone : (checked : CheckedData) → IsAccepted text checked → checked ≡ claim_of job cert
 
 -- The run's claim is that of a certificate: the least cost of a plan, or that there is none.
 pub record Headline (job : JobData) (name : List ℕ) (budget : Option ℕ)
@@ -81,7 +82,7 @@ pub record Headline (job : JobData) (name : List ℕ) (budget : Option ℕ)
   pub proves : IsPlanCert job cert
   pub few_rows : HasFewRows budget job cert
   pub within_the_limit : length (cert_text2 job cert) ≤ 1073741824
-  pub confirms_alone : ConfirmsAlone (cert_text2 job cert) cert
+  pub confirms_alone : ConfirmsAlone (cert_text2 job cert) job cert
 
 -- the run ended with a plan, or with there being none
 abbrev pub IsClaimed : Status → Type 0

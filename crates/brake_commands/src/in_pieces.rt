@@ -2,6 +2,7 @@
 use crate::form::Form;
 use crate::{check, prove};
 use brake_io::{Reader, Window};
+use check_command::answer_alone;
 use command_runner::{Answer, ReadingCommand, WordKind};
 use std::alloc::{AllocError, Global};
 
@@ -38,7 +39,7 @@ impl ReadingCommand for PieceCommand {
         contents: &[Vec<u8>],
     ) -> Result<Answer, AllocError> {
         match self {
-            PieceCommand::Check => check::answer_alone(alloc, window),
+            PieceCommand::Check => answer_alone(alloc, window),
             PieceCommand::CheckFiles => check::answer_with_files(alloc, window, contents),
             PieceCommand::Prove => prove::answer(alloc, window),
         }

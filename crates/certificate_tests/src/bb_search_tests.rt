@@ -4,14 +4,13 @@ use crate::asserts::assert_equal;
 use crate::first_stage::{key, step};
 use bb_search::{Outcome, Search, nodes};
 use brake_base::{Back, Quarter, Reason, Worth};
-use common_files::{L_SECTION, LID, MACHINE, STAGE, TOOLS, U_CHANNEL};
 use job_setup::Job;
 use part_gen::made_job;
 use plan_cert::{Cert, Note, RowHead, write_cert};
 use std::alloc::{AllocError, Global};
 use std::process::Abort;
 use std::test::Fail;
-use test_jobs::job_of;
+use test_fixtures::{L_SECTION, LID, MACHINE, STAGE, TOOLS, U_CHANNEL, job_of};
 
 /// A base of 100,000 by 60,000 with two flanges each on its sides S and N.
 const FOUR_FLANGES: &str = "material = \"S235\"

@@ -5,10 +5,10 @@ ghost use Rattle.std.specs.Prelude.{None};
 use crate::asserts::assert_equal;
 use brake_io::{HeldBytes, Reader, Window};
 use cert_check::{CheckFault, StepFault, Verdict, check, check_from};
-use certificate_texts::{GANG_JOB, ROWS, STEPS, VERSION_1_JOB};
 use plan_cert::CertFault;
 use std::alloc::Global;
 use std::test::Fail;
+use test_fixtures::{GANG_JOB, ROWS, STEPS, VERSION_1_JOB};
 
 /// The rows that prove that no second leg of 80,000 can be bent.
 const HIGH_ROWS: &str = "row 0 0 0 none

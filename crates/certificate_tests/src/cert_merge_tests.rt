@@ -3,10 +3,10 @@
 use crate::asserts::assert_equal;
 use brake_base::Worth;
 use cert_merge::{ProveFault, TableFault, check_table, prove_text, read_table, write_table};
-use certificate_texts::{ROWS, VERSION_2_JOB};
 use plan_cert::CertFault;
 use std::alloc::{AllocError, Global};
 use std::test::Fail;
+use test_fixtures::{ROWS, VERSION_2_JOB};
 
 /// Two rows, the second with a note.
 const FIRST: &str = "row 0 0 0 200

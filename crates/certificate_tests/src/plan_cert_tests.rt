@@ -3,12 +3,12 @@
 use crate::asserts::assert_equal;
 use arrayvec::ArrayVec;
 use brake_base::Worth;
-use certificate_texts::{FINE_JOB, ROWS, STEPS, VERSION_1_JOB, VERSION_2_JOB};
-use common_files::{MACHINE, STAGE, TOOLS, U_CHANNEL};
 use plan_cert::{Cert, CertFault, CertReader, Item, read_cert, write_cert};
 use std::alloc::{AllocError, Global};
 use std::test::Fail;
-use test_jobs::job_of;
+use test_fixtures::{
+    FINE_JOB, MACHINE, ROWS, STAGE, STEPS, TOOLS, U_CHANNEL, VERSION_1_JOB, VERSION_2_JOB, job_of,
+};
 
 #[test]
 fn u_channel_without_rows(rt: HostRuntime) -> Result<(), Fail> {

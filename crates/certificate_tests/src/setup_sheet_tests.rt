@@ -3,12 +3,11 @@
 use crate::asserts::assert_equal;
 use crate::first_stage::step;
 use brake_base::{Back, Gauge, Step};
-use common_files::{L_SECTION, MACHINE, STAGE, TOOLS, TWO_FLANGES, U_CHANNEL};
 use job_setup::Job;
 use setup_sheet::{are_steps, order_sheet};
 use std::alloc::Global;
 use std::test::Fail;
-use test_jobs::job_of;
+use test_fixtures::{L_SECTION, MACHINE, STAGE, TOOLS, TWO_FLANGES, U_CHANNEL, job_of};
 
 /// The order sheet; None where it can't tell the steps.
 fn sheet_of(alloc: Global, job: &Job, steps: &[Step]) -> Result<Option<Vec<u8>>, Fail> {

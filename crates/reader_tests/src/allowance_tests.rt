@@ -1,10 +1,10 @@
 //! The worked values.
 
 use allowance::{AllowFault, find, half_deduction};
-use common_files::{L_SECTION, TOOLS};
 use part_file::read_part;
 use std::alloc::Global;
 use std::test::Fail;
+use test_fixtures::{L_SECTION, TOOLS};
 use tool_library::read_tools;
 use unfolder::{FlatRect, extent, unfold};
 

@@ -2,10 +2,10 @@
 
 use crate::asserts::assert_equal;
 use brake_base::{Back, Box3, Half, Mask, V3};
-use common_files::{TWO_FLANGES, U_CHANNEL};
 use fold_boxes::{PartBox, PoseBox, Shape, attitude, boxes, is_group, pose};
 use part_file::read_part;
 use std::test::Fail;
+use test_fixtures::{TWO_FLANGES, U_CHANNEL};
 use unfolder::unfold;
 
 fn body(x: (i64, i64), y: (i64, i64), z: (i64, i64)) -> Box3 {

@@ -1,11 +1,10 @@
 //! Jobs of three files, and their refusals.
 
 use brake_base::{Mask, Rect};
-use common_files::{EAST_FLANGE, L_SECTION, MACHINE, STAGE, TOOLS, TWO_FLANGES};
 use job_setup::{Group, Job, JobFault, Obstacle, group, meets_at, obstacles};
 use std::alloc::Global;
 use std::test::Fail;
-use test_jobs::made_of;
+use test_fixtures::{EAST_FLANGE, L_SECTION, MACHINE, STAGE, TOOLS, TWO_FLANGES, made_of};
 
 const LOAD: &str = "[[load]]
 material = \"S235\"

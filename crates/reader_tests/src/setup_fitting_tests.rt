@@ -1,13 +1,13 @@
 //! Setups on the common machine, with the common tools.
 
 use allowance::AllowFault;
-use common_files::{FLAT_OVERLAP, L_SECTION, MACHINE, TOOLS};
 use job_setup::{Job, JobFault};
 use machine_file::read_machine;
 use part_file::read_part;
 use setup_choice::{Fit, fit, read_setups};
 use std::alloc::Global;
 use std::test::Fail;
+use test_fixtures::{FLAT_OVERLAP, L_SECTION, MACHINE, TOOLS};
 use tool_library::read_tools;
 use unfolder::UnfoldFault;
 

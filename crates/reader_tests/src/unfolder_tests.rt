@@ -1,10 +1,10 @@
 //! Blanks worked out by hand.
 
 use crate::asserts::assert_equal;
-use common_files::{FLAT_OVERLAP, L_SECTION, PAN};
 use part_file::{Dir, read_part};
 use std::alloc::Global;
 use std::test::Fail;
+use test_fixtures::{FLAT_OVERLAP, L_SECTION, PAN};
 use unfolder::{BendLine, Blank, FlatFace, FlatRect, UnfoldFault, extent, unfold};
 
 /// The blank of a part with a half deduction of 1,919 micrometres, or with that of half its

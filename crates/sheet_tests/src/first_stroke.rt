@@ -1,11 +1,10 @@
 //! The first stroke of the U channel, which a worked page shows.
 
 use brake_base::{Action, Back, Key, Mask, Turn};
-use common_files::{MACHINE, STAGE, TOOLS, U_CHANNEL};
 use job_setup::Job;
 use std::alloc::Global;
 use std::test::Fail;
-use test_jobs::job_of;
+use test_fixtures::{MACHINE, STAGE, TOOLS, U_CHANNEL, job_of};
 
 pub fn u_channel(alloc: Global) -> Result<Job, Fail> {
     let machine = format!(in alloc; "{MACHINE}{STAGE}")?;

@@ -3,10 +3,9 @@
 use crate::asserts::assert_equal;
 use bend_state::BendState;
 use brake_base::Mask;
-use common_files::{MACHINE, STAGE, TOOLS, U_CHANNEL};
 use fold_boxes::is_group;
 use std::test::Fail;
-use test_jobs::job_of;
+use test_fixtures::{MACHINE, STAGE, TOOLS, U_CHANNEL, job_of};
 use undo_region::Region;
 
 #[test]

@@ -1,11 +1,10 @@
 //! The first legal pairs of the worked parts.
 
 use brake_base::{Back, Gauge, Mask};
-use common_files::{L_SECTION, MACHINE, STAGE, TOOLS, U_CHANNEL};
 use fold_boxes::{is_group, pose};
 use gauge_rules::first_legal;
 use std::test::Fail;
-use test_jobs::job_of;
+use test_fixtures::{L_SECTION, MACHINE, STAGE, TOOLS, U_CHANNEL, job_of};
 
 #[test]
 fn gauges(rt: HostRuntime) -> Result<(), Fail> {

@@ -1,11 +1,10 @@
 //! Costs of the worked parts, worked out by hand.
 
 use brake_base::{Action, Back, Gauge, Step};
-use common_files::{L_SECTION, MACHINE, STAGE, TOOLS, TWO_FLANGES, U_CHANNEL};
 use handling_cost::{is_action_at, next_key, plan_cost, start_key, step_cost};
 use job_setup::Job;
 use std::test::Fail;
-use test_jobs::job_of;
+use test_fixtures::{L_SECTION, MACHINE, STAGE, TOOLS, TWO_FLANGES, U_CHANNEL, job_of};
 
 /// An action at stage 0.
 fn action(bend: u8, back: Back) -> Action {

@@ -1,13 +1,12 @@
 //! The nogoods of worked jobs, against the lines that `why` puts for them.
 
 use brake_base::{Action, Back, Mask, Quarter, Reason};
-use common_files::{L_SECTION, LID, MACHINE, STAGE, TOOLS, U_CHANNEL};
 use handling_cost::{is_action_at, start_key};
 use job_setup::Job;
 use nogood_book::{Book, Nogood, learn, verify};
 use std::alloc::Global;
 use std::test::Fail;
-use test_jobs::job_of;
+use test_fixtures::{L_SECTION, LID, MACHINE, STAGE, TOOLS, U_CHANNEL, job_of};
 
 /// The job of a part on the common machine with these keys more.
 fn job_with(alloc: Global, part: &str, keys: &str) -> Result<Job, Fail> {

@@ -4,14 +4,13 @@ ghost use Rattle.std.specs.Prelude.{◌≡◌, ◌<◌, ◌^◌};
 ghost use Rattle.job_setup.specs.Setup.{bend_count};
 
 use brake_base::{Back, Key, Mask, Turn};
-use common_files::{L_SECTION, LID, MACHINE, PAN, STAGE, TOOLS, TWO_FLANGES, U_CHANNEL};
 use fold_boxes::attitude;
 use handling_cost::{bound, is_lead};
 use job_setup::Job;
 use set_facts::LaneFacts;
 use stage_lanes::BLOCKED;
 use std::test::Fail;
-use test_jobs::job_of;
+use test_fixtures::{L_SECTION, LID, MACHINE, PAN, STAGE, TOOLS, TWO_FLANGES, U_CHANNEL, job_of};
 
 /// Whether the bounds of a set are those of its keys, and blocked past the last stage.
 fn bounds_agree(job: &Job, facts: &LaneFacts, mask: Mask) -> bool

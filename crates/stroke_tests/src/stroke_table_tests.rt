@@ -6,14 +6,13 @@ ghost use Rattle.job_setup.specs.Setup.{shape_of};
 
 use crate::asserts::assert_equal;
 use brake_base::{Back, Mask, Place, Reason};
-use common_files::{MACHINE, PAN, STAGE, TOOLS, TWO_FLANGES};
 use fold_boxes::{attitude, is_group, place};
 use gauge_rules::first_legal;
 use job_setup::{Job, group};
 use std::test::Fail;
 use stroke_table::{StrokeTable, pose_at};
 use sweep_check::first_reason;
-use test_jobs::job_of;
+use test_fixtures::{MACHINE, PAN, STAGE, TOOLS, TWO_FLANGES, job_of};
 
 /// A strip of seven faces, each bent onto the one before.
 const CHAIN: &str = "material = \"S235\"

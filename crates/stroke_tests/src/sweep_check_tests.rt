@@ -4,14 +4,13 @@ ghost use Rattle.job_setup.specs.Setup.{shape_of};
 ghost use Rattle.job_setup.specs.Reasons.{IsPoseAt};
 
 use brake_base::{Back, Half, Mask, Quarter, Reason};
-use common_files::{L_SECTION, LID, MACHINE, STAGE, TOOLS, TWO_FLANGES, U_CHANNEL};
 use fold_boxes::{Pose, is_group, place, pose};
 use job_setup::Job;
 use std::alloc::Global;
 use std::test::Fail;
 use stroke_table::pose_at;
 use sweep_check::{first_reason, holds};
-use test_jobs::job_of;
+use test_fixtures::{L_SECTION, LID, MACHINE, STAGE, TOOLS, TWO_FLANGES, U_CHANNEL, job_of};
 
 /// A base and a flange on its side N, each 100,000 by 30,000 with a wall of 28,000 at its far edge.
 const TWO_WALLS: &str = "material = \"S235\"

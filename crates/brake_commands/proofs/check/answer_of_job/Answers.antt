@@ -4,8 +4,9 @@ use Rattle.cert_check.specs.Checking.{checked_data}
 use Rattle.command_runner.specs.Answers.{answer_data}
 use Rattle.command_runner.specs.Fetching.{word_at}
 use Rattle.command_runner.specs.Reading.{AnswersText}
-use Rattle.brake_commands.specs.CheckAnswer.{IsAnswerOf, IsCertRefusal, IsAnswerFor}
-use Rattle.brake_commands.proofs.CommandAnswers.{accepted_claim, refused_is}
+use Rattle.check_command.specs.CheckAnswer.{IsCertRefusal}
+use Rattle.check_command.proofs.Checks.{accepted_claim, refused_is}
+use Rattle.brake_commands.specs.CheckAnswer.{IsAnswerOf, IsAnswerFor}
 use Rattle.brake_commands.proofs.check.answer_of_job.Goals as goal
 
 pub accepted-requires : goal.accepted-requires

@@ -1,6 +1,6 @@
 use Rattle.std.proofs.Common.{Err}
 use Rattle.cert_check.proofs.Accepting.{good_text_accepted}
-use Rattle.brake_commands.proofs.CommandAnswers.{refused_is}
+use Rattle.check_command.proofs.Checks.{refused_is}
 use Rattle.brake_commands.proofs.trial.confirm.Goals as goal
 
 pub unreachable-requires : goal.unreachable-requires

@@ -6,7 +6,8 @@ use Rattle.command_runner.specs.Answers.{AnswerData, answer_data}
 use Rattle.command_runner.specs.Reading.{AnswersText}
 use Rattle.brake_commands.specs.declared.in_pieces.PieceCommand.{PieceCommand}
 use Rattle.brake_commands.specs.declared.in_pieces.PieceCommand.TheVariants.{Check, CheckFiles, Prove}
-use Rattle.brake_commands.specs.CheckAnswer.{IsCheckAnswer, IsCheckFilesAnswer}
+use Rattle.check_command.specs.CheckAnswer.{IsCheckAnswer}
+use Rattle.brake_commands.specs.CheckAnswer.{IsCheckFilesAnswer}
 use Rattle.brake_commands.specs.ProveAnswer.{IsProveAnswer}
 use Rattle.brake_commands.specs.Commands.{piece_meaning}
 use Rattle.brake_commands.proofs.in_pieces.PieceCommandReadingCommand.answer_from.Goals as goal

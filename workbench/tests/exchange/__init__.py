@@ -1,0 +1,1 @@
+"""Tests of `brake new`, `dxf`, `folded` and `import`."""
