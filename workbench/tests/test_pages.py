@@ -67,3 +67,14 @@ def test_the_gallery_shows_what_stands_there() -> None:
     assert len(pieces) == 5
     for file, piece in pieces:
         assert piece in (ROOT / file).read_text(), file
+
+
+def test_how_a_proof_goes_names_modules_that_are_there() -> None:
+    """Each module that a crate's 'How the proof goes' names is a file of its proofs."""
+    told = 0
+    for page in (ROOT / "crates").glob("*/README.md"):
+        section = re.search(r"^## How the proof goes\n\nBy the modules of proofs/(.*?)(?=^## |\Z)", page.read_text(), re.M | re.S)
+        for name in re.findall(r"`([A-Z]\w+)`", section[1]) if section else []:
+            told += 1
+            assert (page.parent / "proofs" / f"{name}.antt").exists(), f"{page.parent.name} tells of {name}"
+    assert told > 0
