@@ -29,7 +29,7 @@ def read_toml(text: str) -> dict[str, Any]:
 
 
 def change_toml(text: str, edits: list[dict[str, Any]]) -> str:
-    """The text after the edits; comments, the order of keys and the spelling of other values stay. Raises FaultyEdit."""
+    """The text after the edits; comments, the order of keys and other values' spelling stay. Raises FaultyEdit."""
     mark = MARK if text.startswith(MARK) else ""
     try:
         document = tomlkit.parse(text.removeprefix(MARK))

@@ -216,7 +216,8 @@ def read_order(job: Job, printed: str) -> dict[str, Any]:
             strokes[-1]["refused"] += stroke_data(job, stroke)["refused"]
     if total is None:
         raise NoVerdict(f"the program gave no verdict on this order: {printed[:80]}")
-    return {"strokes": strokes, "total": total, "all": len(folded) == len(job.faces) - 1, "checked": True, "by": "order"}
+    is_whole = len(folded) == len(job.faces) - 1
+    return {"strokes": strokes, "total": total, "all": is_whole, "checked": True, "by": "order"}
 
 
 def read_step(job: Job, words: list[str], folded: set[int]) -> dict[str, Any]:

@@ -184,8 +184,9 @@ class Job:
         if not self.gang:
             return [bend]
         own = self.faces[bend]
+        kind = own.on, own.side, own.is_up
         return [number for number, face in enumerate(self.faces)
-                if number and number not in folded and (face.on, face.side, face.is_up) == (own.on, own.side, own.is_up)]
+                if number and number not in folded and (face.on, face.side, face.is_up) == kind]
 
     def line(self, bend: int) -> tuple[Vector, Vector, Vector]:
         """A bend's line: its start, the direction along it, and the direction away from the parent."""
@@ -236,7 +237,8 @@ class Job:
         shift = (begin - at[0] - (low if way == 1 else -high), -at[1], -at[2] if up == 1 else -at[2] - self.thickness)
         whole = Map(turn, shift).after(maps[self.faces[lead].on].inverse())
         beyond = self.beyond(group)
-        boxes = [PartBox(number, "B" if (number in beyond) == (back == "C") else "F", *self.box(number, whole.after(own)))
+        halves = ["B" if (number in beyond) == (back == "C") else "F" for number in range(len(maps))]
+        boxes = [PartBox(number, halves[number], *self.box(number, whole.after(own)))
                  for number, own in enumerate(maps)]
         return Pose(whole.turn, boxes)
 
@@ -261,10 +263,11 @@ class Job:
         first = self.stages[0]
         for group, lift, drop in (("upper", first.punch.numbers[0], 0),
                                   ("lower", -first.die.numbers[0] - self.thickness, -self.thickness)):
-            rows: list[tuple[list[int], str]] = [([*box[:4], box[4] + lift, box[5] + lift], "beam") for box in self.beams[group]]
+            rows = [([*box[:4], box[4] + lift, box[5] + lift], "beam") for box in self.beams[group]]
             for stage in self.stages:
                 tool = stage.punch if group == "upper" else stage.die
-                rows += [([stage.x0, stage.x1, box[0], box[1], box[2] + drop, box[3] + drop], tool.name) for box in tool.boxes]
+                rows += [([stage.x0, stage.x1, y0, y1, z0 + drop, z1 + drop], tool.name)
+                         for y0, y1, z0, z1 in tool.boxes]
             found += [ToolBox(group, number, *box, name=name) for number, (box, name) in enumerate(rows)]
         return found
 

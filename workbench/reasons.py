@@ -30,13 +30,15 @@ def say_reason(job: Job, reason: Reason, stage: int) -> str:
     """A reason at a stage, in words."""
     kind, here = reason[0], job.stages[stage]
     if kind == TOO_LONG:
-        return f"the bend is longer than station {stage} covers ({show_length(here.x1 - here.x0)} and what may stand out)"
+        long = show_length(here.x1 - here.x0)
+        return f"the bend is longer than station {stage} covers ({long} and what may stand out)"
     if kind == TOO_SHORT:
         return f"a flange is shorter than the {show_length(here.die.numbers[2])} that die {here.die.name} wants"
     if kind == FRAME:
         return f"{say_part(job, reason[1])} would stand in a side frame"
     if kind in (UPPER, LOWER):
-        return f"{say_part(job, reason[1])} would hit {say_tool(job, 'upper' if kind == UPPER else 'lower', reason[3])}"
+        group = "upper" if kind == UPPER else "lower"
+        return f"{say_part(job, reason[1])} would hit {say_tool(job, group, reason[3])}"
     if kind == NOSE:
         return f"{say_part(job, reason[1])} would hit the nose of punch {job.stages[reason[3]].punch.name}"
     if kind == ITSELF:

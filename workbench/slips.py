@@ -46,8 +46,8 @@ def all_slips(part: Data, tools: Data, machine: Data, printed_blank: str | None)
     """The slips of three parsed files, as far as they are whole; the blank as the program printed it, or None."""
     blank = read_blank(printed_blank) if printed_blank else None
     rules = (lambda: thin_sheet(part), lambda: small_sizes(part), lambda: odd_deduction(part, tools),
-             lambda: odd_dies(part, tools, machine), lambda: coarse_covers(machine), lambda: gauge_upside_down(machine),
-             lambda: bare_edges(part, blank))
+             lambda: odd_dies(part, tools, machine), lambda: coarse_covers(machine),
+             lambda: gauge_upside_down(machine), lambda: bare_edges(part, blank))
     found: list[Slip] = []
     for rule in rules:
         try:
@@ -77,8 +77,8 @@ def small_sizes(part: Data) -> Iterator[Slip]:
         for key in ("width", "length"):
             size = face[key]
             if 0 < size < most:
-                yield Slip("part", key, f"{key} of {face['name']} is {show_length(size)}: the file has {size} micrometres.",
-                           size, size * 1000, f"face {number}", number, f"Take {size} mm",
+                words = f"{key} of {face['name']} is {show_length(size)}: the file has {size} micrometres."
+                yield Slip("part", key, words, size, size * 1000, f"face {number}", number, f"Take {size} mm",
                            thousandfold(["face", number, key], size))
 
 
@@ -113,11 +113,13 @@ def odd_deduction(part: Data, tools: Data) -> Iterator[Slip]:
     if "k" in row and abs(row["k"] - usual) > MOST_K_OFF:
         other = round((row["k"] - usual) / 1000 * thick / 2 * math.pi / 2)
         longer = "longer" if other > 0 else "shorter"
-        yield Slip("tools", "k", f"k = {row['k'] / 1000:g} for this sheet, where DIN 6935 has {usual / 1000:g}: each bend "
-                   f"makes the blank {show_length(abs(other))} {longer}", row["k"], usual, f"allow {number}")
+        words = (f"k = {row['k'] / 1000:g} for this sheet, where DIN 6935 has {usual / 1000:g}: each bend makes the "
+                 f"blank {show_length(abs(other))} {longer}")
+        yield Slip("tools", "k", words, row["k"], usual, f"allow {number}")
     if "q" in row and abs(row["q"] - half) > thick / 5:
-        yield Slip("tools", "q", f"the measured deduction of a bend is {show_length(2 * row['q'])}, where DIN 6935 has "
-                   f"{show_length(round(2 * half))}", row["q"], round(half), f"allow {number}")
+        words = (f"the measured deduction of a bend is {show_length(2 * row['q'])}, where DIN 6935 has "
+                 f"{show_length(round(2 * half))}")
+        yield Slip("tools", "q", words, row["q"], round(half), f"allow {number}")
 
 
 def odd_dies(part: Data, tools: Data, machine: Data) -> Iterator[Slip]:
@@ -131,9 +133,9 @@ def odd_dies(part: Data, tools: Data, machine: Data) -> Iterator[Slip]:
             continue
         opening, made = die["v"], round(0.16 * die["v"])
         if not 4 <= opening / thick <= 20:
-            yield Slip("machine", "die", f"die {die['name']} of the machine file opens {show_length(opening)} for a sheet of "
-                       f"{show_length(thick)}: usual are 6 to 12 times the thickness", opening, 8 * thick,
-                       f"die {die['name']}")
+            words = (f"die {die['name']} of the machine file opens {show_length(opening)} for a sheet of "
+                     f"{show_length(thick)}: usual are 6 to 12 times the thickness")
+            yield Slip("machine", "die", words, opening, 8 * thick, f"die {die['name']}")
         elif not 0.5 <= radius / made <= 2:
             yield Slip("part", "radius", f"radius {show_length(radius)}: die {die['name']} makes about "
                        f"{show_length(round(made, -2))} in air bending", radius, made)
@@ -143,8 +145,9 @@ def coarse_covers(machine: Data) -> Iterator[Slip]:
     """Covers that aren't halved: bends are refused that would pass."""
     if machine and machine.get("fine", 0) < LEAST_FINE:
         fine = machine.get("fine", 0)
-        yield Slip("machine", "fine", f"fine = {fine} in the machine file: with {LEAST_FINE} fewer bends are refused, and "
-                   "nothing else changes", fine, LEAST_FINE)
+        words = (f"fine = {fine} in the machine file: with {LEAST_FINE} fewer bends are refused, and nothing else "
+                 "changes")
+        yield Slip("machine", "fine", words, fine, LEAST_FINE)
 
 
 def gauge_upside_down(machine: Data) -> Iterator[Slip]:
@@ -179,5 +182,6 @@ def bare_edges(part: Data, blank: Blank | None) -> Iterator[Slip]:
         alone = not any(other is not face and other.get("on") == face["on"] and other.get("side") == face["side"]
                         for other in faces)
         if bare and alone:
-            yield Slip("part", "width", f"beside bend {number} the edge of {on['name']} is cut {show_length(q)} inside the "
-                       f"drawing, along {' and '.join(bare)}", face["width"], whole, f"face {number}", number)
+            words = (f"beside bend {number} the edge of {on['name']} is cut {show_length(q)} inside the drawing, "
+                     f"along {' and '.join(bare)}")
+            yield Slip("part", "width", words, face["width"], whole, f"face {number}", number)

@@ -43,7 +43,7 @@ def read_words(words: list[str]) -> argparse.Namespace:
     parser.add_argument("folder", nargs="?", default=".", help="the folder of part, tools and machine files")
     parser.add_argument("--port", type=int, default=0, help="a port of 127.0.0.1; without it a free one is taken")
     parser.add_argument("--no-browser", action="store_true", help="only print the page's address")
-    parser.add_argument("--unproved", metavar="PROGRAM", help="for who develops: another program in the proved one's place")
+    parser.add_argument("--unproved", metavar="PROGRAM", help="for who develops: another program than the proved one")
     given = parser.parse_args(words)
     if not 0 <= given.port < 65536:
         parser.error("--port: a number from 1 to 65535")
@@ -60,8 +60,8 @@ def open_browser(address: str, scratch: str) -> None:
                    f'<a href="{address}">brake desk</a>')
     opener = shutil.which("xdg-open")
     if opener:
-        subprocess.Popen([opener, page], stdin=subprocess.DEVNULL, stdout=subprocess.DEVNULL, stderr=subprocess.DEVNULL,
-                         start_new_session=True)
+        nothing = subprocess.DEVNULL
+        subprocess.Popen([opener, page], stdin=nothing, stdout=nothing, stderr=nothing, start_new_session=True)
 
 
 def stop(*_: Any) -> None:

@@ -49,7 +49,7 @@ class Folder:
         self.kinds: dict[tuple[str, int, int], str] = {}
 
     def sweep(self) -> None:
-        """Removes what a desk that was killed while it stored has left; an hour old, so that no other desk's is taken."""
+        """Removes what a killed desk has left beside the files; an hour old, so that no other desk's is taken."""
         for at, folders, files in os.walk(self.root):
             folders[:] = [name for name in folders if not name.startswith(".") or name == ".desk"]
             for file in files:
@@ -99,13 +99,14 @@ class Folder:
             return data.decode()
         except UnicodeDecodeError as fault:
             line = data[:fault.start].count(b"\n") + 1
-            raise Refused(409, f"{name} isn't UTF-8 in line {line}: save it as UTF-8 in the editor that wrote it") from None
+            words = f"{name} isn't UTF-8 in line {line}: save it as UTF-8 in the editor that wrote it"
+            raise Refused(409, words) from None
 
     def write(self, name: Any, data: bytes, tag: str | None, ends: tuple[str, ...] = TOML) -> str:
         """Stores a file whole or not at all, and only over the version whose tag is given; that one is kept.
 
-        `tag` is None where the file is to be new. Gives the new version's tag. Raises Refused, with the other version's
-        text and tag where it isn't the one that was given.
+        `tag` is None where the file is to be new. Gives the new version's tag. Raises Refused, with the other
+        version's text and tag where it isn't the one that was given.
         """
         path = self.path(name, ends)
         if ends == TOML and len(data) > MOST_FILE:
@@ -159,8 +160,14 @@ class Folder:
             return None
 
     def keep_draft(self, name: str, text: str) -> None:
-        """Keeps what is being edited, so that a killed desk loses none of it. Raises Refused."""
+        """Keeps what is being edited, so that a killed desk loses none of it; not where it is stored. Raises Refused."""
         path = Path(self.draft_path(name))
+        try:
+            if self.take(self.path(name), name, MOST_FILE + 1) == text.encode():
+                path.unlink(missing_ok=True)
+                return
+        except Refused:
+            pass  # a new file, or one that can't be read
         try:
             path.parent.mkdir(parents=True, exist_ok=True)
             store_whole(path, text.encode())

@@ -44,7 +44,8 @@ def texts_of(desk: Desk, given: dict[str, Any], kinds: tuple[str, ...] = FILES) 
 def words_of(desk: Desk, run: Run, words: list[str], place: str, given: dict[str, Any]) -> list[str]:
     """What the launcher says of a run, with the user's names of the files and in millimetres."""
     names = {f"{kind}.toml": str(given.get(kind) or f"{kind}.toml") for kind in FILES}
-    said = [] if run.status == 2 else say_in_words(desk.runs.program, words, run.status, run.printed.decode("utf-8", "replace"), place)
+    printed = run.printed.decode("utf-8", "replace")
+    said = [] if run.status == 2 else say_in_words(desk.runs.program, words, run.status, printed, place)
     late = run.said.decode("utf-8", "replace").splitlines()
     return [plain(line, names) for line in [*said, *late]]
 

@@ -59,8 +59,9 @@ class Runs:
     def call(self, words: list[str], folder: str, seconds: float = 20, job: Job | None = None,
              program: list[str] | None = None) -> Run:
         """Runs the proved program, or another, on these words in a folder; a job that is cancelled ends it."""
-        child = subprocess.Popen([*(program or [os.fspath(self.program)]), *words], cwd=folder, stdin=subprocess.DEVNULL,
-                                 stdout=subprocess.PIPE, stderr=subprocess.PIPE, start_new_session=True)
+        whole = [*(program or [os.fspath(self.program)]), *words]
+        child = subprocess.Popen(whole, cwd=folder, stdin=subprocess.DEVNULL, stdout=subprocess.PIPE,
+                                 stderr=subprocess.PIPE, start_new_session=True)
         if job is not None:
             job.child = child
             if job.state == "cancelled":

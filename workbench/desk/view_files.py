@@ -25,8 +25,8 @@ def job_lines(part: dict[str, Any]) -> list[str]:
     names = [face["name"] for face in faces]
     lines = [f"face {faces[0]['name']} {faces[0]['width']} {faces[0]['length']}"]
     for face in faces[1:]:
-        on = names.index(face["on"])
-        lines.append(f"face {face['name']} {on} {face['side']} {face['at']} {face['width']} {face['length']} {face['dir']}")
+        sizes = [face[key] for key in ("side", "at", "width", "length", "dir")]
+        lines.append(" ".join(str(word) for word in ("face", face["name"], names.index(face["on"]), *sizes)))
     return lines
 
 

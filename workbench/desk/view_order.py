@@ -36,7 +36,8 @@ def judged(desk: Desk, texts: dict[str, bytes], wanted: list[Wanted], work: Work
         raise Refused(409, str(fault)) from None
 
 
-def ask_order(desk: Desk, texts: dict[str, bytes], job: Job, wanted: list[Wanted], work: Work) -> dict[str, Any] | None:
+def ask_order(desk: Desk, texts: dict[str, bytes], job: Job, wanted: list[Wanted],
+              work: Work) -> dict[str, Any] | None:
     """By the command `order`; None where the program has none, or where a side or a stage is wanted by hand."""
     if any(want.back is not None or want.stage is not None for want in wanted):
         return None

@@ -55,7 +55,7 @@ def edited(desk: Desk, given: dict[str, Any]) -> dict[str, Any]:
         except FaultyEdit as fault:
             raise Refused(400, str(fault)) from None
     if name:
-        desk.folder.keep_draft(name, text)
+        desk.folder.keep_draft(name, text)  # of a text that is stored there is no draft
     answer: dict[str, Any] = {"text": text, "data": parsed(text), "slips": []}
     if given.get("tools"):
         answer["blank"] = blank_of(desk, text, name or "part.toml", given["tools"])
@@ -93,6 +93,7 @@ def dxf_of(desk: Desk, given: dict[str, Any]) -> str:
         put(place, "blank.txt", run.printed)
         made = desk.runs.call([], place, 60, None, bench_words("dxf", ["blank.txt", "blank.dxf"]))
         if made.status:
-            raise Refused(409, made.said.decode("utf-8", "replace").strip().removeprefix("brake: ") or "no DXF was made")
+            said = made.said.decode("utf-8", "replace").strip().removeprefix("brake: ")
+            raise Refused(409, said or "no DXF was made")
         with open(os.path.join(place, "blank.dxf"), encoding="utf-8", newline="") as file:
             return file.read()

@@ -20,7 +20,7 @@ export const edit = (ops, how = {}) => (line = line.then(() => editNow(ops, how)
 async function editNow(ops, how) {
   const old = part.text, whose = part.name;
   const body = { text: part.text, ops, tools: chosen("tools") || undefined, machine: chosen("machine") || undefined };
-  if (!isSaved() || ops.length) body.name = part.name;
+  if (!isSaved() || ops.length || how.isBack) body.name = part.name;
   let answer;
   try { answer = await post("edit", body); } catch (fault) { if (fault.answer) tell("refused", fault.message); return; }
   if (whose !== part.name) return;
@@ -43,7 +43,7 @@ export function step(from, to) {
   part.text = part[from].pop();
   part.merged = null;
   const { undo, redo } = part;
-  edit([]).then(() => { Object.assign(part, { undo, redo }); tell("part", {}); });
+  edit([], { isBack: true }).then(() => { Object.assign(part, { undo, redo }); tell("part", {}); });
 }
 
 export function take(file) {
@@ -75,7 +75,7 @@ export function setText(text) {
   part.undo.push(part.text);
   part.text = part.text.includes("\r\n") ? text.replaceAll("\n", "\r\n") : text;
   part.bad = {};
-  return edit([]);
+  return edit([], { isBack: true });
 }
 
 // Stores the part, and says whether it is stored.

@@ -20,8 +20,12 @@ EXPECTED = ("ERR_CONNECTION", "409", "400", "403")
 
 
 def chrome(folder: Path, has_webgl: bool = False) -> Any:
-    """A headless Chromium, which draws WebGL by software where that is wanted (it is slow); the test is skipped where it, its driver or selenium is missing."""
-    webdriver = pytest.importorskip("selenium.webdriver", reason="python3-selenium isn't installed: pages are left out")
+    """A headless Chromium, which draws WebGL by software where that is wanted (it is slow).
+
+    The test is skipped where Chromium, its driver or selenium is missing.
+    """
+    missing = "python3-selenium isn't installed: pages are left out"
+    webdriver = pytest.importorskip("selenium.webdriver", reason=missing)
     from selenium.webdriver.chrome.service import Service
     if not shutil.which("chromium") or not Path(DRIVER).exists():
         pytest.skip("chromium and chromium-driver aren't installed: pages are left out")
@@ -50,7 +54,7 @@ class Page:
         """Runs a script in the page."""
         return self.driver.execute_script(text, *given)
 
-    def until(self, is_so: Callable[[], Any], seconds: float = 30.0) -> Any:
+    def until(self, is_so: Callable[[], Any], seconds: float = 90.0) -> Any:
         """Waits until something holds; after so many seconds the test fails."""
         from selenium.common.exceptions import WebDriverException
         end = time.monotonic() + seconds
@@ -89,7 +93,8 @@ class Page:
 
     def part(self, name: str) -> None:
         """Chooses a part, by its file."""
-        self.js("const s=document.getElementById('f-part');s.value=arguments[0];s.dispatchEvent(new Event('change'))", name)
+        self.js("const s = document.getElementById('f-part'); s.value = arguments[0];"
+                "s.dispatchEvent(new Event('change'))", name)
         self.until(lambda: self.js("return document.querySelector('main').ariaBusy") == "false")
         self.until(lambda: self.js("return location.hash").endswith(name))
 
@@ -101,7 +106,8 @@ class Page:
     def press_text(self, within: str, words: str) -> None:
         """Presses the button that has these words."""
         def button() -> Any:
-            return next((one for one in self.all(f"{within} button") if words in one.get_attribute("textContent")), None)
+            found = self.all(f"{within} button")
+            return next((one for one in found if words in one.get_attribute("textContent")), None)
         self.js("arguments[0].click()", self.until(button))
 
     def put(self, path: str, value: str) -> None:

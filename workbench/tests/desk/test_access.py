@@ -69,7 +69,8 @@ def test_fetch_of_another_site(desk: Desk, site: str) -> None:
 
 
 def test_no_answer_for_other_pages(desk: Desk) -> None:
-    _, _, response = desk.ask("OPTIONS", "/api/file", Origin="http://evil.example", Access_Control_Request_Method="PUT")
+    _, _, response = desk.ask("OPTIONS", "/api/file", Origin="http://evil.example",
+                              Access_Control_Request_Method="PUT")
     assert not [key for key, _ in response.getheaders() if key.lower().startswith("access-control")]
 
 

@@ -74,8 +74,8 @@ def test_refusals_at_their_fields(desk: Desk, shop: Path, path: list[Any], value
 
 
 @pytest.mark.parametrize("ops", [
-    [{"op": "set", "path": ["face", 9, "length"], "value": 1}], [{"op": "burn"}], [{"op": "remove", "table": "x", "at": 0}],
-    [{}], [7], [{"op": "set", "path": [], "value": 1}]])
+    [{"op": "set", "path": ["face", 9, "length"], "value": 1}], [{"op": "burn"}],
+    [{"op": "remove", "table": "x", "at": 0}], [{}], [7], [{"op": "set", "path": [], "value": 1}]])
 def test_edits_of_what_is_not_there(desk: Desk, shop: Path, ops: Any) -> None:
     assert desk.ask("POST", "/api/edit", {"text": (shop / PART).read_text(), "ops": ops})[0] == 400
 
@@ -175,6 +175,14 @@ def test_drafts_outlive_a_killed_desk(tmp_path: Path) -> None:
         assert desk.file("lid/part.toml")["draft"] is None
     finally:
         desk.end()
+
+
+def test_what_is_taken_back_leaves_no_draft(desk: Desk, shop: Path) -> None:
+    text = (shop / PART).read_text()
+    edit(desk, text, LENGTH, name=PART)
+    assert desk.file(PART)["draft"] is not None
+    edit(desk, text, [], name=PART)
+    assert desk.file(PART)["draft"] is None
 
 
 def test_killed_while_storing(tmp_path: Path) -> None:

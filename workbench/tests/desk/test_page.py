@@ -44,10 +44,9 @@ def open_part(page: Page, name: str) -> None:
 
 def undo_all(page: Page) -> None:
     """Takes back all edits of the part."""
-    while page.find("#p-undo").is_enabled():
-        page.press("#p-undo")
-        page.until(lambda: True)
-    page.until(lambda: page.text("#p-state") == "saved")
+    page.until(lambda: page.js(
+        "const undo = document.getElementById('p-undo'), state = document.getElementById('p-state');"
+        "if (state.textContent === 'saved') return true; if (!undo.disabled) undo.click(); return false;"))
 
 
 def test_the_token_leaves_the_address(page: Page, desk: Desk) -> None:
@@ -108,7 +107,7 @@ def test_a_refusal_stands_at_its_field(page: Page) -> None:
     assert "bad" in page.find('[data-path="face.1.at"]').get_attribute("class")
     assert page.text("#b-size") == "as it was, before the refusal"
     undo_all(page)
-    assert not page.all("tr.why")
+    page.until(lambda: not page.all("tr.why"))
 
 
 def test_four_decimals_are_told(page: Page) -> None:
@@ -135,8 +134,10 @@ def test_an_edge_puts_a_flange_and_room_is_made(page: Page) -> None:
 def test_three_edits_at_once_are_all_kept(page: Page) -> None:
     open_part(page, "bracket")
     page.js("for (const [p, v] of [['face.0.width', '90'], ['face.0.length', '61'], ['face.2.length', '18']]) {"
-            " const e = document.querySelector(`[data-path='${p}']`); e.value = v; e.dispatchEvent(new Event('change')); }")
-    page.until(lambda: all(text in page.value("#p-text") for text in ("width = 90000", "length = 61000", "length = 18000")))
+            " const e = document.querySelector(`[data-path='${p}']`); e.value = v;"
+            " e.dispatchEvent(new Event('change')); }")
+    wanted = ("width = 90000", "length = 61000", "length = 18000")
+    page.until(lambda: all(text in page.value("#p-text") for text in wanted))
     undo_all(page)
 
 
@@ -242,11 +243,13 @@ def test_machine_fields(page: Page, shop: Path) -> None:
     page.view("machine")
     page.part("door_panel/part.toml")
     page.until(lambda: "door_panel" in page.text("#machine h2"))
-    page.js("const e = document.querySelector('[data-key=far]'); e.value = '650'; e.dispatchEvent(new Event('change'))")
+    type_far = ("const e = document.querySelector('[data-key=far]'); e.value = arguments[0];"
+                "e.dispatchEvent(new Event('change'))")
+    page.js(type_far, "650")
     page.until(lambda: "far = 650000" in path.read_text())
     differ = [one for one, other in zip(before.split("\n"), path.read_text().split("\n")) if one != other]
     assert len(differ) == 1
-    page.js("const e = document.querySelector('[data-key=far]'); e.value = 'much'; e.dispatchEvent(new Event('change'))")
+    page.js(type_far, "much")
     page.until(lambda: "bad" in page.find("[data-key=far]").get_attribute("class"))
     page.press_text("#machine", "Add a station")
     page.until(lambda: path.read_text().count("[[stage]]") == before.count("[[stage]]") + 1)
