@@ -17,11 +17,14 @@ what_it_does() {
   esac
 }
 
+# Whether the command sheet is there, which has a program of its own.
+is_sheet=yes
+
 # The commands that are built, one a line.
 built_commands() {
   local name
   for name in $(commands_of_usage); do is_built "$name" && printf '%s\n' "$name"; done
-  printf 'sheet\n'
+  [ -z "$is_sheet" ] || printf 'sheet\n'
   bench_commands
 }
 

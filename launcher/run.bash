@@ -11,7 +11,7 @@
 #   built_drawer    puts the path of brake_draw, or fails where it isn't built
 #   usage           the usage text, which has the lines of all commands, also of those that aren't built yet
 
-program=${program-} usage=${usage-} scratch='' why_lines='' renamed=()
+program=${program-} usage=${usage-} scratch='' why_lines='' renamed=() stood=''
 # The command `sheet` has a program of its own, which answers to the words behind it.
 # shellcheck disable=SC2034
 sheet_usage='usage: brake sheet CERT OUT'
@@ -174,6 +174,29 @@ interrupted() {
 # this changes nothing.
 use_large_pages() { export GLIBC_TUNABLES="${GLIBC_TUNABLES:+$GLIBC_TUNABLES:}glibc.malloc.hugetlb=1"; }
 
+# Says which certificates of an earlier list of setups stand beside those of this run.
+tell_older() {
+  local end count
+  [ "${words[0]}" = setups ] && ((status <= 1)) || return
+  count=$(count_tables "${words[4]}" setup)
+  for end in "${ends[@]}"; do
+    [ -e "${words[5]}$end" ] || continue
+    [[ " ${renamed[*]} " != *" ${words[5]}$end "* ]] || continue
+    if ((${end#.} >= count)); then
+      say "${words[5]}$end is of an earlier list: this one has $count setups"
+    elif [ -n "$beside" ]; then
+      say "${words[5]}$end is of an earlier run: this one has no certificate for setup ${end#.}"
+    fi
+  done
+}
+
+# The checksum of what is written in place: under a link, or a file with several names.
+sum_in_place() {
+  local target
+  target=$(stored_word)
+  [ -z "$beside" ] && [ -n "$target" ] && [ -f "$target" ] && cksum <"$target"
+}
+
 # Runs `why` and says each line that it prints in a sentence too.
 launch_why() {
   local out
@@ -198,6 +221,7 @@ run_command() {
   trap 'interrupted 143' TERM
   trap 'interrupted 129' HUP
   [ "$1" != merge ] || use_large_pages
+  stood=$(sum_in_place)
   if [ -n "$is_in_words" ]; then launch_why; else launch "${words[@]}"; fi
   case "$status" in
     0 | 1) rename_stored ;;
@@ -242,6 +266,7 @@ tell_status() {
     6) tell_fault ;;
     7) say "memory ran out" ;;
     130 | 143 | 129) ;;
+    139) say "the stack was too small (ulimit -s)" ;;
     *) ((status > 128)) && say "the program was ended by signal $((status - 128))" ;;
   esac
 }
@@ -270,7 +295,11 @@ tell_fault() {
     say "cannot store $target: there is no folder $folder"
   elif [ -n "$beside" ]; then
     say "$target could not be stored, or the output could not be written: $target is as it was before"
-  else
+  elif [ -z "$stood" ]; then
     say "$target could not be stored, or the output could not be written"
+  elif [ "$stood" = "$(sum_in_place)" ]; then
+    say "$target could not be stored, or the output could not be written: $target is as it was before"
+  else
+    say "$target could not be stored: it is a link or has several names, so it is written in place, and what it held is gone"
   fi
 }
