@@ -10,6 +10,8 @@ _brake() {
     mapfile -t COMPREPLY < <(compgen -W '--budget' -- "$word")
   elif [[ ${COMP_WORDS[1]} == settle && ($COMP_CWORD == 6 || $COMP_CWORD == 7) ]]; then
     return
+  elif [[ ${COMP_WORDS[1]} == propose && $word == -* ]]; then
+    mapfile -t COMPREPLY < <(compgen -W '--keep --tries --budget --punches --dies --quiet --all' -- "$word")
   else
     mapfile -t COMPREPLY < <(compgen -f -- "$word")
     compopt -o filenames 2>/dev/null

@@ -133,8 +133,9 @@ def _shelf(rng: random.Random, t: int) -> Faces:
 
 def _bracket(rng: random.Random, t: int) -> Faces:
     faces = Faces(_mm(rng, 30, 250), _mm(rng, 30, 200))
-    faces.add("back", "base", "N", _flange(rng, t, 120))
-    for side in rng.choice(("", "E", "EW")):
+    back, cheeks = _flange(rng, t, 120), rng.choice(("", "E", "EW"))
+    faces.add("back", "base", "N", back, "up", 2 * t + 500 if cheeks else 0)
+    for side in cheeks:
         faces.add(f"cheek{side}", "base", side, _flange(rng, t, 60), rng.choice(("up", "down")), 2 * t + 500)
     if rng.random() < 0.6:
         faces.add("lip", "back", "N", _flange(rng, t, 30), rng.choice(("up", "down")))
