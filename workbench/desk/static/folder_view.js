@@ -1,11 +1,11 @@
 // The Folder view: each part, and whether it is planned as it stands.
-import { get, run } from "./api.js";
-import { $, busy, button, el, tell } from "./dom.js";
-import { partners } from "./files.js";
+import { get, post, run } from "./api.js";
+import { $, ask, busy, button, el, note, tell } from "./dom.js";
+import { listFolder, partners } from "./files.js";
 import { mm, seconds } from "./mm.js";
 
 const HEADS = ["part", "material", "thickness", "bends", "plan"];
-const view = { rows: [], find: null, body: null, state: null, all: null };
+const view = { rows: [], find: null, body: null, state: null, all: null, hasStep: false };
 
 function stateOf(row) {
   if (row.wrong) return row.wrong;
@@ -48,6 +48,26 @@ async function planAll() {
   view.all.disabled = false;
 }
 
+// A part of a folded body that a CAD program has stored as STEP.
+function stepButton() {
+  const pick = el("input", { type: "file", accept: ".step,.stp", hidden: true, ariaLabel: "a STEP file" });
+  pick.onchange = () => { if (pick.files[0]) takeStep(pick.files[0]); };
+  return [pick, button("From STEP", () => pick.click(), { disabled: !view.hasStep,
+    title: view.hasStep ? "a part of a folded body" : "this brake has no command import yet" })];
+}
+
+async function takeStep(file) {
+  const wanted = await ask("Part of a STEP body", "Name of its file, in the folder", file.name.replace(/\.\w+$/, "") + ".toml");
+  if (!wanted) return;
+  try {
+    await post("import", { name: wanted, step: await file.text() });
+    await listFolder();
+    tell("open", wanted);
+  } catch (fault) { note(fault.message, true); }
+}
+
+export const startFolder = offers => { view.hasStep = offers.import; };
+
 async function show() {
   view.rows = (await get("parts")).parts;
   const old = view.find?.value || "";
@@ -56,7 +76,7 @@ async function show() {
   view.all = button("Plan all that aren't", planAll);
   view.body = el("tbody");
   const bar = el("div", { className: "bar" }, el("h2", { textContent: "Parts" }), view.find, el("span", { className: "gap" }),
-    view.state, view.all, button("New part", () => tell("new part")));
+    view.state, view.all, ...stepButton(), button("New part", () => tell("new part")));
   const head = el("thead", {}, el("tr", {}, ...HEADS.map(text => el("th", { textContent: text, scope: "col" }))));
   const empty = "There is no part file in this folder yet. A part file is a .toml with [[face]] tables; New part makes one.";
   $("folder").replaceChildren(bar, view.rows.length ? el("table", { className: "parts" }, head, view.body)

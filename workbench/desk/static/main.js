@@ -2,7 +2,7 @@
 import { get, takeToken } from "./api.js";
 import { $, note, on } from "./dom.js";
 import { chosen, choosePartners, folder, listFolder } from "./files.js";
-import { folderView } from "./folder_view.js";
+import { folderView, startFolder } from "./folder_view.js";
 import { loadMachine, machineView } from "./machine_view.js";
 import { orderView, startOrder } from "./order_view.js";
 import { changedOutside, edit, isSaved, openPart, part, step, store } from "./part.js";
@@ -114,6 +114,7 @@ async function start() {
   wireFiles();
   wireKeys();
   const offers = await get("offers");
+  startFolder(offers);
   startPart(offers);
   startPlan(offers);
   startOrder();

@@ -37,14 +37,26 @@ function remember(old, merge) {
   part.redo = [];
 }
 
-export function step(from, to) {
+export const step = (from, to) => (line = line.then(() => stepNow(from, to)));
+
+async function stepNow(from, to) {
   if (!part[from].length) return;
   part[to].push(part.text);
   part.text = part[from].pop();
   part.merged = null;
+  part.bad = {};
   const { undo, redo } = part;
-  edit([], { isBack: true }).then(() => { Object.assign(part, { undo, redo }); tell("part", {}); });
+  await editNow([], { isBack: true });
+  Object.assign(part, { undo, redo });
+  tell("part", {});
 }
+
+// Another text in place of the present one, which the way back has then.
+const replaceText = text => (line = line.then(() => {
+  part.undo.push(part.text);
+  Object.assign(part, { text, redo: [], merged: null, bad: {} });
+  return editNow([], { isBack: true });
+}));
 
 export function take(file) {
   Object.assign(part, NOTHING, { name: file.name, text: file.text, saved: file.text, tag: file.tag, data: file.data });
@@ -66,17 +78,13 @@ export async function openPart(name) {
 }
 
 function offerDraft(name, draft) {
-  const goOn = () => { part.undo.push(part.text); part.text = draft; note(); edit([]); };
+  const goOn = () => { note(); replaceText(draft); };
   const drop = () => dropDraft(name).then(() => note());
   note(`There are edits of ${name} that were never saved.`, false, button("Go on with them", goOn), button("Drop them", drop));
 }
 
-export function setText(text) {
-  part.undo.push(part.text);
-  part.text = part.text.includes("\r\n") ? text.replaceAll("\n", "\r\n") : text;
-  part.bad = {};
-  return edit([], { isBack: true });
-}
+// A text that was typed; a text area has no \r, which the file may have.
+export const setText = text => replaceText(part.text.includes("\r\n") ? text.replaceAll("\n", "\r\n") : text);
 
 // Stores the part, and says whether it is stored.
 export async function store() {

@@ -109,23 +109,52 @@ function proposeCard(title) {
 
 async function propose(list, state) {
   state.replaceChildren(busy());
-  const ended = await run("propose", plan.job, (now, id) => { running = id; }).catch(fault => ({ answer: { error: fault.message } }));
+  const follow = (now, id) => { running = id; };
+  const ended = await run("propose", plan.job || job(), follow).catch(fault => ({ answer: { error: fault.message } }));
   const answer = ended.answer || { error: "cancelled" };
   state.textContent = "";
-  if (answer.error || ![0, 1].includes(answer.status)) { say(list, [answer.error || answer.words?.at(-1) || "no proposal"]); return; }
+  if (answer.error || answer.status) {
+    say(list, answer.error ? [answer.error] : [...answer.words, ...(answer.lines || [])].filter(line => line));
+    return;
+  }
   list.replaceChildren(...proposalRows(answer));
 }
 
 // The lines of `setups`: one for each setup of the list, then the cheapest one's plan.
 function proposalRows(answer) {
-  const rows = answer.out.split("\n").filter(line => /^setup \d+ /.test(line)).map(line => {
-    const words = line.split(" ");
-    return { number: +words[1], name: words[2], cost: /^\d+$/.test(words.at(-1)) ? +words.at(-1) : null, line };
+  const best = +/\nbest (\d+)/.exec(answer.out)[1];
+  const rows = answer.out.split("\n").filter(line => line.startsWith("try ")).map(line => {
+    const [, number, name, cost] = line.split(" ");
+    return { number: +number, name, cost: /^\d+$/.test(cost) ? +cost : null, words: line.split(" ").slice(3).join(" ") };
   });
-  rows.sort((one, other) => (one.cost ?? Infinity) - (other.cost ?? Infinity));
+  const first = row => [row.number === best ? 0 : 1, row.cost ?? Infinity];
+  rows.sort((one, other) => first(one)[0] - first(other)[0] || first(one)[1] - first(other)[1]);
   return rows.map(row => el("div", { className: "try " + (row.cost === null ? "no" : "yes") },
-    el("b", { textContent: row.name }), el("span", { textContent: row.cost === null ? "no plan" : seconds(row.cost) }),
-    el("small", { textContent: row.line })));
+    el("b", { textContent: row.name }), el("span", { textContent: row.cost === null ? row.words : seconds(row.cost) }),
+    ...(row.number === best ? [el("small", { textContent: "the cheapest of these, with a certificate" }),
+      button("Take it", () => takeStations(answer, row.name))] : [])));
+}
+
+// The stations are this part's, so they go to a machine file of its own; a rack with punches turned round likewise.
+async function takeStations(answer, name) {
+  const files = [["f-machine", "machine", answer.take], ["f-tools", "tools", answer.tools]].filter(([, , text]) => text);
+  const stored = [];
+  try {
+    for (const [list, kind, text] of files) {
+      const own = chosen(kind).replace(/[^/]*$/, "") + `${base()}_${kind}.toml`;
+      const old = folder.files.some(file => file.name === own) ? (await readFile(own)).tag : null;
+      await storeFile(own, text, old);
+      mine(own);
+      stored.push([list, own]);
+    }
+  } catch (fault) { note(fault.message, true); return; }
+  await listFolder();
+  for (const [list, own] of stored) {
+    $(list).value = own;
+    $(list).dispatchEvent(new Event("change"));
+  }
+  told(`${name}: written to ${stored.map(([, own]) => own).join(" and ")}; the shared files stay as they are.`);
+  await goPlan();
 }
 
 // ---- the sheet
@@ -186,18 +215,6 @@ export function forgetPlan() {
   $("r-result").replaceChildren();
   $("r-state").textContent = "";
   emptySheet("The drawn setup sheet comes here.");
-}
-
-// Takes stations as a machine file of the part's own; the shared one stays as it is.
-export async function takeMachine(text, words) {
-  const own = chosen("machine").replace(/[^/]*$/, "") + base() + "_machine.toml";
-  const old = folder.files.some(file => file.name === own) ? (await readFile(own)).tag : null;
-  try { await storeFile(own, text, old); } catch (fault) { note(fault.message, true); return; }
-  mine(own);
-  await listFolder();
-  told(`${words}: written to ${own}; ${chosen("machine")} stays as it is.`);
-  $("f-machine").value = own;
-  await goPlan();
 }
 
 export function startPlan(offered) {
