@@ -89,16 +89,17 @@ export const setText = text => replaceText(part.text.includes("\r\n") ? text.rep
 // Stores the part, and says whether it is stored.
 export async function store() {
   await line;
-  try {
-    part.tag = (await storeFile(part.name, part.text, part.tag)).tag;
-  } catch (fault) {
-    if (fault.status === 409) askWhose({ ...fault.answer, name: part.name, data: {} });
+  const { name, text, tag } = part;
+  let stored;
+  try { stored = await storeFile(name, text, tag); } catch (fault) {
+    if (fault.status === 409) askWhose({ ...fault.answer, name, data: {} });
     else if (fault.answer) note(fault.message, true);
     return false;
   }
-  part.saved = part.text;
-  mine(part.name);
+  mine(name);
   note();
+  if (name !== part.name) return true;
+  Object.assign(part, { tag: stored.tag, saved: text });
   tell("part", {});
   return true;
 }
