@@ -18,9 +18,9 @@ const kindOf = row => (row.claim === undefined || !row.current ? "" : row.claim 
 function rowOf(row) {
   const open = button(row.name, () => tell("open", row.name), { className: "link" });
   const thick = row.thickness === undefined ? "" : mm(row.thickness);
-  return el("tr", { className: `row ${kindOf(row)}` },
-    el("td", {}, open), el("td", { textContent: row.material ?? "" }), el("td", { className: "n", textContent: thick }),
-    el("td", { className: "n", textContent: row.bends ?? "" }), el("td", { className: "how", textContent: stateOf(row) }));
+  const cell = (className, textContent) => el("td", { className, textContent });
+  return el("tr", { className: `row ${kindOf(row)}` }, el("td", {}, open), cell("", row.material ?? ""),
+    cell("n", thick), cell("n", row.bends ?? ""), cell("how", stateOf(row)));
 }
 
 function draw() {
@@ -57,7 +57,8 @@ function stepButton() {
 }
 
 async function takeStep(file) {
-  const wanted = await ask("Part of a STEP body", "Name of its file, in the folder", file.name.replace(/\.\w+$/, "") + ".toml");
+  const name = file.name.replace(/\.\w+$/, "") + ".toml";
+  const wanted = await ask("Part of a STEP body", "Name of its file, in the folder", name);
   if (!wanted) return;
   try {
     await post("import", { name: wanted, step: await file.text() });
@@ -71,14 +72,17 @@ export const startFolder = offers => { view.hasStep = offers.import; };
 async function show() {
   view.rows = (await get("parts")).parts;
   const old = view.find?.value || "";
-  view.find = el("input", { type: "search", placeholder: "find a part", ariaLabel: "find a part", value: old, oninput: draw });
+  const words = "find a part";
+  view.find = el("input", { type: "search", placeholder: words, ariaLabel: words, value: old, oninput: draw });
   view.state = el("span", { className: "state", role: "status" });
   view.all = button("Plan all that aren't", planAll);
   view.body = el("tbody");
-  const bar = el("div", { className: "bar" }, el("h2", { textContent: "Parts" }), view.find, el("span", { className: "gap" }),
-    view.state, view.all, ...stepButton(), button("New part", () => tell("new part")));
+  const bar = el("div", { className: "bar" }, el("h2", { textContent: "Parts" }), view.find,
+    el("span", { className: "gap" }), view.state, view.all, ...stepButton(),
+    button("New part", () => tell("new part")));
   const head = el("thead", {}, el("tr", {}, ...HEADS.map(text => el("th", { textContent: text, scope: "col" }))));
-  const empty = "There is no part file in this folder yet. A part file is a .toml with [[face]] tables; New part makes one.";
+  const empty = "There is no part file in this folder yet. A part file is a .toml with [[face]] tables; New part "
+    + "makes one.";
   $("folder").replaceChildren(bar, view.rows.length ? el("table", { className: "parts" }, head, view.body)
     : el("p", { className: "hint", textContent: empty }));
   draw();

@@ -10,7 +10,9 @@ import { newPart, partView, startPart } from "./part_view.js";
 import { forgetPlan, planView, startPlan } from "./plan_view.js";
 import { loadTools, rackView } from "./rack_view.js";
 
-const VIEWS = { folder: folderView, part: partView, plan: planView, order: orderView, rack: rackView, machine: machineView };
+const VIEWS = {
+  folder: folderView, part: partView, plan: planView, order: orderView, rack: rackView, machine: machineView,
+};
 const EVERY = 1500;
 let shown = null;
 
@@ -40,7 +42,10 @@ function readAddress() {
 
 async function follow() {
   const { view, name } = readAddress();
-  if (name && name !== part.name && folder.files.some(file => file.name === name)) { $("f-part").value = name; await choosePart(); }
+  if (name && name !== part.name && folder.files.some(file => file.name === name)) {
+    $("f-part").value = name;
+    await choosePart();
+  }
   await go(view);
 }
 
@@ -58,8 +63,12 @@ async function choosePart() {
 
 async function changed(name) {
   if (name === part.name) { await changedOutside(); return; }
-  if (name === chosen("tools")) { await loadTools(); if (part.name) edit([]); if (shown === "rack") rackView.show(); }
-  if (name === chosen("machine")) { await loadMachine(); if (part.name) edit([]); if (shown === "machine") machineView.show(); }
+  const isTools = name === chosen("tools"), isMachine = name === chosen("machine");
+  if (isTools) await loadTools();
+  if (isMachine) await loadMachine();
+  if ((isTools || isMachine) && part.name) edit([]);
+  if (isTools && shown === "rack") rackView.show();
+  if (isMachine && shown === "machine") machineView.show();
   if (shown === "folder" && !document.activeElement?.closest("#folder input")) folderView.show();
 }
 
@@ -70,7 +79,12 @@ function wireFiles() {
   on("changed", changed);
   on("machine", () => { if (part.name) edit([]); });
   on("open", async name => { $("f-part").value = name; await choosePart(); await go("part"); });
-  on("new part", async () => { if (await newPart()) { forgetPlan(); choosePartners(chosen("part")); await go("part"); } });
+  on("new part", async () => {
+    if (!await newPart()) return;
+    forgetPlan();
+    choosePartners(chosen("part"));
+    await go("part");
+  });
   on("go", go);
 }
 

@@ -22,7 +22,10 @@ async function editNow(ops, how) {
   const body = { text: part.text, ops, tools: chosen("tools") || undefined, machine: chosen("machine") || undefined };
   if (!isSaved() || ops.length || how.isBack) body.name = part.name;
   let answer;
-  try { answer = await post("edit", body); } catch (fault) { if (fault.answer) tell("refused", fault.message); return; }
+  try { answer = await post("edit", body); } catch (fault) {
+    if (fault.answer) tell("refused", fault.message);
+    return;
+  }
   if (whose !== part.name) return;
   if (answer.text !== old) remember(old, how.merge);
   Object.assign(part, { text: answer.text, data: answer.data, answer: answer.blank, slips: answer.slips || [] });
@@ -80,7 +83,8 @@ export async function openPart(name) {
 function offerDraft(name, draft) {
   const goOn = () => { note(); replaceText(draft); };
   const drop = () => dropDraft(name).then(() => note());
-  note(`There are edits of ${name} that were never saved.`, false, button("Go on with them", goOn), button("Drop them", drop));
+  note(`There are edits of ${name} that were never saved.`, false, button("Go on with them", goOn),
+    button("Drop them", drop));
 }
 
 // A text that was typed; a text area has no \r, which the file may have.

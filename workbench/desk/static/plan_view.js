@@ -71,27 +71,32 @@ function showRefusal(answer) {
 }
 
 function planCards(answer) {
-  const all = names(), facts = [["blank", $("b-size").textContent || sizeOf(answer.out)], ["certificate", answer.cert || ""]];
+  const all = names(), facts = [["blank", sizeOf(answer.out)], ["certificate", answer.cert || ""]];
   const strokes = plan.steps.map(step => {
     const mates = step.with.length ? ` with ${step.with.join(", ")}` : "";
-    const ball = el("span", { className: "num" + (faces()[step.bend]?.dir === "down" ? " down" : ""), textContent: step.bend });
+    const kind = "num" + (faces()[step.bend]?.dir === "down" ? " down" : "");
+    const ball = el("span", { className: kind, textContent: step.bend });
     const where = [TURNS[step.turn], `gauge ${mm(step.gauge)}`,
       `${step.back === "child" ? all[step.bend] : "the rest"} at the back`, `station ${step.stage}`];
-    return el("li", {}, ball, el("b", { textContent: all[step.bend] + mates }), el("span", { textContent: seconds(step.cost) }),
-      el("small", { textContent: where.join(", ") }));
+    return el("li", {}, ball, el("b", { textContent: all[step.bend] + mates }),
+      el("span", { textContent: seconds(step.cost) }), el("small", { textContent: where.join(", ") }));
   });
+  const pairOf = ([key, value]) => [el("dt", { textContent: key }), el("dd", { textContent: value })];
   return [el("div", { className: "card" }, el("div", { className: "big", textContent: seconds(leastOf(answer)) }),
     el("div", { textContent: `${plan.steps.length} strokes; no other order costs less` }),
-    el("dl", { className: "facts" }, ...facts.flatMap(([key, value]) => [el("dt", { textContent: key }), el("dd", { textContent: value })])),
+    el("dl", { className: "facts" }, ...facts.flatMap(pairOf)),
     el("ol", { className: "strokes" }, ...strokes)), proposeCard("Cheaper stations?")];
 }
 
 const sizeOf = printed => printed.split("\n")[1].split(" ").slice(1).map(mm).join(" × ") + " mm";
 
 function noPlanCards(answer) {
-  const why = answer.words.slice(-1).map(text => el("p", { className: "tip", textContent: text.replace(/; '?brake .*$/, "") }));
+  const tipOf = text => el("p", { className: "tip", textContent: text.replace(/; '?brake .*$/, "") });
+  const why = answer.words.slice(-1).map(tipOf);
+  const words = "With these stations no order of bends is possible; this is proved. The sheet shows in red what is in "
+    + "the way.";
   return [el("div", { className: "card" }, el("div", { className: "big", textContent: "No plan" }),
-    el("div", { textContent: "With these stations no order of bends is possible; this is proved. The sheet shows in red what is in the way." }),
+    el("div", { textContent: words }),
     el("div", { className: "bar" }, button("Try my own order", () => tell("go", "order")))),
   el("div", { className: "words" }, ...why), proposeCard("Other stations")];
 }
@@ -125,7 +130,8 @@ function proposalRows(answer) {
   const best = +/\nbest (\d+)/.exec(answer.out)[1];
   const rows = answer.out.split("\n").filter(line => line.startsWith("try ")).map(line => {
     const [, number, name, cost] = line.split(" ");
-    return { number: +number, name, cost: /^\d+$/.test(cost) ? +cost : null, words: line.split(" ").slice(3).join(" ") };
+    const words = line.split(" ").slice(3).join(" ");
+    return { number: +number, name, cost: /^\d+$/.test(cost) ? +cost : null, words };
   });
   const first = row => [row.number === best ? 0 : 1, row.cost ?? Infinity];
   rows.sort((one, other) => first(one)[0] - first(other)[0] || first(one)[1] - first(other)[1]);
@@ -137,7 +143,8 @@ function proposalRows(answer) {
 
 // The stations are this part's, so they go to a machine file of its own; a rack with punches turned round likewise.
 async function takeStations(answer, name) {
-  const files = [["f-machine", "machine", answer.take], ["f-tools", "tools", answer.tools]].filter(([, , text]) => text);
+  const files = [["f-machine", "machine", answer.take], ["f-tools", "tools", answer.tools]]
+    .filter(([, , text]) => text);
   const stored = [];
   try {
     for (const [list, kind, text] of files) {
@@ -178,8 +185,8 @@ async function showSheet(answer) {
 // The first heading of the sheet that has red pictures.
 function showRed(page) {
   const heads = [...page.querySelectorAll("h2")];
-  const red = heads.find(head => head.textContent.startsWith("As far as")) || heads.find(head => head.textContent.startsWith("No order"));
-  red?.scrollIntoView();
+  const find = words => heads.find(head => head.textContent.startsWith(words));
+  (find("As far as") || find("No order"))?.scrollIntoView();
 }
 
 async function ownSheet(answer) {
@@ -187,7 +194,8 @@ async function ownSheet(answer) {
   const state = await run("motion", plan.job), made = state.answer;
   if (!made || made.error) return "<p>No sheet could be drawn.";
   return strokesSheet({
-    title: part.name, mark: `The plan of least cost. ${NO_DRAWER}`, strokes: made.strokes, names: made.names, total: leastOf(answer),
+    title: part.name, mark: `The plan of least cost. ${NO_DRAWER}`, strokes: made.strokes, names: made.names,
+    total: leastOf(answer),
   });
 }
 
@@ -203,7 +211,8 @@ function showPage(which) {
 // ---- old plans
 
 export function markOld() {
-  const isOld = !!plan.answer && (part.text !== plan.of || JSON.stringify(plan.job) !== JSON.stringify(job()) || plan.isOld);
+  const isOther = JSON.stringify(plan.job) !== JSON.stringify(job());
+  const isOld = !!plan.answer && (part.text !== plan.of || isOther || plan.isOld);
   $("r-old").hidden = !isOld;
   $("page-plan").classList.toggle("old", isOld);
   $("r-go").textContent = isSaved() ? "Plan" : "Save and plan";
@@ -228,7 +237,11 @@ export function startPlan(offered) {
   $("r-dxf").hidden = !offers.dxf;
   $("r-bar").onclick = event => event.target.dataset.view && showPage(event.target.dataset.view);
   on("part", markOld);
-  on("changed", name => { if (plan.job && Object.values(plan.job).includes(name)) { plan.isOld = name !== part.name; markOld(); } });
+  on("changed", name => {
+    if (!plan.job || !Object.values(plan.job).includes(name) || name === part.name) return;
+    plan.isOld = true;
+    markOld();
+  });
   startStrokes();
   forgetPlan();
 }
