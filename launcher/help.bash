@@ -7,7 +7,7 @@ what_it_does() {
     plan) printf 'prints the blank, the setup and the bend order of least cost, or that there is none, and stores a certificate' ;;
     check) printf "confirms or refuses a certificate; with the files also that it is of their job" ;;
     trial) printf 'plans and checks the generated job of a number' ;;
-    why) printf 'prints the reasons for refusing a bend that hold in many states' ;;
+    why) printf 'prints the reasons for refusing a bend that hold in many states; with --words behind them each in a sentence too' ;;
     setups) printf 'finds the cheapest setup of a list' ;;
     settle) printf 'settles the states of a range of sets of bends, over the table BASE if one is given, and stores them as a table' ;;
     merge) printf 'joins two tables of one job into one, which is the same in either order' ;;
@@ -72,6 +72,7 @@ print_launcher_help() {
   printf '  %s\n      %s\n' \
     'brake --build' 'proves and builds the program' \
     'brake --build sheet' 'proves and builds the program of the command sheet' \
+    'brake --test [PART..]' 'tries what can be tried without a proof, some minutes; the last line is N passed, M failed' \
     'brake --install DIR' 'copies the proved program to DIR/bin, DIR/lib and DIR/share; it needs no kit there' \
     'brake --path' 'prints where the program is that would be started' \
     'brake --version' 'prints its commit and day, the logic of its proof and its checksum' \

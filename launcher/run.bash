@@ -11,7 +11,7 @@
 #   built_drawer    puts the path of brake_draw, or fails where it isn't built
 #   usage           the usage text, which has the lines of all commands, also of those that aren't built yet
 
-program=${program-} usage=${usage-} scratch=
+program=${program-} usage=${usage-} scratch='' why_lines='' renamed=()
 # The command `sheet` has a program of its own, which answers to the words behind it.
 # shellcheck disable=SC2034
 sheet_usage='usage: brake sheet CERT OUT'
@@ -136,13 +136,16 @@ store_beside() {
 drop_stored() {
   local end
   [ -n "$scratch" ] && rm -f -- "$scratch"
+  [ -n "$why_lines" ] && rm -f -- "$why_lines"
   [ -n "$beside" ] || return
   for end in "${ends[@]}"; do rm -f -- "$beside$end" "$beside$end".new[0-9]; done
 }
 
-# What was stored beside the wanted name is flushed and takes that name, with the old file's permissions.
+# What was stored beside the wanted name is flushed and takes that name, with the old file's permissions; `renamed` lists
+# these names.
 rename_stored() {
   local end target
+  renamed=()
   [ -n "$beside" ] || return
   for end in "${ends[@]}"; do
     target=${given[stored]}$end
@@ -154,6 +157,7 @@ rename_stored() {
       status=6
       return
     fi
+    renamed+=("$target")
   done
   sync -- "${beside%/*}/" 2>/dev/null
 }
@@ -170,9 +174,23 @@ interrupted() {
 # this changes nothing.
 use_large_pages() { export GLIBC_TUNABLES="${GLIBC_TUNABLES:+$GLIBC_TUNABLES:}glibc.malloc.hugetlb=1"; }
 
+# Runs `why` and says each line that it prints in a sentence too.
+launch_why() {
+  local out
+  why_lines=$(mktemp) || exit 70
+  exec {out}>&1 >"$why_lines"
+  launch "${words[@]}"
+  exec >&"$out" {out}>&-
+  if [ "$status" = 0 ]; then tell_lines "$why_lines"; else cat -- "$why_lines"; fi
+  rm -f -- "$why_lines"
+}
+
 # Runs the command, stores what it stores, and tells what its status doesn't.
 run_command() {
-  given=("$@") words=("$@") child='' printed='' status=70
+  given=("$@") child='' printed='' status=70
+  local is_in_words=''
+  [ "$1" != why ] || [ "${*: -1}" != --words ] || { is_in_words=yes && given=("${@:1:$#-1}"); }
+  words=("${given[@]}")
   places "$1"
   refuse_overwriting
   store_beside
@@ -180,7 +198,7 @@ run_command() {
   trap 'interrupted 143' TERM
   trap 'interrupted 129' HUP
   [ "$1" != merge ] || use_large_pages
-  launch "${words[@]}"
+  if [ -n "$is_in_words" ]; then launch_why; else launch "${words[@]}"; fi
   case "$status" in
     0 | 1) rename_stored ;;
     *) drop_stored ;;

@@ -131,6 +131,41 @@ read_table() {
   [ -n "${text_of[name]-}" ] && label=" ${text_of[name]}"
 }
 
+# The text of a key's value, also over several lines, without comments: `whole_value FILE HEADER INDEX KEY`.
+whole_value() {
+  local line text='' opened closed start
+  read_table "$1" "$2" "$3"
+  start=${line_of[$4]-}
+  [ -n "$start" ] || return
+  while IFS= read -r line || [ -n "$line" ]; do
+    line=${line%$'\r'}
+    text+=${line%%#*}' '
+    opened=${text//[!\[]/} closed=${text//[!\]]/}
+    ((${#opened} > ${#closed})) || break
+  done < <(tail -n "+$start" -- "$1")
+  printf '%s' "${text#*=}"
+}
+
+# Sets `items` to the inner lists of a text, as '1, 2' of [[1, 2]].
+list_items() {
+  local text=${1#*\[}
+  items=()
+  while [[ $text =~ ^[^\[]*\[([^][]*)\](.*)$ ]]; do
+    items+=("${BASH_REMATCH[1]}") text=${BASH_REMATCH[2]}
+  done
+}
+
+# The index of the table whose name is a text in quotes: `table_named FILE HEADER "NAME"`.
+table_named() {
+  local at count
+  count=$(count_tables "$1" "$2")
+  for ((at = 0; at < count; at++)); do
+    read_table "$1" "$2" "$at"
+    [ "${text_of[name]-}" = "$3" ] && break
+  done
+  printf '%s' "$at"
+}
+
 count_tables() {
   local line count=0
   while IFS= read -r line || [ -n "$line" ]; do
@@ -579,100 +614,4 @@ tell_refusal() {
     'certificate refused '*) tell_cert_refusal "${line[@]:2}" ;;
     'table refused '*) tell_table_refusal "${line[@]:2}" ;;
   esac
-}
-
-# The text of a certificate or a table up to the end of its first row: the tools, the groups of bends, and the notes at
-# the start.
-read_start() {
-  local line at='' stage=-1 tool='' boxes=()
-  upper=() lower=() stages=() dies=() notes=() groups=() is_gang=0
-  while IFS= read -r line; do
-    read -ra boxes <<<"$line"
-    case "$line" in
-      'face '*' '*' '*' '*' '*) groups+=("${boxes[2]} ${boxes[3]} ${boxes[7]}") ;;
-      'upper '*) upper+=("the machine's upper box ${#upper[@]}") ;;
-      'lower '*) lower+=("the machine's lower box ${#lower[@]}") ;;
-      'gang '*) is_gang=${boxes[1]} ;;
-      'stage '*) stage=$((stage + 1)) ;;
-      'punch '*) tool=punch stages[stage]=${boxes[1]} ;;
-      'die '*) tool=die dies[stage]=${boxes[1]} ;;
-      'box '*)
-        if [ "$tool" = punch ]; then
-          upper+=("punch ${stages[stage]} of stage $stage")
-        else
-          lower+=("die ${dies[stage]} of stage $stage")
-        fi
-        ;;
-      'row 0 0 0 '*) at=start ;;
-      'row '* | end) break ;;
-      'x '*) [ -n "$at" ] && notes+=("${line#x }") ;;
-    esac
-  done <"$cert"
-  [ "$is_gang" = 1 ] && mapfile -t groups < <(printf '%s\n' "${groups[@]}" | sort -u)
-}
-
-# What refuses, by a reason's kind and the last of its numbers.
-who_refuses() {
-  case "$1" in
-    4) printf '%s' "${upper[$2]-$(reason_words 4)}" ;;
-    5) printf "the nose of punch %s of stage %s" "${stages[$2]-?}" "$2" ;;
-    6) printf '%s' "${lower[$2]-$(reason_words 6)}" ;;
-    *) reason_words "$1" ;;
-  esac
-}
-
-# What refuses how often, the most often first, of lines 'KIND LAST' or 'KIND': '4 x punch A of stage 0, ..'; six of them.
-counted() {
-  local number kind last who all='' left=6
-  local -A count=()
-  while read -r number kind last; do
-    who=$(who_refuses "$kind" "${last:-0}")
-    count[$who]=$((${count[$who]-0} + number))
-  done < <(LC_ALL=C sort | uniq -c)
-  while IFS=$'\t' read -r number who; do
-    ((left-- > 0)) && all+=", $number x $who"
-  done < <(for who in "${!count[@]}"; do printf '%s\t%s\n' "${count[$who]}" "$who"; done | sort -rn)
-  ((left < 0)) && all+=', and others'
-  printf '%s' "${all#, }"
-}
-
-# The reasons of note lines, as `counted` wants them.
-reasons() { sed -En 's/^(x )?[0-9]+ [PC] [0-9]+ ([4-6]) [0-9]+ [0-9]+ ([0-9]+)$/\2 \3/p; t; s/^(x )?[0-9]+ [PC] [0-9]+ ([0-9]).*/\2/p'; }
-
-# A stage at which each stroke of the start is refused by the punch that stands there.
-tell_useless_punches() {
-  local stage note line number
-  for stage in "${!stages[@]}"; do
-    number=0
-    for note in "${notes[@]}"; do
-      read -ra line <<<"$note"
-      [[ ${line[1]} == [PC] && ${line[2]} == "$stage" && ${line[3]} == [45] ]] || continue
-      [[ $(who_refuses "${line[3]}" "${line[6]}") == *"punch ${stages[stage]} of stage $stage" ]] && number=$((number + 1))
-    done
-    [ "$number" = $((2 * ${#groups[@]})) ] && say "no sheet can be bent under punch ${stages[stage]} of stage $stage: at the start it is in the way of each stroke there ($docs/FIRST_PART.md, Tools as boxes)"
-  done
-}
-
-# Where a certificate or a table says that there is no plan: what refuses the strokes at the start, and in all states.
-tell_no_plan() {
-  local cert more start='' where='all states' most=1000000
-  local -a upper lower stages dies notes groups
-  case "${words[0]}" in
-    plan) cert=${words[4]} ;;
-    settle) cert=${words[4]} where='all rows' ;;
-    merge) cert=${words[3]} where='all rows' ;;
-    check) cert=${words[1]} ;;
-    prove) cert=${words[1]} where='all rows' ;;
-    sheet) say "no plan: ${words[2]} shows the first and the last strokes that are refused"; return ;;
-    setups) say "no setup of the list has a plan: 'brake check ${words[5]}.I' confirms it of setup I, and tells what refuses its strokes"; return ;;
-    *) return ;;
-  esac
-  more="$docs/certificate.md says how to read them in $cert"
-  is_command why && is_built why && more="'brake why PART TOOLS MACHINE' tells the rest"
-  if [ ! -f "$cert" ]; then say "no plan: with its proof in a file it can be told what refuses the strokes"; return; fi
-  read_start
-  [ "${#notes[@]}" = 0 ] || start=" ($(printf '%s\n' "${notes[@]}" | reasons | counted))"
-  [ "$(stat -Lc %s -- "$cert")" -gt "$most" ] && where="the first ${where#all } ($most bytes of them)"
-  say "no plan: of the $((2 * ${#groups[@]} * ${#stages[@]})) strokes at the start ${#notes[@]} are refused$start; of those in $where $(head -c "$most" -- "$cert" | reasons | counted); $more"
-  tell_useless_punches
 }

@@ -7,7 +7,7 @@
 # shellcheck disable=SC2034
 declare -gA bench_usage=(
   [desk]='usage: brake desk [FOLDER] [--port N] [--no-browser]'
-  [propose]='usage: brake propose PART TOOLS MACHINE OUT [--keep K] [--tries N] [--budget N] [--punches A,B] [--dies A,B] [--quiet]'
+  [propose]='usage: brake propose (PART TOOLS MACHINE OUT | --all FOLDER) [--keep K] [--tries N] [--budget N] [--punches A,B] [--dies A,B] [--quiet]'
   [import]='usage: brake import BODY.step OUT.toml [--material NAME] [--root N] [--fill] [--list] [--solid N]'
   [folded]='usage: brake folded PART TOOLS OUT.step'
   [dxf]='usage: brake dxf CERT|BLANK OUT.dxf [--relief WIDTH DEPTH] [--lines] [--release R12|R2000]'

@@ -79,7 +79,7 @@ def read_words(words: list[str]) -> Wish:
     if len(rest) < 2:
         raise WrongWords("sizes and the name of the file are needed")
     if not is_name(got.material):
-        raise WrongWords(f"--material '{got.material[:40]}' isn't a name of 1 to 24 visible ASCII characters, no blank")
+        raise WrongWords(f"--material '{got.material[:40]}' isn't a name: 1 to 24 visible ASCII characters, no blank")
     sizes = read_sizes(name, shape, rest[:-1])
     return Wish(name.lower(), sizes, got.material, read_sheet(got, shape), Path(rest[-1]))
 
@@ -131,5 +131,5 @@ def command(words: list[str]) -> int:
 
 
 def main(words: list[str]) -> int:
-    """Runs `brake new` and gives its exit status: 0 stored, 2 faulty words, 6 not stored, 70 the file is there already."""
+    """Runs `brake new` and gives its exit status: 0 stored, 2 faulty words, 6 not stored, 70 the file is there."""
     return run("new", USAGE, command, words)

@@ -1,7 +1,7 @@
 """The shapes that `brake new` knows, each made of a few outside sizes as a drawing has them. Lengths in micrometres.
 
-Walls that stand around a base begin `gap` from its corners: at least the half deduction q, which a side loses where its
-neighbour is bent too. q is below `t + 0.2147 r` for any correction factor of DIN 6935.
+Walls that stand around a base begin `gap` from its corners: at least the half deduction q, which a side loses where
+its neighbour is bent too. q is below `t + 0.2147 r` for any correction factor of DIN 6935.
 """
 from __future__ import annotations
 
@@ -18,7 +18,7 @@ LEAST_LIP = 1_000
 
 @dataclass(frozen=True)
 class Sheet:
-    """What all shapes share: thickness, inner radius, the gap at corners, and the length along the bends, 0 for none."""
+    """What all shapes share: thickness, inner radius, the gap at corners, and the length along the bends or 0."""
 
     thickness: int
     radius: int

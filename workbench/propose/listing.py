@@ -28,7 +28,7 @@ class Entry:
 
 def name_of(place: int, setup: Setup) -> str:
     """A setup's name: its number, punches and lengths in millimetres; at most 24 visible characters."""
-    parts = [f"{station.punch[:10]}:{station.length // 1000}" for station in setup]
+    parts = [f"{station.punch[:13]}:{station.length // 1000}" for station in setup]
     return f"{place}_{'+'.join(parts)}"[:LONGEST_NAME]
 
 

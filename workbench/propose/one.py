@@ -93,6 +93,11 @@ def _widest(search: Search, most: int) -> list[Setup]:
     return [(kind.station,) for kind in widest]
 
 
+def kept_back(tries: int) -> int:
+    """Runs that the search leaves, so that it can be said what stands in the way."""
+    return min(MOST_WITHOUT_PLAN, tries // 4)
+
+
 def propose(program: Path, folder: Path, choices: Choices, progress: Callable[[str], None]) -> Proposal:
     """Proposes setups for the copied files of a folder. Raises Refused and Stop."""
     planner = Planner(program, folder, choices.tries, choices.budget, progress)
@@ -102,12 +107,14 @@ def propose(program: Path, folder: Path, choices: Choices, progress: Callable[[s
     punches, dies = _named("punch", job.tools, choices.punches), _named("die", job.tools, choices.dies)
     rack = Rack(job, punches, dies, own_dies, bool(choices.dies))
     search = Search(Trials(job, rack, planner, job.machine), rack, progress)
+    planner.tries -= kept_back(choices.tries)
     outcome = search.run()
     turned = None
     if not outcome.found and outcome.bare is not None and job.strokes and planner.left > 0:
         again = with_turned(search, progress)
         if again is not None:
             search, turned = again
+    planner.tries = choices.tries
     entries = _kept(job, search, choices.keep)
     words: list[str] = []
     if not entries:
@@ -125,7 +132,6 @@ def _without_plan(search: Search, choices: Choices, progress: Callable[[str], No
             words.append(f"the rack has no {kind}")
     words += lacking(job, search.rack)
     entries = []
-    planner.tries += MOST_WITHOUT_PLAN
     try:
         found = furthest_of(search.trials, _widest(search, min(choices.keep, MOST_WITHOUT_PLAN)), planner.folder)
         if found:
@@ -137,14 +143,14 @@ def _without_plan(search: Search, choices: Choices, progress: Callable[[str], No
     return words, entries
 
 
-def _head(proposal: Proposal, out: str) -> list[str]:
+def _head(proposal: Proposal, beside: str) -> list[str]:
     number = proposal.job.bends
     head = [f"Setups that 'brake propose' made of the rack for a part of {number} bend{'s' * (number != 1)}.",
             "'brake setups' picks their pieces, plans each and proves which of them is the cheapest."]
     if proposal.cost is None:
         head.append("None of these has a plan; 'brake sheet' draws what stands in the way.")
-    if proposal.turned is not None:
-        head.append(f"Punches are turned: give 'brake setups' the tools file {_printable(Path(proposal.turned.file_beside(out)).name)}.")
+    if beside:
+        head.append(f"Punches are turned: give 'brake setups' the tools file {_printable(Path(beside).name)}.")
     return head
 
 
@@ -152,18 +158,22 @@ def _printable(text: str) -> str:
     return "".join(c if c.isprintable() else "?" for c in text)
 
 
-def store_proposal(proposal: Proposal, out: str) -> None:
-    """Stores the setups file, after the copy of the tools file that it needs where punches are turned."""
+def store_proposal(proposal: Proposal, out: str) -> str:
+    """Stores the setups file, after the copy of the tools file that it needs where punches are turned; gives the name of
+    that copy, empty where there is none."""
+    beside = ""
     if proposal.turned is not None:
-        store(proposal.turned.file_beside(out), proposal.turned.text)
+        beside = proposal.turned.file_beside(out)
+        store(beside, proposal.turned.text)
     if proposal.entries:
-        store(out, file_text(proposal.job, proposal.entries, _head(proposal, out)))
+        store(out, file_text(proposal.job, proposal.entries, _head(proposal, beside)))
+    return beside
 
 
 def report(proposal: Proposal, out: str) -> int:
     """Stores what was proposed and prints it. Gives the exit status."""
     planned = proposal.cost is not None
-    store_proposal(proposal, out)
+    beside = store_proposal(proposal, out)
     for place_, entry in enumerate(proposal.entries):
         if entry.found is not None:
             print(f"propose {place_} {name_of(place_, entry.setup)} {entry.found.cost} {len(entry.setup)} "
@@ -171,8 +181,8 @@ def report(proposal: Proposal, out: str) -> int:
     print(f"tries {proposal.planner.runs}")
     if planned and proposal.outcome.least is not None:
         print(f"least {proposal.outcome.least}")
-    if proposal.turned is not None:
-        print(f"tools {proposal.turned.file_beside(out)}")
+    if beside:
+        print(f"tools {_printable(beside)}")
     for line in proposal.words:
         print(line)
     return 0 if planned else 1

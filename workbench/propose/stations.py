@@ -18,6 +18,10 @@ RADIUS_OF_V = 0.16
 """The inner radius that air bending makes, by the opening: a rule of thumb."""
 
 
+MOST_STATIONS_MADE = 300
+"""Of tools of one height; what is made beyond isn't looked at."""
+
+
 @dataclass(frozen=True, order=True)
 class Station:
     """A punch and a die over one length; the die has a range of its own where `die_length` isn't 0."""
@@ -132,12 +136,15 @@ class Rack:
         return list(parted.values())
 
     def kinds(self, tools: list[tuple[str, str]]) -> list[Kind]:
-        """For each punch and die and each stroke the shortest station, less those that another one stands for."""
+        """For each punch and die and each stroke the shortest station, less those that another one stands for. Of a large
+        rack the first ones alone."""
         needs = sorted({self.job.need(stroke) for stroke in self.job.strokes}, reverse=True)
         found: dict[Station, None] = {}
         for punch, die in tools:
             for need in needs:
                 found.update(dict.fromkeys(self.stations(punch, die, need)))
+            if len(found) > MOST_STATIONS_MADE:
+                break
         kinds = [Kind(station, self.serves(station)) for station in found]
         return [kind for place, kind in enumerate(kinds) if kind.serves and not any(
             self._stands_for(other, kind) and (at < place or not self._stands_for(kind, other))

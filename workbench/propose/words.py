@@ -5,10 +5,8 @@ import argparse
 from dataclasses import dataclass
 from typing import Callable
 
-USAGE = (
-    "usage: brake propose PART TOOLS MACHINE OUT [--keep K] [--tries N] [--budget N] [--punches A,B] [--dies A,B] [--quiet]\n"
-    "usage: brake propose --all FOLDER [the same words]"
-)
+USAGE = ("usage: brake propose (PART TOOLS MACHINE OUT | --all FOLDER) [--keep K] [--tries N] [--budget N] [--punches A,B] "
+         "[--dies A,B] [--quiet]")
 
 
 class WrongWords(Exception):

@@ -1,4 +1,4 @@
-"""What the pages say of the repository holds: the definitions to read, the floor plan, the length of the first page."""
+"""What the pages say of the repository holds: definitions to read, the floor plan, the gallery, the first page."""
 from __future__ import annotations
 
 import re
@@ -67,3 +67,15 @@ def test_the_gallery_shows_what_stands_there() -> None:
     assert len(pieces) == 5
     for file, piece in pieces:
         assert piece in (ROOT / file).read_text(), file
+
+
+def test_how_a_proof_goes_names_modules_that_are_there() -> None:
+    """Each module that a crate's 'How the proof goes' names is a file of its proofs."""
+    told = 0
+    for page in (ROOT / "crates").glob("*/README.md"):
+        story = r"^## How the proof goes\n\nBy the modules of proofs/(.*?)(?=^## |\Z)"
+        section = re.search(story, page.read_text(), re.M | re.S)
+        for name in re.findall(r"`([A-Z]\w+)`", section[1]) if section else []:
+            told += 1
+            assert (page.parent / "proofs" / f"{name}.antt").exists(), f"{page.parent.name} tells of {name}"
+    assert told > 0

@@ -19,7 +19,7 @@ use Rattle.job_setup.specs.ValidJob.{IsJob}
 use Rattle.handling_cost.specs.StepCost.{IsKeyOf, IsActionAt}
 use Rattle.handling_cost.specs.Bound.{sum_of}
 use Rattle.handling_cost.proofs.Keys.{some_stage, next_in_range}
-use Rattle.bb_search.specs.LaneSums.{AreSideSums, AreBendSums, AreSumsBelow, AreSums}
+use Rattle.bb_search.specs.LaneSums.{AreSideSums, AreBendSums, AreSumsBelow}
 use Rattle.bb_search.proofs.KnownLemmas.{among_lanes, place_in}
 use Rattle.bb_search.proofs.ChoiceLemmas.{place_bend, place_stage}
 use Rattle.bb_search.proofs.CallLemmas.{mask_after}
@@ -144,16 +144,6 @@ module _ (job : JobData) (is_job : IsJob job) (key : Key) (bend : ℕ) (first : 
     others = of_other;
   }
 
--- before any bend nothing has its sum
-pub none_summed :
-    (job : JobData) (key : Key) (sums : ActionCosts) → AreCosts sums (λ place. 536870912)
-    → AreSumsBelow job key 1 sums
-none_summed job key sums are = record {
-  each = λ action at below. absurd (let first = at.first in omega (arith, first, below));
-  past = λ place within high. let is = are place within in omega (arith, is);
-  small = λ place within. let is = are place within in omega (arith, is);
-}
-
 -- a lead's sums are put
 pub bend_summed :
     (job : JobData) (key : Key) (bend : ℕ) (before after : ActionCosts)
@@ -208,12 +198,3 @@ bend_skipped job key bend sums below none = record {
       | inl less ↦ less
       | inr high ↦ absurd (differ (omega (arith, low, high)))
     ]
-
-pub all_summed :
-    (job : JobData) (key : Key) (bend : ℕ) (leads : Mask) (sums : ActionCosts)
-    → bend_count job < bend → AreSumsBelow job key bend sums → AreSums job key leads sums
-all_summed job key bend leads sums past below = record {
-  each = λ action at. below.each action at (let last = at.last in omega (arith, last, past));
-  past = λ place within lead high. below.past place within high;
-  small = below.small;
-}

@@ -33,10 +33,6 @@ pub left_at_set : (job : JobData) (key : Key) → left job (key_at key.mask 0) �
 unfolding left
 left_at_set job key = refl
 
--- an action of the key at its set
-at_key : (job : JobData) (key : Key) (action : Action) → IsActionAt job key action → IsActionAt job (key_at key.mask 0) action
-at_key job key action at = record { first = at.first; last = at.last; stage = at.stage; lead = at.lead }
-
 -- what a table knows at a set of the job's bends
 pub known_here : (job : JobData) (pool : Pool) (table : TableData) → AreKnown job pool table → (mask : Mask) → mask.0 < 2 ^ bend_count job → (at : KnownActions) × (slice_get table.known mask.0 ≡ Some at)
 known_here job pool table known mask within = elim (slice_get_cases table.known mask.0).1 [

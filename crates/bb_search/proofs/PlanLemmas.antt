@@ -1,7 +1,7 @@
 -- The kept plan: what the worths of the rows lead to.
 use Rattle.std.proofs.Common.{◌≡◌, inl, inr, ℕ, ◌+◌, ◌<◌, ◌≤◌, List, [], ◌∷◌, ◌++◌, length, get_or, Some, arith, sym, ◌∙◌, ap, subst, append_assoc, append-nil}
-use Rattle.std.specs.Prelude.{slice_get, option_and_then, Contains}
-use Rattle.std.proofs.lemmas.Option.{slice_get_within, same_Some}
+use Rattle.std.specs.Prelude.{slice_get, option_and_then}
+use Rattle.std.proofs.lemmas.Option.{same_Some}
 use Rattle.std.proofs.lemmas.Bool.{cases_lt}
 use Rattle.brake_base.specs.declared.stroke.Key.{Key}
 use Rattle.brake_base.specs.declared.stroke.Action.{Action}
@@ -22,7 +22,7 @@ use Rattle.bb_search.specs.Settling.{IsKnown, IsSound}
 use Rattle.bb_search.proofs.OrderLemmas.{same_order}
 use Rattle.bb_search.proofs.TableLemmas.{known_attained}
 use Rattle.bb_search.proofs.CallLemmas.{row_at, small_worth, cost_most}
-use Rattle.bb_search.proofs.OutcomeLemmas.{key_here, keys_length, one_row}
+use Rattle.bb_search.proofs.OutcomeLemmas.{one_row}
 
 same_cost : (a b : ℕ) → Cost a ≡ Cost b → a ≡ b
 same_cost a b e = cc
@@ -37,12 +37,6 @@ module _ (job : JobData) (pool : Pool) (sound : IsSound job pool.rows) (key : Ke
       let here = row_at job pool sound key i at in
       let same : here.0 ≡ row.1 = one_row pool is_pool i row.0 here.0 row.1 here.1 row.2 (here.2 ∙ sym row.3) in
       ap (option_and_then (λ (r : PoolRow). r.worth)) here.1 ∙ (ap (λ (r : PoolRow). r.worth) same ∙ row.4)
-
-  pub unknown : (Contains (keys pool) key → ⊥) → (cost : ℕ) → (IsFull job key → ⊥) → IsKnown job pool.rows key (Cost cost) → ⊥
-  unknown absent cost more (inl full) = more full.0
-  unknown absent cost more (inr row) =
-      let within : row.0 < length (keys pool) = rw (keys_length pool) (slice_get_within pool.rows row.0 row.1 row.2) in
-      absent (row.0, within, key_here pool row.0 row.1 key row.2 ∙ row.3)
 
   pub full_only : IsFull job key → (cost : ℕ) → IsKnown job pool.rows key (Cost cost) → cost ≡ 0
   full_only full cost (inl its) = same_cost cost 0 its.1

@@ -2,7 +2,6 @@
 //! leaves the rows and notes that prove that no plan costs less.
 #![tactic(auto)]
 
-mod certificate;
 mod known;
 mod known_sets;
 mod orders;

@@ -9,10 +9,8 @@ ghost use Rattle.bb_search.specs.Settling.{IsFound};
 ghost use Rattle.bb_search.specs.KnownActions.{AreKnown};
 ghost use Rattle.bb_search.specs.Outcomes.{AreSteps, outcome_of, outcome_with, IsAnswer, AreWithinBudget};
 ghost use Rattle.bb_search.specs.Searches.{opened};
-ghost use Rattle.bb_search.specs.Certificates.{HasAnswer, IsCertificateOf, IsWritten};
-ghost use Rattle.plan_cert.specs.Cert.{cert_data};
+ghost use Rattle.bb_search.specs.Certificates.{HasAnswer, IsWritten};
 
-use crate::certificate::{notes_of, row_heads, sorted_rows};
 use crate::outcome::Outcome;
 use crate::pieces::CertPieces;
 use crate::plan::kept_plan;
@@ -25,7 +23,6 @@ use bend_state::BendState;
 use brake_base::{Place, Step, Worth};
 use handling_cost::start_key;
 use job_setup::Job;
-use plan_cert::Cert;
 use row_pool::RowPool;
 use std::alloc::{AllocError, Global};
 use std::marker::Model;
@@ -182,34 +179,9 @@ impl Search {
         outcome
     }
 
-    /// The steps of the kept plan; none where the outcome isn't a cost.
-    pub fn plan(&self) -> &[Step]
-        ensures { result.now ≡ self.now.steps }
-    {
-        self.steps.as_slice()
-    }
-
     /// The certificate of what the run answered: all rows in the order of their keys, their reasons
-    /// as notes, the claim and the kept steps, and no more.
-    pub fn certificate(&self, alloc: Global, job: &Job) -> Result<Cert, AllocError>
-        requires job { job.now ≡ self.now.job }
-        requires answered { HasAnswer self.now }
-        ensures { IfOk result (λ cert. IsCertificateOf self.now (cert_data cert)) }
-    {
-        job.recall_valid();
-        let orders = sorted_rows(alloc, &self.pool)?;
-        let rows = row_heads(alloc, &self.pool, &orders)?;
-        let notes = notes_of(alloc, &self.pool, &orders)?;
-        Ok(Cert {
-            claim: claim_of(self.outcome),
-            steps: copy_of(&self.steps),
-            rows,
-            notes,
-        })
-    }
-
-    /// The same certificate as text that is made in pieces, so that neither its notes nor the text are
-    /// held whole.
+    /// as notes, the claim and the kept steps, and no more. It is text that is made in pieces, so that
+    /// neither its notes nor the text are held whole.
     pub fn write(self, alloc: Global, job: &Job) -> Result<WrittenCert, AllocError>
         requires job { job.now ≡ self.job }
         requires answered { HasAnswer self }

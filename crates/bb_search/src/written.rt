@@ -1,18 +1,18 @@
 //! What is written of a certificate: its text up to the rows, and the text of a row.
 ghost use Rattle.std.specs.Prelude.{◌≡◌, ◌≢◌, ◌<◌, ◌++◌, None, Some, length, IfOk, OnOk, IsTrue, ℕ};
 ghost use Rattle.stage_lanes.specs.ActionSets.{has_place};
-ghost use Rattle.row_pool.specs.Rows.{Pool, reason_at, common_at};
+ghost use Rattle.row_pool.specs.Rows.{Pool, reason_at, common_at, worth_at};
 ghost use Rattle.plan_cert.specs.WellFormed.{IsWellFormed};
 ghost use Rattle.plan_lines.specs.NoteLines.{number_at};
 ghost use Rattle.row_text.specs.Notes.{IsAmong, AreOfStages};
+ghost use Rattle.bb_search.specs.CertRows.{IsHeadOf};
 ghost use Rattle.bb_search.specs.WrittenRows.{beginning_text, without_rows, AreWritable, IsWriterOf, row_text};
 
-use crate::certificate::row_head;
 use crate::pieces::CertPieces;
 use arrayvec::ArrayVec;
 use brake_base::{Mask, Reason, Step, Worth, action_number};
 use job_setup::Job;
-use plan_cert::{Cert, write_cert};
+use plan_cert::{Cert, RowHead, write_cert};
 use row_pool::RowPool;
 use row_text::RowWriter;
 use stage_lanes::ActionSet;
@@ -102,6 +102,19 @@ fn turn_to(writer: &mut RowWriter, mask: Mask) -> Result<(), AllocError>
         return Ok(());
     }
     writer.begin(mask)
+}
+
+/// The key and the worth of a row that has a worth.
+fn row_head(pool: &RowPool, row: u32) -> RowHead
+    requires row { row < length pool.now.rows }
+    requires done { worth_at pool.now row ≢ None }
+    ensures { IsHeadOf pool.now.rows row result }
+{
+    let key = pool.key(row);
+    match pool.worth(row) {
+        Some(worth) => RowHead { key, worth },
+        None => unreachable!(),
+    }
 }
 
 /// Appends the line of a row, and those of its notes.

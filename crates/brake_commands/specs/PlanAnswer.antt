@@ -22,8 +22,11 @@ use Rattle.bb_search.specs.Certificates.{IsWrittenAs}
 use Rattle.command_runner.specs.declared.status.Status.{Status}
 use Rattle.command_runner.specs.declared.status.Status.TheVariants as status
 use Rattle.command_runner.specs.Answers.{StoredData, AnswerData, one_text, one_stored}
-use Rattle.check_command.specs.CheckAnswer.{no_plan_line}
 use Rattle.brake_commands.specs.JobAnswer.{AnswersJob, job_of_files}
+
+-- `no plan`
+unfoldable pub no_plan_line : List ℕ
+no_plan_line = codes "no plan\n"
 
 -- `spent N`: more keys are reached than the budget that was given
 unfoldable pub spent_line : ℕ → List ℕ

@@ -16,7 +16,7 @@ use Rattle.setup_choice.specs.Best.{IsBest}
 use Rattle.command_runner.specs.declared.status.Status.{Status}
 use Rattle.command_runner.specs.declared.status.Status.TheVariants as status
 use Rattle.command_runner.specs.Answers.{StoredData, AnswerData}
-use Rattle.check_command.specs.CheckAnswer.{no_plan_line}
+use Rattle.brake_commands.specs.PlanAnswer.{no_plan_line}
 use Rattle.brake_commands.specs.SetupList.{JobFilesData, SetupList, setups_refused, list_of_files}
 use Rattle.brake_commands.specs.SetupList.{IsFirstRefused, list_refused, AnswersList}
 use Rattle.brake_commands.specs.Attempts.{PlannedData, AttemptData, IsAttempt, tried_all}

@@ -10,8 +10,7 @@ use Rattle.cert_merge.specs.Table.{TableData, IsTable, IsClosedTable}
 use Rattle.cert_merge.specs.TableChecks.{CostsAtLeast, proved_by}
 use Rattle.command_runner.specs.declared.status.Status.TheVariants as status
 use Rattle.command_runner.specs.Answers.{StoredData, AnswerData, one_stored, refusal}
-use Rattle.check_command.specs.CheckAnswer.{no_plan_line}
-use Rattle.brake_commands.specs.PlanAnswer.{claim_status}
+use Rattle.brake_commands.specs.PlanAnswer.{claim_status, no_plan_line}
 
 -- what the rows of a table prove of the start key
 abbrev pub proved_at_start : JobData → TableData → Worth

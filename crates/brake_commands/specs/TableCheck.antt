@@ -2,7 +2,7 @@
 use Rattle.std.specs.Prelude.{◌≡◌, ℕ, List, [], ◌∷◌, codes, Result, Ok, Err}
 use Rattle.cert_lines.specs.Lines.{number, text_line}
 use Rattle.cert_check.specs.FaultWords.{cert_fault_words}
-use Rattle.cert_merge.specs.declared.checked.TableFault.TheVariants.{BadReason, NotClosed}
+use Rattle.cert_merge.specs.declared.proved.TableFault.TheVariants.{BadReason, NotClosed}
 use Rattle.cert_merge.specs.Table.{TableFileData}
 use Rattle.cert_merge.specs.ProvedTable.{IsCheckedTable, IsNoTable, IsOpenTable}
 use Rattle.command_runner.specs.declared.status.Status.TheVariants as status

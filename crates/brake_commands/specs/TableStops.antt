@@ -2,7 +2,7 @@
 use Rattle.std.specs.Prelude.{◌≡◌, ℕ, List, Result, Ok, Err}
 use Rattle.plan_lines.specs.declared.item.CertFault.{CertFault}
 use Rattle.plan_lines.specs.declared.item.CertFault.TheVariants as cert
-use Rattle.cert_merge.specs.declared.checked.TableFault.{TableFault}
+use Rattle.cert_merge.specs.declared.proved.TableFault.{TableFault}
 use Rattle.cert_merge.specs.declared.proved.ProveFault.{ProveFault}
 use Rattle.cert_merge.specs.declared.proved.ProveFault.TheVariants as prove
 use Rattle.cert_merge.specs.ProvedTable.{IsCheckedTable}

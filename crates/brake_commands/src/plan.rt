@@ -59,7 +59,7 @@ fn blank_sheet_of(alloc: Global, job: &Job) -> Result<Vec<u8>, AllocError>
 }
 
 /// The order sheet of a certificate's steps, or that there is no plan.
-#[tactic(auto, unfolding(check_command::specs::CheckAnswer::no_plan_line))]
+#[tactic(auto, unfolding(crate::specs::PlanAnswer::no_plan_line))]
 fn last_text(alloc: Global, job: &Job, cert: &WrittenCert) -> Result<Vec<u8>, AllocError>
     requires { (budget : Option ℕ) × IsWrittenPlan budget job.now cert.now }
     ensures { IfOk result (λ text.

@@ -13,7 +13,7 @@ ghost use Rattle.command_runner.specs.Answers.{answer_data};
 ghost use Rattle.command_runner.specs.Fetching.{HasDueCall};
 ghost use Rattle.command_runner.specs.Delivery.{IsCutShort};
 ghost use Rattle.command_runner.specs.Ends.{StoresFirst, StoresBeginning};
-ghost use Rattle.check_command.specs.CheckAnswer.{no_plan_line};
+ghost use Rattle.brake_commands.specs.PlanAnswer.{no_plan_line};
 ghost use Rattle.brake_commands.specs.SetupList.{IsJobFiles};
 ghost use Rattle.brake_commands.specs.SetupStops.{job_files_data, list_data, fitted_data, IsFitted};
 ghost use Rattle.brake_commands.specs.Attempts.{attempt_data, planned_data, IsKept};
@@ -115,7 +115,7 @@ fn texts_with_best(
 }
 
 /// All texts, where no setup has a plan.
-#[tactic(auto, unfolding(check_command::specs::CheckAnswer::no_plan_line))]
+#[tactic(auto, unfolding(crate::specs::PlanAnswer::no_plan_line))]
 fn texts_without_plan(
     alloc: Global,
     sheet: Vec<u8>,

@@ -48,7 +48,7 @@ fn at_least_line(alloc: Global, cost: u64) -> Result<Vec<u8>, AllocError>
 }
 
 /// The line of a worth that is proved of the start.
-#[tactic(auto, unfolding(check_command::specs::CheckAnswer::no_plan_line))]
+#[tactic(auto, unfolding(crate::specs::PlanAnswer::no_plan_line))]
 fn proved_line(alloc: Global, worth: Worth) -> Result<Vec<u8>, AllocError>
     requires { IsWorth worth }
     ensures { IfOk result (λ line. line.items ≡ proved_line worth) }

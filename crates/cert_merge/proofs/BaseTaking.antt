@@ -1,5 +1,5 @@
 -- The rows of a base's text, taken up to a mask and cut at a range.
-use Rattle.std.proofs.Common.{◌≡◌, ℕ, ◌+◌, ◌-◌, ◌^◌, ◌<◌, ◌≤◌, List, [], ◌∷◌, ◌++◌, codes, length, take, Some, None, refl, sym, ◌∙◌, ap, subst, arith, append_assoc, append-nil}
+use Rattle.std.proofs.Common.{◌≡◌, ℕ, ◌+◌, ◌-◌, ◌^◌, ◌<◌, ◌≤◌, List, [], ◌∷◌, ◌++◌, codes, length, take, Some, refl, sym, ◌∙◌, ap, subst, arith, append_assoc, append-nil}
 use Rattle.std.proofs.lemmas.Grind.{flat_map-append}
 use Rattle.std.proofs.lemmas.List.{length-append, length-map, map-append}
 use Rattle.std.proofs.Math.Nat.{pow-le-pow_right}
@@ -12,7 +12,7 @@ use Rattle.cert_merge.specs.declared.base_rows.BaseRows.{BaseRows}
 use Rattle.cert_merge.specs.declared.row_texts.RowTexts.{RowTexts}
 use Rattle.cert_merge.specs.BaseRows.{AreCut, AreTaken, AreTakenSo, HaveMasks, IsFirstFrom, TakesBelow}
 use Rattle.cert_merge.specs.MergeSteps.{Rows, head_of, heads, table_said}
-use Rattle.cert_merge.specs.RowTexts.{AreLeft, AreRowsOfJob, TakesRow, rows_text, said_text}
+use Rattle.cert_merge.specs.RowTexts.{AreLeft, AreRowsOfJob, rows_text, said_text}
 use Rattle.cert_merge.specs.Table.{TableData, IsTable}
 use Rattle.cert_merge.specs.TableTexts.{empty_table}
 use Rattle.cert_merge.proofs.CutRows.{ascending_split, masks_both, masks_from, masks_kept, masks_push, masks_split}
@@ -21,9 +21,6 @@ use Rattle.cert_merge.proofs.Merging.{Ascending}
 use Rattle.cert_merge.proofs.TableChecking.{row_key}
 
 -- ---- the next row
-pub none_first : (job : JobData) (end : ℕ) (rows : Rows) (texts : RowTexts) → TakesRow job rows None texts → IsFirstFrom end rows
-none_first job end [] texts takes = tt
-none_first job end (said ∷ rows) texts takes = absurd takes
 
 -- ---- rows up to a mask
 pub none_taken : (job : JobData) (rows : Rows) (end : ℕ) (old : List RowHead) (texts : RowTexts) → AreLeft job rows texts → AreTakenSo job rows end old old texts

@@ -133,3 +133,7 @@ said_at notes row zero (head ∷ rows) d e within =
 said_at notes row (suc k) (head ∷ rows) d e within =
     let same : suc row + k ≡ row + suc k = omega arith in
     said_at notes (suc row) k rows d e (omega (arith, within)) ∙ ap (λ (n : ℕ). ((get_or rows k e).key, record { worth = (get_or rows k e).worth; reasons = reason_noted notes n })) same
+
+pub length_said : (notes : List Note) (row : ℕ) (rows : List RowHead) → length (rows_said notes row rows) ≡ length rows
+length_said notes row [] = refl
+length_said notes row (head ∷ rows) = ap suc (length_said notes (suc row) rows)

@@ -5,7 +5,6 @@ pub mod Flat
 pub mod FlatForm
 pub mod OneTable
 pub mod Arrays
-pub mod Cuts
 pub mod Taking
 pub mod Writing
 pub mod MergedForm
@@ -17,7 +16,6 @@ pub mod TableWritten
 pub mod TableChecking
 pub mod RowReading
 pub mod RowProving
-pub mod SetLemmas
 pub mod ProvedWorths
 pub mod SettledLaws
 pub mod SettledSets

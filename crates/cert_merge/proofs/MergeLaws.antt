@@ -1,6 +1,5 @@
 -- The laws of the merge.
-use Rattle.std.proofs.Common.{◌≡◌, ◌<◌, length, All, Ok, Err, Result, ◌∙◌, sym, ap}
-use Rattle.std.specs.Prelude.{IfOk}
+use Rattle.std.proofs.Common.{◌≡◌, ◌<◌, length, All, ◌∙◌, sym, ap}
 use Rattle.brake_base.specs.declared.stroke.Key.{Key}
 use Rattle.plan_lines.specs.declared.note.Note.{Note}
 use Rattle.plan_cert.proofs.RowOrder.{no_row}
@@ -30,8 +29,3 @@ merge_laws = record {
   keeps = λ a key. sym (merged_once (settled_at a key));
   one = λ job a b merged other is_merged is_other one two. one_table job merged other is_merged is_other (λ key. one key ∙ sym (two key));
 }
-
--- what follows of what holds of a result holds of it
-pub ok_map : {X E : Type 0} (r : Result X E) (P Q : X → Type 0) → IfOk r P → ((x : X) → P x → Q x) → IfOk r Q
-ok_map (Ok x) P Q holds to = to x holds
-ok_map (Err e) P Q holds to = tt

@@ -30,9 +30,8 @@ use Rattle.cert_merge.specs.Merged.{reason_noted, rows_said, settled_at, IsMerge
 use Rattle.cert_merge.specs.MergeSteps.{Rows, table_said}
 use Rattle.cert_merge.proofs.Joining.{Compared, lower, equal, higher, compared, joined_lower, joined_higher, joined_equal, most_told, most_tested}
 use Rattle.cert_merge.proofs.Merging.{Ascending, said_first, said_later, key_never, After}
-use Rattle.cert_merge.proofs.FlatForm.{said_ascends, said_at}
+use Rattle.cert_merge.proofs.FlatForm.{said_ascends, said_at, length_said}
 use Rattle.cert_merge.proofs.OneTable.{noted_is, is_noted}
-use Rattle.cert_merge.proofs.Cuts.{length_said}
 
 -- what is said of a key is said by a row
 record IsFound (notes : List Note) (from : ℕ) (rows : List RowHead) (key : Key) (said : Settled) : Type 0 where

@@ -15,11 +15,11 @@ use Rattle.cert_lines.specs.Lines.{action_at}
 use Rattle.plan_lines.specs.LinesFit.{IsReasonInRange, IsRow}
 use Rattle.plan_cert.specs.WellFormed.{IsNote, AreRows}
 use Rattle.plan_lines.proofs.Actions.{few_actions}
-use Rattle.plan_cert.proofs.RowOrder.{few_rows, few_stages}
+use Rattle.plan_cert.proofs.RowOrder.{few_stages}
 use Rattle.cert_merge.specs.Table.{TableData, IsTable}
 use Rattle.cert_merge.specs.Entries.{Settled, said_of, stands_before, first_reason, united, joined}
 use Rattle.cert_merge.specs.Merged.{reason_noted, IsMerged}
-use Rattle.cert_merge.specs.MergeSteps.{Rows, IsOrderly, most_actions, merge_rows, table_said, head_of, heads, flat, written}
+use Rattle.cert_merge.specs.MergeSteps.{Rows, most_actions, merge_rows, table_said, head_of, heads, flat, written}
 use Rattle.cert_merge.proofs.Joining.{Compared, lower, equal, higher, compared, joined_lower, joined_higher, joined_equal}
 use Rattle.cert_merge.proofs.Merging.{Each, Ascending, merged_said, merged_ascends, merged_each}
 use Rattle.cert_merge.proofs.Flat.{Fits, all_map, flat_says}
@@ -31,16 +31,6 @@ few job t is action less =
     let below = few_actions action (bend_count job) (stage_count job) (few_bends job is.valid) less in
     let stages = few_stages job is.valid in
     omega (arith, below, stages)
-
--- a well formed table is in order
-pub orderly : (job : JobData) (t : TableData) → IsTable job t → IsOrderly t
-orderly job t is = record {
-  rows = is.rows.row_order;
-  notes = is.rows.note_order;
-  of_row = λ i d within. (is.rows.each_note i d within).row;
-  few_actions = λ i d within. few job t is (get_or t.notes i d).action (is.rows.each_note i d within).action;
-  few_rows = few_rows job is.valid t.rows (record { each = is.rows.each_row; order = is.rows.row_order });
-}
 
 -- a reason against an action, by its number, at a key of the job
 pub record IsNoteOf (job : JobData) (key : Key) (number : ℕ) (reason : Reason) : Type 0 where

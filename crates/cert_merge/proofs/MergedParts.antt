@@ -1,18 +1,14 @@
 -- The text of parts, made in pieces.
-use Rattle.std.proofs.Common.{◌≡◌, ℕ, ◌+◌, ◌<◌, ◌≤◌, false, List, [], ◌∷◌, ◌++◌, codes, length, drop, refl, ap, ◌∙◌}
+use Rattle.std.proofs.Common.{◌≡◌, ℕ, ◌+◌, ◌≤◌, false, List, [], ◌++◌, codes, length, drop, refl, ap, ◌∙◌}
 use Rattle.std.proofs.lemmas.List.{drop_all}
 use Rattle.job_setup.specs.Setup.{JobData, stage_count}
 use Rattle.plan_cert.specs.CertText.{table_text}
 use Rattle.cert_merge.specs.declared.merged_rows.MergedRows.{MergedRows}
 use Rattle.cert_merge.specs.declared.merged_rows.Part.{Part}
 use Rattle.cert_merge.specs.MergeSteps.{Rows, flat, heads}
-use Rattle.cert_merge.specs.MergedRows.{HoldsRows, PartsGoOn, parts_text}
+use Rattle.cert_merge.specs.MergedRows.{HoldsRows, parts_text}
 use Rattle.cert_merge.specs.TextLeft.{end_text, text_left}
 use Rattle.cert_merge.proofs.SaidTexts.{beginning_of, rows_written}
-use Rattle.cert_merge.proofs.TextEnds.{not_begun}
-
-pub none_put : (joined : List ℕ) (all : List Part) (from : ℕ) (text : List ℕ) → PartsGoOn joined all from from text text
-none_put joined all from text = not_begun text (parts_text joined (drop from all))
 
 pub none_left : (joined : List ℕ) (all : List Part) (next : ℕ) → length all ≤ next → parts_text joined (drop next all) ≡ []
 none_left joined all next past = ap (parts_text joined) (drop_all next all past)

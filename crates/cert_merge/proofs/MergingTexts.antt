@@ -1,6 +1,6 @@
 -- The rows of two texts, taken in the order of their keys.
 use Rattle.std.proofs.Common.{◌≡◌, ℕ, ◌≤◌, [], ◌∷◌, ◌++◌, Option, Some, None, refl, sym, ap, subst, ◌∙◌, append_assoc, append-nil}
-use Rattle.std.specs.Prelude.{◌⊎◌, option_map}
+use Rattle.std.specs.Prelude.{option_map}
 use Rattle.brake_base.specs.declared.stroke.Key.{Key}
 use Rattle.job_setup.specs.Setup.{JobData, stage_count}
 use Rattle.cert_lines.specs.declared.row_head.RowHead.{RowHead}
@@ -60,14 +60,6 @@ still_of job old new bends stages counts = record { bends_are = bends ∙ counts
 module _ (job : JobData) (xs ys : Rows) (first second : Side) (sides : AreSides job xs ys first second) where
   keys_are : next_of (next_key first) (next_key second) ≡ next_of (first_key xs) (first_key ys)
   keys_are = λ i. next_of (key_is job xs first sides.xs_are i) (key_is job ys second sides.ys_are i)
-
-  -- the first side has one where its key is the next
-  pub first_some : next_of (next_key first) (next_key second) ≡ First → first.next ≡ None → ⊥
-  first_some is none = absurd (not_second (next_key second) (sym (ap (λ (n : Option RowText). next_of (option_map (λ (row : RowText). row.head.key) n) (next_key second)) none) ∙ is))
-    where
-      not_second : (k : Option Key) → next_of None k ≡ First → ⊥
-      not_second None e = absurd (cc)
-      not_second (Some k) e = absurd (cc)
 
   module _ (done : Rows) (merged after : MergedRows) (holds : HoldsRows (stage_count job) done merged) where
     -- that of the first

@@ -24,7 +24,7 @@ use Rattle.cert_merge.specs.declared.set_writer.SetWriter.{SetWriter}
 use Rattle.cert_merge.specs.declared.settled_sets.SettledSet.{SettledSet}
 use Rattle.cert_merge.specs.declared.settled_sets.SettledSets.{SettledSets}
 use Rattle.cert_merge.specs.Table.{TableData}
-use Rattle.cert_merge.specs.MergeSteps.{noted_as, notes_upto, most_actions, with_row, written}
+use Rattle.cert_merge.specs.MergeSteps.{head_of, noted_as, notes_upto, most_actions, with_row, written}
 use Rattle.cert_merge.specs.Settling.{key_of, AreSettledBy, HasSets, IsKeyAt}
 use Rattle.cert_merge.specs.SetRows.{CanBeWritten, IsSetOf, IsWriterOf, row_of, rows_text, IsRowPut}
 use Rattle.cert_merge.specs.SettledPieces.{AreRowsPut, row_text, place_text, rest_text, CanBePut, CanGoOn, GoesOnTo, IsWholeText}
@@ -65,7 +65,7 @@ no_lines stages = refl
 
 module _ (stages : ℕ) (key : Key) (set : SettledSet) where
   abbrev head : RowHead
-  head = (row_of set key).head
+  head = head_of (row_of set key)
 
   abbrev reasons : ℕ → Option Reason
   reasons action = slice_index_or set.reasons action None
@@ -121,9 +121,6 @@ pub place_skipped : (settled : SettledSets) (stages place : ℕ) (old new : List
 place_skipped settled stages place old new past same = same ∙ sym (append-nil old) ∙ ap (λ (t : List ℕ). old ++ t) (sym (no_row_there settled stages place past))
 
 -- ---- the text that is left
-pub starts : (settled : SettledSets) (stages end from : ℕ) (text : List ℕ) → from ≤ end → GoesOnTo settled stages end from from text text
-starts settled stages end from text within = record { piece = []; text = sym (append-nil text); rest = refl; from_on = omega arith; within = within }
-
 rest_more : (settled : SettledSets) (stages place end : ℕ) → place < end → rest_text settled stages place (end - place) ≡ place_text settled stages place ++ rest_text settled stages (place + 1) (end - (place + 1))
 rest_more settled stages place end less =
     let one : end - place ≡ suc (end - (place + 1)) = omega (arith, less) in

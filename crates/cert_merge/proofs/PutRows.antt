@@ -15,7 +15,7 @@ use Rattle.cert_merge.specs.declared.settled_sets.SettledSet.{SettledSet}
 use Rattle.cert_merge.specs.declared.settled_sets.SettledSets.{SettledSets}
 use Rattle.cert_merge.specs.Table.{TableData, IsTable}
 use Rattle.cert_merge.specs.TableTexts.{empty_table}
-use Rattle.cert_merge.specs.MergeSteps.{with_row, written}
+use Rattle.cert_merge.specs.MergeSteps.{head_of, with_row, written}
 use Rattle.cert_merge.specs.Settling.{AreSettledBy, HasSets, IsAmong, IsKeyAt}
 use Rattle.cert_merge.specs.SetRows.{IsSetOf, row_of, rows_text, IsRowPut}
 use Rattle.cert_merge.specs.SettledPieces.{AreRowsPut}
@@ -52,7 +52,7 @@ module _ (job : JobData) (is_job : IsJob job) (low high : ℕ) (settled : Settle
     table = with_row so_far.table (row_of set key);
     before = row_on job is_job low high settled has below place so_far.table (with_row so_far.table (row_of set key)) key (row_of set key) from less at refl
         (said_of_set job is_job low high settled has below proved are key set most is) refl so_far.before;
-    counted = ap (λ (n : ℕ). n + 1) so_far.counted ∙ sym (length_push so_far.table.rows (row_of set key).head);
+    counted = ap (λ (n : ℕ). n + 1) so_far.counted ∙ sym (length_push so_far.table.rows (head_of (row_of set key)));
     text = put set is old so_far.table (notes_before job is_job low high settled has below proved are place so_far.table so_far.before) so_far.text;
   }
 

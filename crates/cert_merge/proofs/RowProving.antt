@@ -9,7 +9,7 @@ use Rattle.cert_check.specs.declared.read_cert.ReadCert.{ReadCert}
 use Rattle.cert_check.specs.RowNotes.{HasNotes}
 use Rattle.cert_check.specs.Rows.{RowsAnswer}
 use Rattle.cert_merge.specs.declared.proved.ProvedTable.{ProvedTable}
-use Rattle.cert_merge.specs.declared.checked.TableFault.TheVariants as faults
+use Rattle.cert_merge.specs.declared.proved.TableFault.TheVariants as faults
 use Rattle.cert_merge.specs.Table.{TableData, TableFileData, IsClosedTable}
 use Rattle.cert_merge.specs.ReadRows.{AreTableParts, IsReadTable, RowsRead, IsProvedOf, ProvedAnswer}
 use Rattle.cert_merge.specs.ProvedTable.{IsProvedText, ProvesText, prove_fault}

@@ -6,7 +6,7 @@ use Rattle.std.proofs.lemmas.Int.{clamps}
 use Rattle.std.proofs.lemmas.Grind.{common_steps}
 use Rattle.std.proofs.lemmas.List.{append-nil}
 use Rattle.std.proofs.lemmas.List.{map-append}
-use Rattle.std.proofs.lemmas.Option.{same_Some, none-some, slice_get_past}
+use Rattle.std.proofs.lemmas.Option.{same_Some, none-some}
 use Rattle.brake_base.specs.declared.mask.Mask.{Mask}
 use Rattle.brake_base.specs.declared.stroke.Half.{Half}
 use Rattle.brake_base.specs.declared.stroke.Half.TheVariants.{Back, Front}
@@ -39,7 +39,7 @@ use Rattle.plan_lines.proofs.NoteSets.{one_more, keep, skip, number_of_place, st
 use Rattle.cert_merge.specs.declared.set_writer.SetWriter.{SetWriter}
 use Rattle.cert_merge.specs.declared.settled_sets.SettledSet.{SettledSet}
 use Rattle.cert_merge.specs.declared.settled_sets.SettledSets.{SettledSets}
-use Rattle.cert_merge.specs.MergeSteps.{noted_as, notes_upto, most_actions, with_row}
+use Rattle.cert_merge.specs.MergeSteps.{head_of, noted_as, notes_upto, most_actions, with_row}
 use Rattle.cert_merge.specs.Settling.{said_by, said_in, AreSettledBy, HasSets}
 use Rattle.cert_merge.specs.SetRows.{AreNotesOf, AreWritable, IsSetOf, CanBeWritten, IsWriterOf, row_of, rows_text, IsRowPut}
 use Rattle.cert_merge.proofs.SettledSets.{below_high}
@@ -261,7 +261,7 @@ module _ (said : SetNotes) (reasons : List (Option Reason)) (notes : ActionSet) 
 -- ---- the row of a key of a set
 -- a row of the set that is written is one that a table has more
 pub row_is_put : (settled : SettledSets) (said : SetNotes) (notes : ActionSet) (key : Key) (head : RowHead) (own : SettledSet) (old new : List ℕ) → said.stages ≤ 6 → IsSetOf settled key.mask own → AreWritable said.stages own.reasons → AreNotesOf own.reasons said notes
-    → head ≡ (row_of own key).head → GoOnAs said head notes old new → IsRowPut said.stages settled key old new
+    → head ≡ head_of (row_of own key) → GoOnAs said head notes old new → IsRowPut said.stages settled key old new
 row_is_put settled said notes key head own old new few is_own writable are named goes set is before t all text =
     let same : own ≡ set = same_Some own set (sym is_own ∙ is) in
     subst (λ (s : SettledSet). new ≡ before ++ rows_text said.stages (with_row t (row_of s key))) same
@@ -285,13 +285,6 @@ coded_is job NoGauge few is = record { body = omega arith; index = omega arith }
 coded_is job Load few is = record { body = omega arith; index = omega arith }
 
 module _ (job : JobData) (is_job : IsJob job) (low high : ℕ) (settled : SettledSets) (has : HasSets low high settled) (below : high + 1 < 2 ^ bend_count job) (proved : Key → Worth) (are : AreSettledBy job proved settled) where
-  -- a set that is settled is that of one of the masks
-  set_within : (mask : Mask) (set : SettledSet) → IsSetOf settled mask set → settled.high - mask.0 < length settled.sets.items
-  set_within mask set is = elim (cases_lt (settled.high - mask.0) (length settled.sets.items)) [
-    | inl within ↦ within
-    | inr past ↦ absurd (none-some set (sym (slice_get_past settled.sets.items (settled.high - mask.0) past) ∙ is))
-  ]
-
   pub said_of_set : (key : Key) (set : SettledSet) → key.mask.0 ≤ settled.high → IsSetOf settled key.mask set → said_in settled key ≡ Some (said_by set key)
   said_of_set key set most is = below_high settled key most ∙ ap (λ (o : Option SettledSet). option_map (λ (s : SettledSet). said_by s key) o) is
 

@@ -25,8 +25,7 @@ use Rattle.cert_merge.specs.Settling.{proved_over, AreSettled, HasSets, SaysSett
 use Rattle.cert_merge.specs.Table.{TableData, IsTable, IsClosedTable}
 use Rattle.cert_merge.specs.SetRows.{rows_text as rows_text_of}
 use Rattle.cert_merge.proofs.CutRows.{cut_merged, masks_said}
-use Rattle.cert_merge.proofs.Cuts.{length_said}
-use Rattle.cert_merge.proofs.FlatForm.{said_ascends}
+use Rattle.cert_merge.proofs.FlatForm.{said_ascends, length_said}
 use Rattle.cert_merge.proofs.MergedForm.{is_merged}
 use Rattle.cert_merge.proofs.MergeOf.{merge_of, keeps_form}
 use Rattle.cert_merge.proofs.Merging.{Ascending}

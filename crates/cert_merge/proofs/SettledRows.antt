@@ -21,13 +21,12 @@ use Rattle.plan_cert.specs.KeyPlaces.{key_place}
 use Rattle.plan_lines.specs.LinesFit.{IsRow}
 use Rattle.plan_cert.specs.WellFormed.{IsNote, AreRows}
 use Rattle.plan_cert.proofs.ReasonRanges.{reason_ranged}
-use Rattle.plan_cert.proofs.RowOrder.{few_stages, few_rows, same_key}
-use Rattle.cert_merge.specs.declared.noted_row.NotedRow.{NotedRow}
+use Rattle.plan_cert.proofs.RowOrder.{few_stages, same_key}
 use Rattle.cert_merge.specs.declared.settled_sets.SettledSets.{SettledSets}
 use Rattle.cert_merge.specs.Table.{TableData}
 use Rattle.cert_merge.specs.Entries.{Settled, said_of}
 use Rattle.cert_merge.specs.Merged.{settled_at}
-use Rattle.cert_merge.specs.MergeSteps.{Rows, most_actions, row_said, head_of, heads, flat, written, with_row}
+use Rattle.cert_merge.specs.MergeSteps.{Rows, most_actions, head_of, heads, flat, written, with_row}
 use Rattle.cert_merge.specs.Settled.{IsFirstFor, IsSettledBy, IsInRange}
 use Rattle.cert_merge.specs.Settling.{said_in, AreSettledBy, HasSets, IsAmong, IsKeyAt, SaysSettled}
 use Rattle.cert_merge.proofs.Merging.{After, Ascending, Each, said_first, said_later}
@@ -195,33 +194,33 @@ module _ (job : JobData) (is_job : IsJob job) (low high : ℕ) (settled : Settle
   wider place key said row = let before = row.before in record { range = row.range; before = omega (arith, before); says = row.says }
 
   -- the row of the next number
-  pub row_on : (place : ℕ) (t after : TableData) (key : Key) (row : NotedRow) → low * 144 ≤ place → place < (high + 1) * 144 → IsKeyAt job place (Some key) → row.head.key ≡ key → said_in settled key ≡ Some (row_said row).1
+  pub row_on : (place : ℕ) (t after : TableData) (key : Key) (row : Key × Settled) → low * 144 ≤ place → place < (high + 1) * 144 → IsKeyAt job place (Some key) → row.0 ≡ key → said_in settled key ≡ Some row.1
       → after ≡ with_row t row → AreRowsBefore job low high settled place t → AreRowsBefore job low high settled (place + 1) after
   row_on place t after key row from less at named says more so_far =
       let ranged = at.0 in
       let here = at.1 in
       let range = in_range key ranged (omega (arith, here, from)) (omega (arith, here, less)) in
-      let new : IsRowBefore job low high settled (place + 1) key (row_said row).1 = record { range = range; before = omega (arith, here); says = says } in
+      let new : IsRowBefore job low high settled (place + 1) key row.1 = record { range = range; before = omega (arith, here); says = says } in
       record {
-        rows = so_far.rows ++ row_said row ∷ [];
+        rows = so_far.rows ++ row ∷ [];
         written = more ∙ written_more so_far.rows row t so_far.written;
-        up = ascending_push so_far.rows (row_said row) so_far.up (each_kept (IsRowBefore job low high settled place) (λ k said. KeyIsBefore k (row_said row).0) earlier so_far.rows so_far.each);
-        each = each_push (IsRowBefore job low high settled (place + 1)) so_far.rows (row_said row) (each_kept (IsRowBefore job low high settled place) (IsRowBefore job low high settled (place + 1)) (wider place) so_far.rows so_far.each)
-            (subst (λ (k : Key). IsRowBefore job low high settled (place + 1) k (row_said row).1) (sym named) new);
+        up = ascending_push so_far.rows row so_far.up (each_kept (IsRowBefore job low high settled place) (λ k said. KeyIsBefore k row.0) earlier so_far.rows so_far.each);
+        each = each_push (IsRowBefore job low high settled (place + 1)) so_far.rows row (each_kept (IsRowBefore job low high settled place) (IsRowBefore job low high settled (place + 1)) (wider place) so_far.rows so_far.each)
+            (subst (λ (k : Key). IsRowBefore job low high settled (place + 1) k row.1) (sym named) new);
         all = λ k in_k start end. elim (cases_eq (key_place k) place) [
           | inl same ↦
-              let one : row.head.key ≡ k = named ∙ same_key key k ranged.attitude (small_stage key ranged) in_k.attitude (small_stage k in_k) (here ∙ sym same) in
-              said_push_new k so_far.rows (row_said row) one (said_nowhere k so_far.rows (λ said e.
+              let one : row.0 ≡ k = named ∙ same_key key k ranged.attitude (small_stage key ranged) in_k.attitude (small_stage k in_k) (here ∙ sym same) in
+              said_push_new k so_far.rows row one (said_nowhere k so_far.rows (λ said e.
               let before = (said_among (IsRowBefore job low high settled place) k said so_far.rows so_far.each e).before in
               omega (arith, before, same)))
               ∙ (sym says ∙ ap (said_in settled) (sym named ∙ one))
           | inr other ↦
-              said_push_other k so_far.rows (row_said row) (λ one. other (sym (ap key_place (sym named ∙ one)) ∙ here))
+              said_push_other k so_far.rows row (λ one. other (sym (ap key_place (sym named ∙ one)) ∙ here))
               ∙ so_far.all k in_k start (let no = other in omega (arith, end, no))
         ];
       }
     where
-      earlier : (k : Key) (said : Settled) → IsRowBefore job low high settled place k said → KeyIsBefore k (row_said row).0
+      earlier : (k : Key) (said : Settled) → IsRowBefore job low high settled place k said → KeyIsBefore k row.0
       earlier k said old =
           let before = old.before in
           let here = at.1 in
@@ -258,14 +257,6 @@ module _ (job : JobData) (is_job : IsJob job) (low high : ℕ) (settled : Settle
   may_stand proved are place key said row =
       let last = row.range.last in
       settled_said job is_job proved key said row.range.of_job (omega (arith, last, below)) (are key said row.range.of_job row.says)
-
-  -- there are no more rows than keys
-  pub few_before : (proved : Key → Worth) → AreSettledBy job proved settled → (place : ℕ) (t : TableData) → AreRowsBefore job low high settled place t → length t.rows ≤ 589824
-  few_before proved are place t so_far =
-      let form = rows_form job so_far.rows so_far.up (each_kept (IsRowBefore job low high settled place) (IsSaidOf job) (may_stand proved are place) so_far.rows so_far.each) in
-      let few = few_rows job is_job (heads so_far.rows) (record { each = form.each_row; order = form.row_order }) in
-      let same : length t.rows ≡ length (heads so_far.rows) = ap (λ (x : TableData). length x.rows) so_far.written in
-      omega (arith, few, same)
 
   -- each note is of one of the rows
   pub notes_before : (proved : Key → Worth) → AreSettledBy job proved settled → (place : ℕ) (t : TableData) → AreRowsBefore job low high settled place t → All (λ note. note.row < length t.rows) t.notes

@@ -1,6 +1,6 @@
 -- What a settled table proves is what the base and the settled keys prove, so that its new rows are settled's.
-use Rattle.std.proofs.Common.{◌≡◌, inl, inr, ℕ, ◌-◌, false, List, Option, Some, None, Result, Ok, Err, refl, sym, ◌∙◌, ap, subst, arith}
-use Rattle.std.specs.Prelude.{IfOk, max, option_map}
+use Rattle.std.proofs.Common.{◌≡◌, inl, inr, ℕ, ◌-◌, false, List, Option, Some, None, refl, sym, ◌∙◌, ap, subst, arith}
+use Rattle.std.specs.Prelude.{max, option_map}
 use Rattle.std.proofs.lemmas.Bool.{false≢true}
 use Rattle.std.proofs.lemmas.Int.{clamps}
 use Rattle.std.proofs.lemmas.Option.{none-some, slice_get_cases}
@@ -124,8 +124,3 @@ pub settled_merge : (job : JobData) (base new t : TableData) (low high : ℕ) (s
 settled_merge job base new t low high settled rows same is_base has says are is keeps =
     let is_t = keeps job is_base says.form in
     (is_settled job base new t low high settled is_base is_t has says (subst (λ (r : List RowHead). AreSettled job r settled) same are) is, is_t)
-
--- what holds of a result in two ways holds in both
-pub ok_two : {X E : Type 0} (r : Result X E) (P Q R : X → Type 0) → IfOk r P → IfOk r Q → ((x : X) → P x → Q x → R x) → IfOk r R
-ok_two (Ok x) P Q R first second to = to x first second
-ok_two (Err e) P Q R first second to = tt

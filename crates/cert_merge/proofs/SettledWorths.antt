@@ -1,6 +1,6 @@
 -- What is found of a set: the first reasons, the next keys and the least that they come to, one by one.
 use Rattle.std.proofs.Common.{◌≡◌, ◌≢◌, inl, inr, ℕ, true, false, ◌+◌, ◌*◌, ◌/◌, ◌%◌, ◌<◌, ◌≤◌, List, length, set, get_or, replicate, Option, Some, None, refl, sym, ◌∙◌, ap, subst, arith}
-use Rattle.std.specs.Prelude.{◌⊎◌, IfSome, option_map}
+use Rattle.std.specs.Prelude.{IfSome, option_map}
 use Rattle.std.proofs.lemmas.Bool.{cases_lt, false≢true}
 use Rattle.std.proofs.lemmas.Bool.Decides.{eqb_tells}
 use Rattle.std.proofs.lemmas.Int.{clamps}
@@ -12,9 +12,10 @@ use Rattle.brake_base.specs.declared.stroke.Key.{Key}
 use Rattle.brake_base.specs.declared.stroke.Worth.{Worth}
 use Rattle.brake_base.specs.declared.stroke.Worth.TheVariants.{Cost, Blocked}
 use Rattle.brake_base.specs.declared.reason.Reason.{Reason}
+use Rattle.brake_base.specs.Masks.{union}
 use Rattle.brake_base.specs.Worths.{plus, greater}
 use Rattle.job_setup.specs.Setup.{JobData, bend_count, stage_count}
-use Rattle.job_setup.specs.StrokeGroup.{is_lead}
+use Rattle.job_setup.specs.StrokeGroup.{group_of, is_lead}
 use Rattle.job_setup.specs.ValidJob.{IsJob}
 use Rattle.handling_cost.specs.Bound.{bound_of}
 use Rattle.cert_lines.specs.declared.row_head.RowHead.{RowHead}
@@ -23,7 +24,6 @@ use Rattle.cert_merge.specs.declared.settled_sets.SettledSets.{SettledSets}
 use Rattle.cert_merge.specs.Entries.{Settled}
 use Rattle.cert_merge.specs.TableChecks.{proved_by, IsWorthIn}
 use Rattle.cert_merge.proofs.ProvedWorths.{row_small, bound_proved, row_proved, greater_small}
-use Rattle.cert_merge.proofs.SetLemmas.{after_by_mask}
 use Rattle.handling_cost.specs.StepCost.{IsKeyOf, IsActionAt, attitude_at, key_after, cost_to}
 use Rattle.cert_lines.specs.Lines.{action_at}
 use Rattle.cert_lines.specs.Lines.{IsWorth}
@@ -116,6 +116,15 @@ firsts_all job mask count reasons all filled key same number = elim (cases_lt nu
   | inr past ↦ subst (IsFirstNoted job key number) (sym (filled.rest number past)) (first_beyond job key number (λ at. let below = at.0 in omega (arith, below, all, past)))
 ]
 
+-- where an action leads depends on the folded bends alone
+after_by_mask : (job : JobData) (a b : Key) (action : Action) → a.mask ≡ b.mask → key_after job a action ≡ key_after job b action
+unfolding key_after
+after_by_mask job a b action same = λ i. record {
+  mask = union (same i) (group_of job (same i) action.bend);
+  attitude = attitude_at job (same i) action;
+  stage = action.stage;
+}
+
 -- ---- the next keys
 module _ (job : JobData) (proved : Key → Worth) (mask : Mask) (reasons : ℕ → Option Reason) where
   pub record IsNextAt (number : ℕ) (next : Option NextKey) : Type 0 where
@@ -157,32 +166,6 @@ module _ (job : JobData) (proved : Key → Worth) (mask : Mask) (reasons : ℕ �
     | inl less ↦ (filled.done number less).ready next e
     | inr past ↦ absurd (none-some next (sym (filled.rest number past) ∙ e))
   ]
-
--- ---- the least
-module _ (job : JobData) (key : Key) (nexts : List (Option NextKey)) where
-  -- what one of the first so many next keys comes to
-  pub record IsAfterBelow (count : ℕ) (worth : Worth) : Type 0 where
-    pub number : ℕ
-    pub less : number < count
-    pub next : NextKey
-    pub at : get_or nexts number None ≡ Some next
-    pub is : worth ≡ worth_after job key next
-
-  wider : (count : ℕ) (worth : Worth) → IsAfterBelow count worth → IsAfterBelow (count + 1) worth
-  wider count worth among = let less = among.less in record { number = among.number; less = omega (arith, less); next = among.next; at = among.at; is = among.is }
-
-  -- or none at this number
-  pub least_same : (count : ℕ) (least : Worth) → get_or nexts count None ≡ None → IsLeastWorth (IsAfterBelow count) least → IsLeastWorth (IsAfterBelow (count + 1)) least
-  least_same count least none so_far = record {
-    one = elim so_far.one [ inl blocked ↦ inl blocked | inr among ↦ inr (wider count least among) ];
-    least = λ other among. elim (eqb_tells among.number count) [
-      | inl here ↦ absurd (none-some among.next (sym none ∙ (ap (λ (n : ℕ). get_or nexts n None) (sym here.1) ∙ among.at)))
-      | inr there ↦
-          let less = among.less in
-          let no = there.1 in
-          so_far.least other (record { number = among.number; less = omega (arith, less, no); next = among.next; at = among.at; is = among.is })
-    ];
-  }
 
 -- ---- the keys of a set
 -- a key is that of its number

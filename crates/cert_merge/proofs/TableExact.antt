@@ -1,6 +1,5 @@
 -- A text gives a table exactly where it is that of the table.
-use Rattle.std.proofs.Common.{◌≡◌, ℕ, ◌+◌, ◌^◌, ◌≤◌, List, [], ◌∷◌, ◌++◌, length, Result, Ok, Err, refl, sym, ap, subst, ◌∙◌, inl, inr, arith}
-use Rattle.std.specs.Prelude.{◌⊎◌}
+use Rattle.std.proofs.Common.{◌≡◌, ℕ, ◌+◌, ◌^◌, ◌≤◌, List, [], ◌∷◌, ◌++◌, length, Result, Ok, Err, refl, sym, ap, subst, ◌∙◌, arith}
 use Rattle.std.specs.List.{flat_map, enumerate_from}
 use Rattle.std.specs.Result.{result_ok}
 use Rattle.std.proofs.lemmas.List.{map-append}
@@ -10,7 +9,6 @@ use Rattle.cert_lines.specs.declared.format.TextKind.TheVariants.{Table}
 use Rattle.plan_lines.specs.declared.item.Item.{Item}
 use Rattle.plan_lines.specs.declared.item.Item.TheVariants as given
 use Rattle.plan_lines.specs.declared.item.CertFault.{CertFault}
-use Rattle.plan_lines.specs.declared.item.CertFault.TheVariants as faults
 use Rattle.plan_cert.specs.Cert.{CertData}
 use Rattle.plan_lines.specs.Items.{items}
 use Rattle.plan_cert.specs.CertItems.{rows_items}
@@ -80,14 +78,6 @@ text_of_given text file e = by_file (file_of Table text) refl e
 ok_not_err : (r : Result TableFileData CertFault) (file : TableFileData) (fault : CertFault) → r ≡ Ok file → r ≡ Err fault → ⊥
 ok_not_err r file fault one two = absurd (cc)
 
-pub none_refused : (text : List ℕ) (fault : CertFault) → (fault ≡ faults.NoMemory) ⊎ (table_file_of text ≡ Err fault) → (fault ≡ faults.NoMemory) ⊎ ((file : TableFileData) → IsTextOfTable file text → ⊥)
-none_refused text fault (inl memory) = inl memory
-none_refused text fault (inr refused) = inr (λ file is. ok_not_err (table_file_of text) file fault (text_gives text file is) refused)
-
 -- a text that is refused is no table's
 pub no_table : (text : List ℕ) (fault : CertFault) → table_file_of text ≡ Err fault → IsNoTable text fault
 no_table text fault refused = record { none = λ file is. ok_not_err (table_file_of text) file fault (text_gives text file is) refused; first = refused }
-
--- a text is that of one table of one job
-pub one_table : (text : List ℕ) (file other : TableFileData) → IsTextOfTable file text → IsTextOfTable other text → file ≡ other
-one_table text file other first second = same_Some file other (ap result_ok (sym (text_gives text file first) ∙ text_gives text other second))

@@ -19,10 +19,6 @@ pub not_false : (t : Bool) → not t ≡ false → t ≡ true
 not_false true is = refl
 not_false false is = sym is
 
--- nothing is given so far
-pub not_begun : (text rows : List ℕ) → GoesOn text text rows rows
-not_begun text rows = record { piece = []; text = sym (append-nil text); rest = refl }
-
 -- more of the rows is given
 pub gone_further : (old middle new from next later here : List ℕ) → GoesOn old middle from next → new ≡ middle ++ here → next ≡ here ++ later → GoesOn old new from later
 gone_further old middle new from next later here before told split = record {

@@ -2,9 +2,7 @@ pub mod Entries
 pub mod Table
 pub mod Merged
 pub mod MergeSteps
-pub mod NotedRows
 pub mod TableChecks
-pub mod SetActions
 pub mod TableTexts
 pub mod ProvedTable
 pub mod ReadRows

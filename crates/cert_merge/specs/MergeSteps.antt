@@ -1,16 +1,13 @@
 -- How the rows of two tables are merged from the front and written down.
-use Rattle.std.specs.Prelude.{ℕ, zero, suc, ◌<◌, ◌≤◌, Bool, List, [], ◌∷◌, ◌++◌, length, map, drop}
-use Rattle.std.specs.Prelude.{All, AllPairs, Option, Some, None, slice_index_or, if◌then◌else◌}
+use Rattle.std.specs.Prelude.{ℕ, zero, suc, Bool, List, [], ◌∷◌, ◌++◌, length, map}
+use Rattle.std.specs.Prelude.{Option, Some, None, if◌then◌else◌}
 use Rattle.brake_base.specs.declared.stroke.Key.{Key}
 use Rattle.brake_base.specs.declared.reason.Reason.{Reason}
-use Rattle.brake_base.specs.Keys.{key_numbers, KeyIsBefore}
+use Rattle.brake_base.specs.Keys.{key_numbers}
 use Rattle.cert_lines.specs.declared.row_head.RowHead.{RowHead}
 use Rattle.plan_lines.specs.declared.note.Note.{Note}
-use Rattle.cert_merge.specs.declared.noted_row.NotedRow.{NotedRow}
-use Rattle.cert_merge.specs.declared.merged.Taken.{Taken}
 use Rattle.cert_merge.specs.declared.merged.Next.{Next}
 use Rattle.cert_merge.specs.declared.merged.Next.TheVariants.{First, Second, Both}
-use Rattle.plan_cert.specs.WellFormed.{NoteIsBefore}
 use Rattle.cert_merge.specs.Entries.{Settled, stands_before, joined}
 use Rattle.cert_merge.specs.Merged.{rows_said}
 use Rattle.cert_merge.specs.Table.{TableData}
@@ -64,50 +61,16 @@ flat row (said ∷ more) = notes_upto row said.1.reasons most_actions ++ flat (s
 abbrev pub written : Rows → TableData
 written rows = record { rows = heads rows; notes = flat 0 rows }
 
--- what a row says
-abbrev pub row_said : NotedRow → Key × Settled
-row_said row = (
-  row.head.key,
-  record {
-    worth = row.head.worth;
-    reasons = λ action. slice_index_or row.reasons action None;
-  },
-)
-
 -- what the rows of a table say
 abbrev pub table_said : TableData → Rows
 table_said t = rows_said t.notes 0 t.rows
 
 -- a table with another row behind the others
-abbrev pub with_row : TableData → NotedRow → TableData
+abbrev pub with_row : TableData → Key × Settled → TableData
 with_row t row = record {
-  rows = t.rows ++ row.head ∷ [];
-  notes = t.notes ++ notes_upto (length t.rows) (row_said row).1.reasons most_actions;
+  rows = t.rows ++ head_of row ∷ [];
+  notes = t.notes ++ notes_upto (length t.rows) row.1.reasons most_actions;
 }
-
--- a table in order, with no more rows than keys and no more actions than a job can have
-pub record IsOrderly (t : TableData) : Type 0 where
-  pub rows : AllPairs KeyIsBefore (map (λ row. row.key) t.rows)
-  pub notes : AllPairs NoteIsBefore t.notes
-  pub of_row : All (λ note. note.row < length t.rows) t.notes
-  pub few_actions : All (λ note. note.action < 144) t.notes
-  pub few_rows : length t.rows ≤ 589824
-
--- the rows that are left of two tables, of which some were taken, in the order of the merge
-abbrev pub left_of : TableData → TableData → Taken → Rows
-left_of a b taken =
-    merge_rows (drop taken.first (table_said a)) (drop taken.second (table_said b))
-
--- so many rows may have been taken
-pub record IsTaken (a b : TableData) (taken : Taken) : Type 0 where
-  pub first : taken.first ≤ length a.rows
-  pub second : taken.second ≤ length b.rows
-
--- the key of the row of a number
-abbrev pub key_in : List RowHead → ℕ → Option Key
-key_in [] row = None
-key_in (head ∷ heads) zero = Some head.key
-key_in (head ∷ heads) (suc row) = key_in heads row
 
 -- which of two next keys comes first
 abbrev pub next_of : Option Key → Option Key → Next

@@ -5,8 +5,8 @@ use Rattle.plan_lines.specs.declared.item.CertFault.{CertFault}
 use Rattle.plan_lines.specs.declared.item.CertFault.TheVariants.{NoMemory}
 use Rattle.cert_check.specs.declared.fault.CheckFault.{CheckFault}
 use Rattle.cert_check.specs.declared.fault.CheckFault.TheVariants as check
-use Rattle.cert_merge.specs.declared.checked.TableFault.{TableFault}
-use Rattle.cert_merge.specs.declared.checked.TableFault.TheVariants.{BadReason, NotClosed}
+use Rattle.cert_merge.specs.declared.proved.TableFault.{TableFault}
+use Rattle.cert_merge.specs.declared.proved.TableFault.TheVariants.{BadReason, NotClosed}
 use Rattle.cert_merge.specs.declared.proved.ProveFault.{ProveFault}
 use Rattle.cert_merge.specs.declared.proved.ProveFault.TheVariants.{Text, Rows}
 use Rattle.cert_merge.specs.declared.proved.ProvedTable.{ProvedTable}

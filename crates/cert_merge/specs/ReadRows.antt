@@ -8,7 +8,7 @@ use Rattle.cert_check.specs.declared.fault.CheckFault.TheVariants.{Cert, BadReas
 use Rattle.cert_check.specs.declared.fault.CheckFault.TheVariants.{NoMemory}
 use Rattle.cert_check.specs.RowNotes.{IsTesting}
 use Rattle.cert_check.specs.ReadCert.{KeepsNotes}
-use Rattle.cert_merge.specs.declared.checked.TableFault.TheVariants as faults
+use Rattle.cert_merge.specs.declared.proved.TableFault.TheVariants as faults
 use Rattle.cert_merge.specs.declared.proved.ProvedTable.{ProvedTable}
 use Rattle.cert_merge.specs.Table.{TableData, IsTable, IsClosedTable}
 use Rattle.cert_merge.specs.TableTexts.{IsTextOfTable}

@@ -11,10 +11,10 @@ use Rattle.cert_lines.specs.Lines.{lines_text}
 use Rattle.plan_cert.specs.CertText.{rows_lines}
 use Rattle.plan_lines.specs.NoteLines.{number_at}
 use Rattle.row_text.specs.Notes.{SetNotes, IsAmong, reason_at}
-use Rattle.cert_merge.specs.declared.noted_row.NotedRow.{NotedRow}
 use Rattle.cert_merge.specs.declared.set_writer.SetWriter.{SetWriter}
 use Rattle.cert_merge.specs.declared.settled_sets.SettledSet.{SettledSet}
 use Rattle.cert_merge.specs.declared.settled_sets.SettledSets.{SettledSets}
+use Rattle.cert_merge.specs.Entries.{Settled}
 use Rattle.cert_merge.specs.Table.{TableData}
 use Rattle.cert_merge.specs.MergeSteps.{with_row}
 use Rattle.cert_merge.specs.Settling.{said_by}
@@ -54,11 +54,8 @@ pub record IsWriterOf (stages : ℕ) (settled : SettledSets) (w : SetWriter) : T
       → AreNotesOf set.reasons w.writer w.notes
 
 -- the row of a key of a set
-abbrev pub row_of : SettledSet → Key → NotedRow
-row_of set key = record {
-  head = record { key = key; worth = (said_by set key).worth };
-  reasons = set.reasons;
-}
+abbrev pub row_of : SettledSet → Key → Key × Settled
+row_of set key = (key, said_by set key)
 
 -- the lines of a table's rows, each with its notes
 abbrev pub rows_text : ℕ → TableData → List ℕ

@@ -7,34 +7,22 @@ use Rattle.cert_lines.specs.declared.row_head.RowHead.{RowHead}
 use Rattle.plan_lines.specs.declared.note.Note.{Note}
 use Rattle.plan_cert.specs.WellFormed.{AreRows}
 use Rattle.plan_cert.specs.GoodCert.{HaveRow, HaveNote}
-use Rattle.cert_merge.specs.declared.table.Table.{Table}
-use Rattle.cert_merge.specs.declared.table.TableFile.{TableFile}
 
 -- settled keys with what was proved of them, and the reasons that were found there
 pub record TableData : Type 0 where
   pub rows : List RowHead
   pub notes : List Note
 
-abbrev pub table_data : Table → TableData
-table_data t = record { rows = t.rows.items; notes = t.notes.items }
-
 -- a job, and a table of it
 pub record TableFileData : Type 0 where
   pub job : JobData
   pub table : TableData
-
-abbrev pub table_file_data : TableFile → TableFileData
-table_file_data f = record { job = f.job; table = table_data f.table }
 
 -- the table is well formed for a valid job: rows of the job in strict order of their keys, and
 -- notes in strict order of their rows and actions
 pub record IsTable (job : JobData) (t : TableData) : Type 0 where
   pub valid : IsJob job
   pub rows : AreRows job t.rows t.notes
-
--- both tables are well formed for one job
-abbrev pub AreOfOneJob : TableData → TableData → Type 0
-AreOfOneJob a b = (job : JobData) × IsTable job a × IsTable job b
 
 -- the table is closed: each of its rows meets the condition on rows
 abbrev pub IsClosedTable : JobData → TableData → Type 0

@@ -1,6 +1,6 @@
 -- What a check of a table comes to. Worths are in tenths of a second.
-use Rattle.std.specs.Prelude.{◌≡◌, ℕ, ◌+◌, ◌<◌, ◌≤◌, List, length, slice_index_or, Option, Some}
-use Rattle.std.specs.Prelude.{None, Result, Ok, Err}
+use Rattle.std.specs.Prelude.{◌≡◌, ℕ, ◌<◌, ◌≤◌, List, length, slice_index_or, Option, Some}
+use Rattle.std.specs.Prelude.{None}
 use Rattle.brake_base.specs.declared.stroke.Key.{Key}
 use Rattle.brake_base.specs.declared.stroke.Step.{Step}
 use Rattle.brake_base.specs.declared.stroke.Worth.{Worth}
@@ -12,11 +12,10 @@ use Rattle.handling_cost.specs.Plan.{IsPlan, total, start}
 use Rattle.handling_cost.specs.Proved.{proved_of}
 use Rattle.cert_lines.specs.declared.row_head.RowHead.{RowHead}
 use Rattle.plan_cert.specs.GoodCert.{worths_in, HaveRow}
-use Rattle.plan_cert.specs.RowFaults.{RowsAreAccounted}
 use Rattle.plan_cert.specs.RowFaults.{IsFirstFault, IsBadReason, IsNotClosed}
-use Rattle.cert_merge.specs.declared.checked.TableFault.{TableFault}
-use Rattle.cert_merge.specs.declared.checked.TableFault.TheVariants.{BadReason, NotClosed}
-use Rattle.cert_merge.specs.Table.{TableData, IsClosedTable}
+use Rattle.cert_merge.specs.declared.proved.TableFault.{TableFault}
+use Rattle.cert_merge.specs.declared.proved.TableFault.TheVariants.{BadReason, NotClosed}
+use Rattle.cert_merge.specs.Table.{TableData}
 
 -- every plan costs at least the worth, and there is none where it is Blocked
 abbrev pub CostsAtLeast : JobData → Worth → Type 0
@@ -33,19 +32,6 @@ IsTableFault job t (BadReason row action) =
     IsFirstFault job t.rows t.notes row action (IsBadReason job t.notes row action)
 IsTableFault job t (NotClosed row action) =
     IsFirstFault job t.rows t.notes row action (IsNotClosed job t.rows t.notes row action)
-
--- the table is closed, and this is proved of the start; or it isn't, for this as the first cause
-abbrev pub TableAnswer : JobData → TableData → Result Worth TableFault → Type 0
-TableAnswer job t (Ok worth) = IsClosedTable job t × (worth ≡ proved_by job t.rows start)
-TableAnswer job t (Err fault) = IsTableFault job t fault × (IsClosedTable job t → ⊥)
-
--- where all rows before that of a number are accounted for, so is that row; or it has the first
--- action that isn't
-abbrev pub RowAnswer : JobData → TableData → ℕ → Result (Unit {0}) TableFault → Type 0
-RowAnswer job t row (Ok _) =
-    RowsAreAccounted job t.rows t.notes row → RowsAreAccounted job t.rows t.notes (row + 1)
-RowAnswer job t row (Err fault) =
-    RowsAreAccounted job t.rows t.notes row → IsTableFault job t fault
 
 -- the rows have this worth for the key, or they have none
 abbrev pub IsWorthIn : List RowHead → Key → Option Worth → Type 0

@@ -1,12 +1,10 @@
 -- A whole table file from the items of its text.
-use Rattle.std.specs.Prelude.{◌≡◌, ◌⊎◌, List, [], ℕ, Result, Ok, Err}
+use Rattle.std.specs.Prelude.{◌≡◌, List, [], ℕ, Result, Ok, Err}
 use Rattle.plan_lines.specs.declared.item.CertFault.{CertFault}
-use Rattle.plan_lines.specs.declared.item.CertFault.TheVariants as faults
 use Rattle.cert_lines.specs.declared.format.TextKind.TheVariants as kinds
 use Rattle.plan_cert.specs.CertReading.{CertFileData, file_of}
 use Rattle.plan_cert.specs.ExactTexts.{IsTableText}
-use Rattle.cert_merge.specs.declared.table.TableFile.{TableFile}
-use Rattle.cert_merge.specs.Table.{TableData, TableFileData, table_file_data}
+use Rattle.cert_merge.specs.Table.{TableData, TableFileData}
 
 abbrev pub empty_table : TableData
 empty_table = record { rows = []; notes = [] }
@@ -32,13 +30,6 @@ table_file_of text = as_table (file_of kinds.Table text)
 -- the text is the one that the table of the job has
 abbrev pub IsTextOfTable : TableFileData → List ℕ → Type 0
 IsTextOfTable file text = IsTableText file.job file.table.rows file.table.notes text
-
--- an accepted text is that of the table that it gives; one that is refused for another cause than
--- memory is no table's
-abbrev pub IsExact : List ℕ → Result TableFile CertFault → Type 0
-IsExact text (Ok file) = IsTextOfTable (table_file_data file) text
-IsExact text (Err fault) =
-    (fault ≡ faults.NoMemory) ⊎ ((file : TableFileData) → IsTextOfTable file text → ⊥)
 
 -- a text that is a table's gives this table
 abbrev pub GivesBack : List ℕ → Type 0

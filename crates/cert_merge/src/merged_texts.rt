@@ -2,11 +2,12 @@
 ghost use Rattle.std.specs.Prelude.{IfOk};
 ghost use Rattle.cert_lines.specs.Lines.{IsWorth};
 ghost use Rattle.cert_merge.specs.Table.{TableData};
+ghost use Rattle.cert_merge.specs.Merged.{MergeLaws};
 ghost use Rattle.cert_merge.specs.MergedRows.{AreTextsOf};
 ghost use Rattle.cert_merge.specs.MergedTexts.{IsMergeOfTexts};
 
-use crate::checked::proved;
 use crate::merged_rows::{MergedRows, merged_rows};
+use crate::proved_keys::proved;
 use brake_base::Worth;
 use handling_cost::start_key;
 use job_setup::Job;
@@ -20,8 +21,10 @@ pub struct MergedTexts<'a> {
     pub at_start: Worth,
 }
 
-/// The merge of two tables of a job, as `merge` gives it, by their texts. A row that stays is its bytes;
-/// rows of one key with one worth and other notes alone are put together note by note.
+/// The rows of two tables of a job by their keys, from their texts: a key of one keeps its row and its notes;
+/// a key of both keeps the greater worth with its notes; at equal worth the notes are united, and of two
+/// reasons against one action the first stays. A row that stays is its bytes; rows of one key with one worth
+/// and other notes alone are put together note by note.
 pub fn merge_texts<'a>(
     alloc: Global,
     job: &Job,
@@ -32,6 +35,7 @@ pub fn merge_texts<'a>(
     ensures merged { IfOk result (λ merged. (a b : TableData)
         → AreTextsOf job.now a b first.now second.now → IsMergeOfTexts job.now a b merged) }
     ensures small { IfOk result (λ merged. IsWorth merged.at_start) }
+    ensures laws { MergeLaws }
 {
     job.recall_valid();
     let rows = merged_rows(alloc, job, first, second)?;

@@ -4,10 +4,11 @@ ghost use Rattle.brake_io.specs.Pieces.{HasPassed, MayFollow};
 ghost use Rattle.cert_lines.specs.Lines.{IsWorth};
 ghost use Rattle.cert_merge.specs.Table.{TableData};
 ghost use Rattle.cert_merge.specs.TableChecks.{CostsAtLeast};
+ghost use Rattle.cert_merge.specs.TableTexts.{GivesBack};
 ghost use Rattle.cert_merge.specs.ReadRows.{AreTableParts, ProvedAnswer};
 ghost use Rattle.cert_merge.specs.ProvedTable.{ProvesText};
 
-use crate::checked::{TableFault, proved};
+use crate::proved_keys::proved;
 use crate::read_rows::{read_rows, read_rows_from};
 use brake_base::Worth;
 use brake_io::{Reader, Window};
@@ -16,6 +17,15 @@ use handling_cost::start_key;
 use job_setup::Job;
 use plan_cert::CertFault;
 use std::alloc::Global;
+
+/// Why a table's rows don't meet their condition.
+#[derive(Clone, Copy, Debug, PartialEq, Eq)]
+pub enum TableFault {
+    /// A noted reason doesn't hold.
+    BadReason { row: u32, action: u8 },
+    /// An action without a note isn't closed.
+    NotClosed { row: u32, action: u8 },
+}
 
 /// Why a table's text isn't accepted.
 #[derive(Clone, Copy, Debug, PartialEq, Eq)]
@@ -65,6 +75,9 @@ pub fn prove_text(alloc: Global, text: &[u8]) -> Result<ProvedTable, ProveFault>
 
     // Every plan costs at least what is proved of the start key; there is none where it is Blocked.
     ensures truth { IfOk result (λ proved. CostsAtLeast proved.job proved.at_start) }
+
+    // A text that is a table's gives this table.
+    ensures written { GivesBack text.now }
 {
     let read = read_rows(alloc, text)?;
     Ok(prove_rows(alloc, read)?)

@@ -13,8 +13,7 @@ ghost use Rattle.cert_merge.specs.Settling.{AreReady, IsReady, IsLeastAfter, pla
 ghost use Rattle.stage_lanes.specs.Lanes.{AreLanes};
 ghost use Rattle.cert_merge.specs.SetWorths.{number_of, worth_of, lane_at, lanes_of, AreLaneRows, AreProved, cost_of_change, AreChangedFrom, AreChanged, IsSettledByLanes};
 
-use crate::checked::action_count;
-use crate::settled_sets::NextKey;
+use crate::settled_sets::{NextKey, action_count};
 use brake_base::{Key, Mask, Turn, Worth};
 use job_setup::Job;
 use set_facts::LaneFacts;

@@ -1,9 +1,7 @@
 //! The settling of all keys of a set of folded bends, over what is known of greater masks.
-ghost use Rattle.std.specs.Prelude.{◌≡◌, ◌↔◌, ◌⊎◌, ℕ, Option, IfSome, ◌+◌, ◌-◌, ◌*◌, ◌^◌, ◌<◌, ◌≤◌, IsTrue, Some, None, length, slice_get, slice_index_or, option_map};
+ghost use Rattle.std.specs.Prelude.{◌≡◌, ◌↔◌, ℕ, Option, IfSome, ◌+◌, ◌-◌, ◌*◌, ◌^◌, ◌<◌, ◌≤◌, IsTrue, Some, None, length, slice_get, slice_index_or, option_map};
 ghost use Rattle.brake_base.specs.declared.stroke.Key.{Key};
 ghost use Rattle.brake_base.specs.declared.reason.Reason.{Reason};
-ghost use Rattle.brake_base.specs.declared.stroke.Worth.TheVariants.{Blocked};
-ghost use Rattle.brake_base.specs.Worths.{IsAtMost};
 ghost use Rattle.fold_boxes.specs.Places.{ArePlaces};
 ghost use Rattle.job_setup.specs.Setup.{bend_count, stage_count, shape_of};
 ghost use Rattle.handling_cost.specs.StepCost.{IsKeyOf, IsActionAt, key_after};
@@ -11,14 +9,12 @@ ghost use Rattle.handling_cost.specs.Bound.{bound_of};
 ghost use Rattle.cert_lines.specs.Lines.{action_at};
 ghost use Rattle.plan_cert.specs.WellFormed.{AreRowsOf};
 ghost use Rattle.cert_lines.specs.Lines.{IsWorth};
-ghost use Rattle.cert_merge.specs.MergeSteps.{row_said};
-ghost use Rattle.cert_merge.specs.Settled.{AreFirstNoted, IsFirstNoted, IsFirstFor, capped};
-ghost use Rattle.cert_merge.specs.Settling.{AreNext, AreReady, AreSettled, IsAmong, IsLeastAfter, IsNextOf, IsReady, IsSettledSet, place_in_set, proved_over, said_by, said_in, with_worth, worth_after};
+ghost use Rattle.cert_merge.specs.Settled.{AreFirstNoted, IsFirstNoted};
+ghost use Rattle.cert_merge.specs.Settling.{AreNext, AreReady, AreSettled, IsAmong, IsNextOf, IsReady, IsSettledSet, place_in_set, proved_over, said_by, said_in, with_worth};
 
-use crate::checked::{action_at, action_count, greater, worth_of};
-use crate::noted_row::NotedRow;
+use crate::proved_keys::{greater, worth_of};
 use crate::set_worths::set_worths;
-use brake_base::{Action, Key, Mask, Place, Reason, Turn, Worth};
+use brake_base::{Action, Key, Mask, Place, Reason, Worth, action_of};
 use fold_boxes::place;
 use handling_cost::is_lead;
 use job_setup::{Job, group};
@@ -67,20 +63,6 @@ impl SettledSet {
     {
         self.worths[place_in_set(key)]
     }
-
-    /// The row of a key of the set.
-    fn row(&self, key: &Key) -> NotedRow
-        requires { key.now.stage < 6 }
-        ensures { row_said result ≡ (key.now, said_by self.now key.now) }
-    {
-        NotedRow {
-            head: RowHead {
-                key: *key,
-                worth: self.worth(key),
-            },
-            reasons: self.reasons,
-        }
-    }
 }
 
 impl SettledSets {
@@ -103,16 +85,6 @@ impl SettledSets {
         mask.0 <= self.high && usize::from(self.high - mask.0) < self.sets.len()
     }
 
-    /// The row of a key that is settled.
-    pub fn row(&self, key: &Key) -> NotedRow
-        requires mask { IsAmong self.now key.now.mask }
-        requires stage { key.now.stage < 6 }
-        ensures key { result.head.key ≡ key.now }
-        ensures said { said_in self.now key.now ≡ Some (row_said result).1 }
-    {
-        self.set(key.mask).row(key)
-    }
-
     /// The set of a mask that is settled.
     pub fn set(&self, mask: Mask) -> &SettledSet
         requires { IsAmong self.now mask }
@@ -120,6 +92,22 @@ impl SettledSets {
     {
         &self.sets[usize::from(self.high - mask.0)]
     }
+}
+
+/// The number of the actions of all bends at all stages.
+pub(crate) fn action_count(job: &Job) -> u8
+    ensures value { result ≡ 2 * bend_count job.now * stage_count job.now }
+    ensures few { result ≤ 144 }
+{
+    2 * job.bends() * job.stages()
+}
+
+/// The action of a number.
+fn action_at(job: &Job, number: u8) -> Action
+    requires { number < 2 * bend_count job.now * stage_count job.now }
+    ensures { result ≡ action_at (stage_count job.now) number }
+{
+    action_of(number, job.stages())
 }
 
 /// Settles all keys of a mask.

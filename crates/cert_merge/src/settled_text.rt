@@ -25,8 +25,8 @@ pub struct SettledText<'a> {
     pub at_start: Worth,
 }
 
-/// The text of every key whose mask is `low` to `high`, settled over no base: that of the table
-/// that [`settle`](crate::settle) gives over a table without rows, without the table.
+/// The text of the table of every key whose mask is `low` to `high`, settled over no base: masks
+/// downwards, each by what the rows of greater masks prove.
 pub fn settle_text<'a>(
     alloc: Global,
     job: &Job,
@@ -41,8 +41,8 @@ pub fn settle_text<'a>(
     settled_over(alloc, job, &BaseRows::none(alloc), low, high)
 }
 
-/// The text of every key whose mask is `low` to `high`, settled over the closed table of a text: that
-/// of the table that [`settle`](crate::settle) gives over it, without the two tables. A key of the range
+/// The text of the base, merged with a row for every key whose mask is `low` to `high`, each settled by
+/// what the base, which is a closed table's text, and the rows of greater masks prove. A key of the range
 /// has its new row, since a closed base says nothing of it that the new row doesn't say; the others
 /// have the base's lines.
 pub fn settle_text_over<'a>(

@@ -13,7 +13,7 @@ ghost use Rattle.cert_merge.specs.RowTexts.{said_text};
 ghost use Rattle.cert_merge.specs.UnitedRows.{AreNotesOf, AreOfOneRow, AreReasonsOf};
 
 use crate::merged::united;
-use crate::noted_row::{put_reasons, reasons_in};
+use crate::row_reasons::{put_reasons, reasons_in};
 use crate::row_texts::RowText;
 use brake_base::{Reason, action_number};
 use cert_words::{note, split_word};

@@ -6,9 +6,8 @@ use bb_search::{Outcome, Search, nodes};
 use brake_base::{Back, Quarter, Reason, Worth};
 use job_setup::Job;
 use part_gen::made_job;
-use plan_cert::{Cert, Note, RowHead, write_cert};
+use plan_cert::{Cert, Note, RowHead, read_cert};
 use std::alloc::{AllocError, Global};
-use std::process::Abort;
 use std::test::Fail;
 use test_fixtures::{L_SECTION, LID, MACHINE, STAGE, TOOLS, U_CHANNEL, job_of};
 
@@ -121,19 +120,17 @@ fn outcome_of(alloc: Global, job: &Job, budget: u32) -> Result<Outcome, AllocErr
     Ok(search.run(job))
 }
 
-/// The certificate of the job, searched with ample budget; None where that is used up. What the
-/// search writes has to be its text.
-fn certificate_of(rt: &impl Abort, alloc: Global, job: &Job) -> Result<Option<Cert>, AllocError> {
+/// The certificate of the job, searched with ample budget, as the text that the search writes is
+/// read; None where the budget is used up.
+fn certificate_of(alloc: Global, job: &Job) -> Result<Option<Cert>, Fail> {
     let mut search = Search::open(alloc, job, nodes(job))?;
     match search.run(job) {
         Outcome::Spent => Ok(None),
         _ => {
-            let cert = search.certificate(alloc, job)?;
             let written = search.write(alloc, job)?;
-            let written = written.text.gather(alloc)?;
-            let text = write_cert(alloc, job, &cert)?;
-            assert!(rt; written.as_slice() == text.as_slice());
-            Ok(Some(cert))
+            let text = written.text.gather(alloc)?;
+            let file = read_cert(alloc, text.as_slice())?;
+            Ok(Some(file.cert))
         }
     }
 }
@@ -190,7 +187,7 @@ fn four_keys_settle_the_four_flanges(rt: HostRuntime) -> Result<(), Fail> {
         &outcome_of(alloc, &job, 4)?,
         &Outcome::Best { cost: 400 },
     );
-    let cert = certificate_of(&rt, alloc, &job)?.expect(&rt, "a certificate");
+    let cert = certificate_of(alloc, &job)?.expect(&rt, "a certificate");
     assert!(rt; cert.rows.len() == 4 && cert.steps.len() == 4);
     let steps = cert.steps.as_slice();
     let order = [steps[0], steps[1], steps[2], steps[3]].map(|step| step.action.bend);
@@ -225,7 +222,7 @@ fn the_most_nodes_of_a_job(rt: HostRuntime) -> Result<(), Fail> {
 fn the_u_channel_is_proved(rt: HostRuntime) -> Result<(), Fail> {
     let alloc = rt.alloc();
     let job = job_with(alloc, U_CHANNEL, "[100000]")?;
-    let cert = certificate_of(&rt, alloc, &job)?.expect(&rt, "a certificate");
+    let cert = certificate_of(alloc, &job)?.expect(&rt, "a certificate");
     let steps = [step(2, Back::Parent, 1), step(1, Back::Child, 1)];
     let rows = [
         row(0, Worth::Cost(200)),
@@ -248,7 +245,7 @@ fn the_high_u_channel_has_no_plan(rt: HostRuntime) -> Result<(), Fail> {
     let alloc = rt.alloc();
     let high = U_CHANNEL.replace(alloc, "length = 30000", "length = 80000")?;
     let job = job_with(alloc, &high, "[100000]")?;
-    let cert = certificate_of(&rt, alloc, &job)?.expect(&rt, "a certificate");
+    let cert = certificate_of(alloc, &job)?.expect(&rt, "a certificate");
     let keys = [key(0, 0), key(1, 0), key(1, 2), key(2, 0), key(2, 2)];
     let rows = keys.map(|key| RowHead {
         key,
@@ -280,7 +277,7 @@ fn the_first_made_jobs_have_no_plan(rt: HostRuntime) -> Result<(), Fail> {
 }
 
 #[test]
-fn a_search_writes_the_text_of_its_certificate(rt: HostRuntime) -> Result<(), Fail> {
+fn what_a_search_writes_is_read(rt: HostRuntime) -> Result<(), Fail> {
     let alloc = rt.alloc();
     let high = U_CHANNEL.replace(alloc, "length = 30000", "length = 80000")?;
     let jobs = [
@@ -290,7 +287,7 @@ fn a_search_writes_the_text_of_its_certificate(rt: HostRuntime) -> Result<(), Fa
         job_with(alloc, LID, "[100000]")?,
     ];
     for job in &jobs {
-        let _ = certificate_of(&rt, alloc, job)?.expect(&rt, "a certificate");
+        let _ = certificate_of(alloc, job)?.expect(&rt, "a certificate");
     }
     Ok(())
 }

@@ -1,9 +1,9 @@
-//! Tables of the U channel: written, read, checked and altered.
+//! Tables of the U channel: checked and altered.
 
 use crate::asserts::assert_equal;
 use brake_base::Worth;
-use cert_merge::{ProveFault, TableFault, check_table, prove_text, read_table, write_table};
-use plan_cert::CertFault;
+use cert_merge::{ProveFault, TableFault, prove_text};
+use plan_cert::{CertFault, write_job};
 use std::alloc::{AllocError, Global};
 use std::test::Fail;
 use test_fixtures::{ROWS, VERSION_2_JOB};
@@ -12,19 +12,6 @@ use test_fixtures::{ROWS, VERSION_2_JOB};
 const FIRST: &str = "row 0 0 0 200
 row 1 0 0 130
 x 2 P 0 8
-";
-/// Rows of which one has the key of the second row above, its worth and another reason against the
-/// same action.
-const SECOND: &str = "row 1 0 0 130
-x 2 P 0 1
-x 2 C 0 8
-row 2 0 0 100
-";
-/// Rows of which one is worth more than that of the same key above, and one less.
-const THIRD: &str = "row 0 0 0 none
-x 1 P 0 8
-row 1 0 0 120
-x 2 C 0 1
 ";
 
 /// The first line of a table of the U channel, and the lines of its job.
@@ -39,21 +26,10 @@ fn text_of(alloc: Global, rows: &str) -> Result<String, AllocError> {
     format!(in alloc; "{head}{rows}end\n")
 }
 
-#[test]
-fn a_table_is_written_as_it_was_read(rt: HostRuntime) -> Result<(), Fail> {
-    let alloc = rt.alloc();
-    for rows in ["", FIRST, SECOND, THIRD] {
-        let text = text_of(alloc, rows)?;
-        let file = read_table(alloc, text.as_bytes())?;
-        let again = write_table(alloc, &file.job, &file.table)?;
-        assert_equal(&rt, &again.as_slice(), &text.as_bytes());
-    }
-    Ok(())
-}
-
-/// The refusal of a text.
-fn fault_of(alloc: Global, text: &[u8]) -> Option<CertFault> {
-    read_table(alloc, text).err()
+/// What a text proves of the start, or its first refusal.
+fn proved_of(alloc: Global, text: &[u8]) -> Result<Worth, ProveFault> {
+    let proved = prove_text(alloc, text)?;
+    Ok(proved.at_start)
 }
 
 #[test]
@@ -61,8 +37,9 @@ fn a_beginning_of_a_table_is_unended(rt: HostRuntime) -> Result<(), Fail> {
     let alloc = rt.alloc();
     let text = text_of(alloc, FIRST)?;
     for end in 0..text.len() {
-        let fault = fault_of(alloc, &text.as_bytes()[..end]);
-        assert_equal(&rt, &fault, &Some(CertFault::Unended));
+        let answer = proved_of(alloc, &text.as_bytes()[..end]);
+        let wanted = ProveFault::Text(CertFault::Unended);
+        assert_equal(&rt, &answer, &Err(wanted));
     }
     Ok(())
 }
@@ -88,34 +65,13 @@ fn altered_tables_are_refused_at_their_line(rt: HostRuntime) -> Result<(), Fail>
     let alloc = rt.alloc();
     for (rows, line) in REFUSED {
         let text = text_of(alloc, rows)?;
-        let wanted = CertFault::BadLine { line };
-        assert_equal(&rt, &fault_of(alloc, text.as_bytes()), &Some(wanted));
+        let wanted = ProveFault::Text(CertFault::BadLine { line });
+        assert_equal(&rt, &proved_of(alloc, text.as_bytes()), &Err(wanted));
     }
     let behind = format!(in alloc; "{}x", text_of(alloc, FIRST)?)?;
-    assert_equal(
-        &rt,
-        &fault_of(alloc, behind.as_bytes()),
-        &Some(CertFault::Trailing),
-    );
+    let wanted = ProveFault::Text(CertFault::Trailing);
+    assert_equal(&rt, &proved_of(alloc, behind.as_bytes()), &Err(wanted));
     Ok(())
-}
-
-/// What a text proves of the start, or its first refusal, by way of the table.
-fn answer_of(alloc: Global, text: &str) -> Result<Worth, ProveFault> {
-    let file = match read_table(alloc, text.as_bytes()) {
-        Ok(file) => file,
-        Err(fault) => return Err(ProveFault::Text(fault)),
-    };
-    match check_table(&file.job, &file.table) {
-        Ok(worth) => Ok(worth),
-        Err(fault) => Err(ProveFault::Rows(fault)),
-    }
-}
-
-/// The same in one reading, without the table.
-fn proved_of(alloc: Global, text: &str) -> Result<Worth, ProveFault> {
-    let proved = prove_text(alloc, text.as_bytes())?;
-    Ok(proved.at_start)
 }
 
 #[test]
@@ -125,8 +81,8 @@ fn the_worked_table_proves_the_least_cost(rt: HostRuntime) -> Result<(), Fail> {
     // The bound alone proves it too.
     for rows in [ROWS, "end\n"] {
         let text = format!(in alloc; "{head}{rows}")?;
-        assert_equal(&rt, &answer_of(alloc, &text), &Ok(Worth::Cost(200)));
-        assert_equal(&rt, &proved_of(alloc, &text), &Ok(Worth::Cost(200)));
+        let answer = proved_of(alloc, text.as_bytes());
+        assert_equal(&rt, &answer, &Ok(Worth::Cost(200)));
     }
     Ok(())
 }
@@ -236,8 +192,7 @@ fn altered_tables_are_refused_by_their_first_fault(rt: HostRuntime) -> Result<()
     let text = format!(in alloc; "{head}{ROWS}")?;
     for (old, new, refusal) in FAULTS {
         let text = text.replacen(alloc, old, new, 1)?;
-        assert!(rt; answer_of(alloc, &text) == Err(refusal), "{new}");
-        assert!(rt; proved_of(alloc, &text) == Err(refusal), "{new}");
+        assert!(rt; proved_of(alloc, text.as_bytes()) == Err(refusal), "{new}");
     }
     Ok(())
 }
@@ -248,9 +203,12 @@ fn a_table_of_another_job_gives_that_job(rt: HostRuntime) -> Result<(), Fail> {
     let head = head_of(alloc)?;
     let text = format!(in alloc; "{head}{ROWS}")?;
     let other = text.replace(alloc, "30000 up", "80000 up")?;
-    let file = read_table(alloc, other.as_bytes())?;
-    let again = write_table(alloc, &file.job, &file.table)?;
-    assert_equal(&rt, &again.as_slice(), &other.as_bytes());
-    assert!(rt; again.as_slice() != text.as_bytes());
+    let proved = prove_text(alloc, other.as_bytes())?;
+    let lines = write_job(alloc, &proved.job)?;
+    let mut beginning = Vec::new(alloc);
+    beginning.extend_from_slice(b"brake-table 1\n")?;
+    beginning.extend_from_slice(lines.as_slice())?;
+    assert!(rt; other.as_bytes().starts_with(beginning.as_slice()));
+    assert!(rt; !text.as_bytes().starts_with(beginning.as_slice()));
     Ok(())
 }

@@ -107,11 +107,11 @@ class WideSearch:
                 if said.isdigit() and (wide.cost is None or int(said) < wide.cost):
                     wide.cost, wide.best = int(said), setup
 
-    def run(self) -> Wide:
+    def run(self, with_pairs: bool = True) -> Wide:
         """Tries the singles, of the two next lengths, and then the pairs of the shortest ones, one of which at least
         reaches the longest bend."""
         wide, longest = Wide(), max(self._spans()) - 2 * self.machine["uncovered"]
         self._try(wide, [(station,) for station in self.stations(2)])
-        pairs = combinations(self.stations(1), 2)
+        pairs = combinations(self.stations(1), 2) if with_pairs else ()
         self._try(wide, [pair for pair in pairs if max(station[2] for station in pair) >= longest])
         return wide

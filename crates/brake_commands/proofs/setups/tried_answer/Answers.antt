@@ -2,7 +2,7 @@ use Rattle.std.proofs.Common.{ℕ, List, [], ◌∷◌, Some, None, map, ap, ◌
 use Rattle.setup_choice.specs.Best.{IsBest}
 use Rattle.command_runner.specs.Answers.{stored_data}
 use Rattle.brake_commands.specs.Attempts.{attempt_data, planned_data, tried_all}
-use Rattle.check_command.specs.CheckAnswer.{no_plan_line}
+use Rattle.brake_commands.specs.PlanAnswer.{no_plan_line}
 use Rattle.brake_commands.specs.SetupsAnswer.{best_texts, with_best, without}
 use Rattle.brake_commands.proofs.Trying.{has_planned}
 use Rattle.brake_commands.proofs.Kept.{steps_at}

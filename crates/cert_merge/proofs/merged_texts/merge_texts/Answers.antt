@@ -3,6 +3,7 @@ use Rattle.handling_cost.specs.StepCost.{IsKeyOf}
 use Rattle.handling_cost.proofs.Keys.{start_in_range}
 use Rattle.plan_cert.specs.WellFormed.{AreRowsOf}
 use Rattle.cert_merge.specs.TableChecks.{proved_by}
+use Rattle.cert_merge.proofs.MergeLaws.{merge_laws}
 use Rattle.cert_merge.proofs.MergeToldOf.{heads_of_job, told_of}
 use Rattle.cert_merge.proofs.merged_texts.merge_texts.Goals as goal
 
@@ -20,3 +21,9 @@ pub returns-clause-merged : goal.returns-clause-merged
 returns-clause-merged c = λ a b are.
     told_of c.args.job.now a b c.args.first.now c.args.second.now are c.in_ok-rows.rows (c.in_ok-rows.ensures a b are) c.proved-at_start.result c.start_key.result c.start_key.ensures
     (c.proved-at_start.ensures.value ∙ (λ i. proved_by c.args.job.now (c.as_slice.ensures.value i) c.start_key.result))
+
+pub returns-clause-laws : goal.returns-clause-laws
+returns-clause-laws c = merge_laws
+
+pub returns-in_err-rows-clause-laws : goal.returns-in_err-rows-clause-laws
+returns-in_err-rows-clause-laws c = merge_laws

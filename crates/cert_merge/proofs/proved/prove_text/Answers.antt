@@ -1,5 +1,6 @@
 use Rattle.std.proofs.lemmas.Result.{err_from_is_err_and}
 use Rattle.cert_merge.proofs.RowProving.{text_refused, table_open, table_proved}
+use Rattle.cert_merge.proofs.TableExact.{text_gives}
 use Rattle.cert_merge.proofs.proved.prove_text.Goals as goal
 
 pub prove_rows-requires : goal.prove_rows-requires
@@ -20,3 +21,12 @@ pub returns-clause-answer : goal.returns-clause-answer
 returns-clause-answer c =
     let is = c.in_ok-read.ensures in
     table_proved c.args.text.now c.in_ok-read.read is.0 is.1 _ (c.in_ok-prove_rows.ensures.answer is.0 is.1.parts)
+
+pub returns-in_err-read-clause-written : goal.returns-in_err-read-clause-written
+returns-in_err-read-clause-written c = text_gives c.args.text.now
+
+pub returns-in_err-prove_rows-clause-written : goal.returns-in_err-prove_rows-clause-written
+returns-in_err-prove_rows-clause-written c = text_gives c.args.text.now
+
+pub returns-clause-written : goal.returns-clause-written
+returns-clause-written c = text_gives c.args.text.now

@@ -1,8 +1,6 @@
 use Rattle.std.proofs.Common.{◌≡◌, Some, refl, sym, ◌∙◌, ap, subst}
 use Rattle.brake_base.specs.declared.stroke.Worth.TheVariants as worth
 use Rattle.job_setup.specs.Setup.{JobData}
-use Rattle.plan_cert.specs.Cert.{cert_data}
-use Rattle.plan_cert.specs.WellFormed.{IsWellFormed}
 use Rattle.bb_search.specs.declared.outcome.Outcome.{Outcome}
 use Rattle.bb_search.specs.declared.outcome.Outcome.TheVariants.{Best, Blocked, Spent}
 use Rattle.bb_search.specs.Outcomes.{IsAnswer}
@@ -16,26 +14,11 @@ has_answer search (Best cost) other is answer = (worth.Cost cost, is, answer)
 has_answer search Blocked other is answer = (worth.Blocked, is, answer)
 has_answer search Spent other is answer = absurd (other refl)
 
-pub certificate-requires : goal.certificate-requires
-certificate-requires g c =
-    let search = c.run.new.self in
-    let job : c.args.job.now ≡ search.job = sym (c.run.ensures.job ∙ ap (λ (s : SearchData). s.job) c.in_ok-search.ensures) in
-    record {
-      job = job;
-      answered = has_answer search c.run.result c.in_default.not-Spent c.run.ensures.outcome (subst (λ (j : JobData). IsAnswer j search.pool search.budget search.steps c.run.result) job c.run.ensures.answer);
-    }
-
 pub write-requires : goal.write-requires
-write-requires g c =
+write-requires c =
     let search = c.run.new.self in
     let job : c.args.job.now ≡ search.job = sym (c.run.ensures.job ∙ ap (λ (s : SearchData). s.job) c.in_ok-search.ensures) in
     record {
       job = job;
       answered = has_answer search c.run.result c.in_default.not-Spent c.run.ensures.outcome (subst (λ (j : JobData). IsAnswer j search.pool search.budget search.steps c.run.result) job c.run.ensures.answer);
     }
-
-pub write_cert-requires : goal.write_cert-requires
-write_cert-requires g c =
-    let search = c.run.new.self in
-    let job : c.args.job.now ≡ search.job = sym (c.run.ensures.job ∙ ap (λ (s : SearchData). s.job) c.in_ok-search.ensures) in
-    subst (λ (j : JobData). IsWellFormed j (cert_data c.in_ok-cert-in_default.cert)) (sym job) c.in_ok-cert-in_default.ensures.proves.proves.form
