@@ -2,7 +2,8 @@
 
 An edit is a dict: `{"op": "set", "path": [..], "value": V}` (V None takes the key away), `{"op": "add", "table": NAME,
 "value": {..}}` (a table behind the others of its name) or `{"op": "remove", "table": NAME, "at": N}` (N from 0; of the
-faces of a part also what stands on it). Lengths are whole micrometres, as the files have them.
+faces of a part also what stands on it) or `{"op": "replace", "table": NAME, "values": [{..}, ..]}` (all tables of a name,
+by others, behind all else). Lengths are whole micrometres, as the files have them.
 """
 from __future__ import annotations
 
@@ -53,6 +54,10 @@ def apply_edit(document: Any, edit: dict[str, Any]) -> None:
         add_table(document, edit["table"], edit["value"])
     elif kind == "remove" and edit.get("table", "face") == "face":
         remove_face(document, edit["at"])
+    elif kind == "replace":
+        document.pop(edit["table"], None)
+        for values in edit["values"]:
+            add_table(document, edit["table"], values)
     elif kind == "remove":
         del document[edit["table"]][edit["at"]]
     else:

@@ -44,6 +44,26 @@ def register(api: Api, desk: Desk) -> None:
         return {"dxf": dxf_of(desk, given), "name": Path(given["part"]).stem + ".dxf"}
 
 
+    @api.on("POST", "/api/import")
+    def step_in(given: dict[str, Any]) -> dict[str, Any]:
+        text = imported(desk, given["step"])
+        return {"tag": desk.folder.write(given["name"], text.encode(), None)}
+
+
+def imported(desk: Desk, step: str) -> str:
+    """The part file of a STEP body, by the command `import`. Raises Refused."""
+    if not is_offered("import"):
+        raise Refused(409, "this brake has no command import")
+    with work_folder(desk, {}) as place:
+        put(place, "body.step", step)
+        made = desk.runs.call([], place, 120, None, bench_words("import", ["body.step", "part.toml"]))
+        if made.status:
+            said = (made.said + made.printed).decode("utf-8", "replace").strip()
+            raise Refused(409, said.removeprefix("brake: ") or "no part was made of this body")
+        with open(os.path.join(place, "part.toml"), encoding="utf-8") as file:
+            return file.read(MOST_FILE)
+
+
 def edited(desk: Desk, given: dict[str, Any]) -> dict[str, Any]:
     """The text after the edits, kept as a draft; its blank, or the refusal; and its slips."""
     text, name = given["text"], given.get("name")

@@ -5,11 +5,12 @@ import os
 from typing import Any
 
 from workbench.desk.folder import MOST_CERTIFICATE
-from workbench.desk.job import PLAN, answer_of, head_of, put, texts_of, work_folder
+from workbench.desk.job import PLAN, answer_of, head_of, texts_of, work_folder
 from workbench.desk.refused import Refused
 from workbench.desk.runs import Job
 from workbench.desk.server import Api, Desk
 from workbench.desk.view_part import bench_words, is_offered
+from workbench.files import change_toml
 from workbench.strokes import strokes_of
 
 MOST_SECONDS = 3600
@@ -81,16 +82,43 @@ def sheet_of(desk: Desk, place: str, job: Job) -> str | None:
 
 
 def proposed(desk: Desk, texts: dict[str, bytes], given: dict[str, Any], job: Job) -> dict[str, Any]:
-    """Proposals for the part's stations, and which of them the program plans at the least cost."""
+    """Proposals for the part's stations, and which of them the program plans at the least cost.
+
+    Where one has a plan, `take` has the machine file with the cheapest one's stations, and `tools` the tools file with
+    the punches that are turned round for it, where there are any.
+    """
     with work_folder(desk, texts) as place:
         words = ["part.toml", "tools.toml", "machine.toml", "setups.toml", "--quiet"]
         made = desk.runs.call([], place, MOST_SECONDS, job, bench_words("propose", words))
-        said = made.said.decode("utf-8", "replace").splitlines()
+        said = [line.removeprefix("brake: ") for line in made.said.decode("utf-8", "replace").splitlines()]
         if made.status or job.state != "running":
-            return {"status": made.status, "words": [line.removeprefix("brake: ") for line in said]}
-        with open(os.path.join(place, "setups.toml"), encoding="utf-8") as file:
-            setups = file.read()
-        put(place, "all.toml", setups)
-        words = ["setups", "part.toml", "tools.toml", "machine.toml", "all.toml", "setup.cert"]
+            return {"status": made.status, "words": said, "lines": made.lines}
+        beside = [line[6:] for line in made.lines if line.startswith("tools ")]
+        tools = os.path.basename(beside[0]) if beside else "tools.toml"
+        words = ["setups", "part.toml", tools, "machine.toml", "setups.toml", "setup.cert"]
         run = desk.runs.call(words, place, MOST_SECONDS, job)
-        return {**answer_of(desk, run, words, place, given), "setups": setups}
+        answer = {**answer_of(desk, run, words, place, given), "lines": made.lines}
+        if run.status == 0:
+            answer["take"] = change_toml(texts["machine"].decode(), [stations_of(answer["out"])])
+            answer["tools"] = read_text(place, tools) if beside else None
+        return answer
+
+
+def read_text(place: str, name: str) -> str:
+    """A text of a work folder."""
+    with open(os.path.join(place, name), encoding="utf-8") as file:
+        return file.read(MOST_SHOWN)
+
+
+def stations_of(printed: str) -> dict[str, Any]:
+    """The edit that gives a machine file the stations that `setups` printed."""
+    stages: list[dict[str, Any]] = []
+    for line in printed.splitlines():
+        words = line.split()
+        if words[:1] == ["stage"]:
+            stages.append({"punch": words[2], "die": words[3], "at": int(words[4]), "pieces": []})
+        elif words[:1] == ["pieces"]:
+            stages[-1]["pieces"] = [int(word) for word in words[1:]]
+        elif words[:1] == ["order"]:
+            break
+    return {"op": "replace", "table": "stage", "values": stages}

@@ -18,8 +18,8 @@ const saveMine = () => button("Save my text", () => download("part.toml", textTo
 
 function tellGone() {
   isGone = true;
-  note("The desk's program isn't running any more. What you typed is still here, and the last draft is in .desk of the "
-    + "folder: start brake desk again.", true, saveMine());
+  note("The desk's program isn't running any more. What you typed is still here, and the last draft is in .desk of "
+    + "the folder: start brake desk again.", true, saveMine());
 }
 
 // A server that was started anew at the same port has another token: it is asked for once.
@@ -33,7 +33,8 @@ function askToken(words) {
     note();
   };
   field.onkeydown = event => { if (event.key === "Enter") take(); };
-  note(`${words}. Paste the address that it printed: what you typed is kept.`, true, field, button("Go on", take), saveMine());
+  note(`${words}. Paste the address that it printed: what you typed is kept.`, true, field, button("Go on", take),
+    saveMine());
 }
 
 export async function api(method, path, body) {

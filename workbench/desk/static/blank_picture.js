@@ -1,5 +1,5 @@
-// The flat blank as a picture, of the numbers that the program prints. Drawn in millimetres: a browser draws no letters
-// above 10,000 units.
+// The flat blank as a picture, of the numbers that the program prints. Drawn in millimetres: a browser draws no
+// letters above 10,000 units.
 import { el } from "./dom.js";
 import { mm } from "./mm.js";
 
@@ -66,8 +66,9 @@ class Drawing {
     [this.width, this.height] = this.blank.size;
     Object.assign(this, scaleOf(box, this.blank.size));
     const edge = 14 * this.sight, { pad } = this;
+    const wide = this.width + 1.5 * pad + edge, high = this.height + 1.35 * pad + 16 * this.sight;
     this.root = svg("svg", {
-      viewBox: [-pad - edge, -pad * .45, this.width + 1.5 * pad + edge, this.height + 1.35 * pad + 16 * this.sight].join(" "),
+      viewBox: [-pad - edge, -pad * .45, wide, high].join(" "),
       role: "group", "aria-label": `Flat blank, ${mm(this.um[0])} by ${mm(this.um[1])} mm`,
     });
   }

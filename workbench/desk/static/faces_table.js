@@ -49,11 +49,12 @@ function rowsOf(face, number) {
       length("at", "start"), length("width", "width"), length("length", "length"),
       cell("", wayButton(face, number, label("direction"))), cell("", removeButton(face, number))]
     : [cell(""), cell(""), cell(""), length("width", "width"), length("length", "length"), cell(""), cell("")];
-  const row = el("tr", { className: "row" + (number === part.picked ? " picked" : "") }, nameCell(face, number, label("name")));
-  row.append(...cells);
+  const row = el("tr", { className: "row" + (number === part.picked ? " picked" : "") });
+  row.append(nameCell(face, number, label("name")), ...cells);
   row.addEventListener("focusin", () => pick(number));
   const why = mark(row, number);
-  return why.length ? [row, el("tr", { className: "why" }, el("td", { colSpan: 8, textContent: why.join("; ") }))] : [row];
+  if (!why.length) return [row];
+  return [row, el("tr", { className: "why" }, el("td", { colSpan: 8, textContent: why.join("; ") }))];
 }
 
 function nameCell(face, number, label) {
@@ -119,8 +120,8 @@ function mark(row, number) {
     row.querySelector(`[data-path="${CSS.escape(key)}"]`)?.classList.add("bad");
   }
   if (wrong?.faces.includes(number)) {
-    const of = wrong.key ? row.querySelectorAll(`[data-path="${start}${wrong.key}"]`) : row.querySelectorAll("input,select");
-    for (const one of of) one.classList.add("bad");
+    const which = wrong.key ? `[data-path="${start}${wrong.key}"]` : "input,select";
+    for (const one of row.querySelectorAll(which)) one.classList.add("bad");
     if (number === wrong.faces.at(-1)) why.push(...part.answer.words.slice(-1));
   }
   return why;

@@ -5,7 +5,7 @@ import { edit, part } from "./part.js";
 
 const STEPS = { ArrowUp: 1, ArrowDown: -1 };
 const stepOf = event => (event.shiftKey ? 100 : event.ctrlKey ? 10000 : 1000);
-const shown = (value, isLength) => (value === undefined ? "" : isLength && typeof value === "number" ? mm(value) : String(value));
+const shown = (value, isLength) => (isLength && typeof value === "number" ? mm(value) : String(value ?? ""));
 
 export function field(value, path, isLength, label) {
   const key = path.join(".");

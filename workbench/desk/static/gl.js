@@ -25,7 +25,9 @@ export class Mesh {
   constructor() { this.triangles = []; this.lines = []; }
   put(corners, colour, normal = unit(cross(minus(corners[1], corners[0]), minus(corners[2], corners[0])))) {
     for (let k = 2; k < corners.length; k++) {
-      for (const corner of [corners[0], corners[k - 1], corners[k]]) this.triangles.push(...corner, ...normal, ...colour);
+      for (const corner of [corners[0], corners[k - 1], corners[k]]) {
+        this.triangles.push(...corner, ...normal, ...colour);
+      }
     }
   }
   edge(from, to) { this.lines.push(...from, ...LINE, ...to, ...LINE); }
@@ -34,9 +36,12 @@ export class Mesh {
     const at = (i, j, k) => map([i ? x1 : x0, j ? y1 : y0, k ? z1 : z0]), o = map([0, 0, 0]);
     const way = n => minus(map(n), o);
     const sides = [
-      [[0, 0, 0], [0, 1, 0], [1, 1, 0], [1, 0, 0], [0, 0, -1]], [[0, 0, 1], [1, 0, 1], [1, 1, 1], [0, 1, 1], [0, 0, 1]],
-      [[0, 0, 0], [1, 0, 0], [1, 0, 1], [0, 0, 1], [0, -1, 0]], [[0, 1, 0], [0, 1, 1], [1, 1, 1], [1, 1, 0], [0, 1, 0]],
-      [[0, 0, 0], [0, 0, 1], [0, 1, 1], [0, 1, 0], [-1, 0, 0]], [[1, 0, 0], [1, 1, 0], [1, 1, 1], [1, 0, 1], [1, 0, 0]],
+      [[0, 0, 0], [0, 1, 0], [1, 1, 0], [1, 0, 0], [0, 0, -1]],
+      [[0, 0, 1], [1, 0, 1], [1, 1, 1], [0, 1, 1], [0, 0, 1]],
+      [[0, 0, 0], [1, 0, 0], [1, 0, 1], [0, 0, 1], [0, -1, 0]],
+      [[0, 1, 0], [0, 1, 1], [1, 1, 1], [1, 1, 0], [0, 1, 0]],
+      [[0, 0, 0], [0, 0, 1], [0, 1, 1], [0, 1, 0], [-1, 0, 0]],
+      [[1, 0, 0], [1, 1, 0], [1, 1, 1], [1, 0, 1], [1, 0, 0]],
     ];
     for (const [a, b, c, d, n] of sides) {
       const ring = [a, b, c, d].map(corner => at(...corner));

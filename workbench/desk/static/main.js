@@ -2,7 +2,7 @@
 import { get, takeToken } from "./api.js";
 import { $, note, on } from "./dom.js";
 import { chosen, choosePartners, folder, listFolder } from "./files.js";
-import { folderView } from "./folder_view.js";
+import { folderView, startFolder } from "./folder_view.js";
 import { loadMachine, machineView } from "./machine_view.js";
 import { orderView, startOrder } from "./order_view.js";
 import { changedOutside, edit, isSaved, openPart, part, step, store } from "./part.js";
@@ -10,7 +10,9 @@ import { newPart, partView, startPart } from "./part_view.js";
 import { forgetPlan, planView, startPlan } from "./plan_view.js";
 import { loadTools, rackView } from "./rack_view.js";
 
-const VIEWS = { folder: folderView, part: partView, plan: planView, order: orderView, rack: rackView, machine: machineView };
+const VIEWS = {
+  folder: folderView, part: partView, plan: planView, order: orderView, rack: rackView, machine: machineView,
+};
 const EVERY = 1500;
 let shown = null;
 
@@ -40,7 +42,10 @@ function readAddress() {
 
 async function follow() {
   const { view, name } = readAddress();
-  if (name && name !== part.name && folder.files.some(file => file.name === name)) { $("f-part").value = name; await choosePart(); }
+  if (name && name !== part.name && folder.files.some(file => file.name === name)) {
+    $("f-part").value = name;
+    await choosePart();
+  }
   await go(view);
 }
 
@@ -58,8 +63,12 @@ async function choosePart() {
 
 async function changed(name) {
   if (name === part.name) { await changedOutside(); return; }
-  if (name === chosen("tools")) { await loadTools(); if (part.name) edit([]); if (shown === "rack") rackView.show(); }
-  if (name === chosen("machine")) { await loadMachine(); if (part.name) edit([]); if (shown === "machine") machineView.show(); }
+  const isTools = name === chosen("tools"), isMachine = name === chosen("machine");
+  if (isTools) await loadTools();
+  if (isMachine) await loadMachine();
+  if ((isTools || isMachine) && part.name) edit([]);
+  if (isTools && shown === "rack") rackView.show();
+  if (isMachine && shown === "machine") machineView.show();
   if (shown === "folder" && !document.activeElement?.closest("#folder input")) folderView.show();
 }
 
@@ -70,7 +79,12 @@ function wireFiles() {
   on("changed", changed);
   on("machine", () => { if (part.name) edit([]); });
   on("open", async name => { $("f-part").value = name; await choosePart(); await go("part"); });
-  on("new part", async () => { if (await newPart()) { forgetPlan(); choosePartners(chosen("part")); await go("part"); } });
+  on("new part", async () => {
+    if (!await newPart()) return;
+    forgetPlan();
+    choosePartners(chosen("part"));
+    await go("part");
+  });
   on("go", go);
 }
 
@@ -114,6 +128,7 @@ async function start() {
   wireFiles();
   wireKeys();
   const offers = await get("offers");
+  startFolder(offers);
   startPart(offers);
   startPlan(offers);
   startOrder();

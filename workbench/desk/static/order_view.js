@@ -46,7 +46,8 @@ async function judge() {
   paint(focus);
   if (!order.rows.length) { say($("o-words"), ["This part has no bends."]); return; }
   $("o-words").replaceChildren(busy());
-  const state = await run("order", { ...job(), order: order.rows }).catch(fault => ({ answer: { error: fault.message } }));
+  const state = await run("order", { ...job(), order: order.rows })
+    .catch(fault => ({ answer: { error: fault.message } }));
   if (mine !== order.turn || !state.answer) return;
   if (state.answer.error) {
     order.found = null;
@@ -70,7 +71,8 @@ function tellFound() {
   if (bad) { showStroke(bad); return; }
   const least = leastOf(plan.answer), sure = checked ? "" : "; the cost could not be confirmed";
   const beside = least === null ? "" : `; the least of all orders is ${seconds(least)}`;
-  say($("o-words"), [`Every stroke is allowed, and the proved program says so${sure}. ${seconds(total)}${beside}.`], "good");
+  const words = `Every stroke is allowed, and the proved program says so${sure}. ${seconds(total)}${beside}.`;
+  say($("o-words"), [words], "good");
   showStroke(strokes.at(-1));
 }
 
@@ -114,8 +116,8 @@ function byHand(row, name) {
     list.onchange = () => { row[key] = list.value === "" ? null : read(list.value); judge(); };
     return list;
   };
-  return el("span", { className: "by-hand" },
-    pick("back", "side at the back", [["", "either side"], ["C", `${name} at the back`], ["P", "the rest at the back"]], value => value),
+  const sides = [["", "either side"], ["C", `${name} at the back`], ["P", "the rest at the back"]];
+  return el("span", { className: "by-hand" }, pick("back", "side at the back", sides, value => value),
     pick("stage", "station", [["", "any station"], ...stations], Number));
 }
 
@@ -144,10 +146,12 @@ function makeMovable(made, number) {
 // ---- a stroke
 
 function showStroke(stroke) {
-  const number = order.found.strokes.indexOf(stroke) + 1, all = names(), title = `Stroke ${number}: bend ${stroke.bend}, ${all[stroke.bend]}`;
+  const number = order.found.strokes.indexOf(stroke) + 1, all = names();
+  const title = `Stroke ${number}: bend ${stroke.bend}, ${all[stroke.bend]}`;
   [...$("order").children].forEach((row, at) => row.classList.toggle("shown", order.rows[at].bend === stroke.bend));
   if (stroke.ok) {
-    const ways = stroke.ways.map(([back, stage]) => `${atBack({ ...stroke, back }, all)} at the back, station ${stage}`);
+    const sayWay = ([back, stage]) => `${atBack({ ...stroke, back }, all)} at the back, station ${stage}`;
+    const ways = stroke.ways.map(sayWay);
     $("o-picture").replaceChildren(
       el("h2", { textContent: `${title}, ${atBack(stroke, all)} at the back, station ${stroke.stage}: allowed` }),
       beforeAndAfter(stroke.picture),

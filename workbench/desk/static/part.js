@@ -22,7 +22,10 @@ async function editNow(ops, how) {
   const body = { text: part.text, ops, tools: chosen("tools") || undefined, machine: chosen("machine") || undefined };
   if (!isSaved() || ops.length || how.isBack) body.name = part.name;
   let answer;
-  try { answer = await post("edit", body); } catch (fault) { if (fault.answer) tell("refused", fault.message); return; }
+  try { answer = await post("edit", body); } catch (fault) {
+    if (fault.answer) tell("refused", fault.message);
+    return;
+  }
   if (whose !== part.name) return;
   if (answer.text !== old) remember(old, how.merge);
   Object.assign(part, { text: answer.text, data: answer.data, answer: answer.blank, slips: answer.slips || [] });
@@ -37,14 +40,26 @@ function remember(old, merge) {
   part.redo = [];
 }
 
-export function step(from, to) {
+export const step = (from, to) => (line = line.then(() => stepNow(from, to)));
+
+async function stepNow(from, to) {
   if (!part[from].length) return;
   part[to].push(part.text);
   part.text = part[from].pop();
   part.merged = null;
+  part.bad = {};
   const { undo, redo } = part;
-  edit([], { isBack: true }).then(() => { Object.assign(part, { undo, redo }); tell("part", {}); });
+  await editNow([], { isBack: true });
+  Object.assign(part, { undo, redo });
+  tell("part", {});
 }
+
+// Another text in place of the present one, which the way back has then.
+const replaceText = text => (line = line.then(() => {
+  part.undo.push(part.text);
+  Object.assign(part, { text, redo: [], merged: null, bad: {} });
+  return editNow([], { isBack: true });
+}));
 
 export function take(file) {
   Object.assign(part, NOTHING, { name: file.name, text: file.text, saved: file.text, tag: file.tag, data: file.data });
@@ -66,31 +81,29 @@ export async function openPart(name) {
 }
 
 function offerDraft(name, draft) {
-  const goOn = () => { part.undo.push(part.text); part.text = draft; note(); edit([]); };
+  const goOn = () => { note(); replaceText(draft); };
   const drop = () => dropDraft(name).then(() => note());
-  note(`There are edits of ${name} that were never saved.`, false, button("Go on with them", goOn), button("Drop them", drop));
+  note(`There are edits of ${name} that were never saved.`, false, button("Go on with them", goOn),
+    button("Drop them", drop));
 }
 
-export function setText(text) {
-  part.undo.push(part.text);
-  part.text = part.text.includes("\r\n") ? text.replaceAll("\n", "\r\n") : text;
-  part.bad = {};
-  return edit([], { isBack: true });
-}
+// A text that was typed; a text area has no \r, which the file may have.
+export const setText = text => replaceText(part.text.includes("\r\n") ? text.replaceAll("\n", "\r\n") : text);
 
 // Stores the part, and says whether it is stored.
 export async function store() {
   await line;
-  try {
-    part.tag = (await storeFile(part.name, part.text, part.tag)).tag;
-  } catch (fault) {
-    if (fault.status === 409) askWhose({ ...fault.answer, name: part.name, data: {} });
+  const { name, text, tag } = part;
+  let stored;
+  try { stored = await storeFile(name, text, tag); } catch (fault) {
+    if (fault.status === 409) askWhose({ ...fault.answer, name, data: {} });
     else if (fault.answer) note(fault.message, true);
     return false;
   }
-  part.saved = part.text;
-  mine(part.name);
+  mine(name);
   note();
+  if (name !== part.name) return true;
+  Object.assign(part, { tag: stored.tag, saved: text });
   tell("part", {});
   return true;
 }

@@ -6,7 +6,9 @@ import { facesTable, paintFaces } from "./faces_table.js";
 import { field, syncField } from "./field.js";
 import { chosen, folder, listFolder } from "./files.js";
 import { mm } from "./mm.js";
-import { edit, faces, isSaved, newFile, newPartText, openPart, part, setText, step, store, wrongPlace } from "./part.js";
+import {
+  edit, faces, isSaved, newFile, newPartText, openPart, part, setText, step, store, wrongPlace,
+} from "./part.js";
 import { roomEdits } from "./room.js";
 import { solid } from "./solid.js";
 
@@ -131,7 +133,8 @@ async function putFlange(number, side) {
   const name = freeName(number ? `${face.name.slice(0, 18)}_${side.toLowerCase()}` : SIDES[side]);
   const length = Math.max(20000, 10 * part.data.thickness);
   part.picked = faces().length;
-  await edit([{ op: "add", table: "face", value: { name, on: face.name, side, at: 0, width: long, length, dir: "up" } }]);
+  const value = { name, on: face.name, side, at: 0, width: long, length, dir: "up" };
+  await edit([{ op: "add", table: "face", value }]);
   const made = document.querySelector(`[data-path="face.${part.picked}.length"]`);
   made?.focus();
   made?.select();

@@ -71,27 +71,32 @@ function showRefusal(answer) {
 }
 
 function planCards(answer) {
-  const all = names(), facts = [["blank", $("b-size").textContent || sizeOf(answer.out)], ["certificate", answer.cert || ""]];
+  const all = names(), facts = [["blank", sizeOf(answer.out)], ["certificate", answer.cert || ""]];
   const strokes = plan.steps.map(step => {
     const mates = step.with.length ? ` with ${step.with.join(", ")}` : "";
-    const ball = el("span", { className: "num" + (faces()[step.bend]?.dir === "down" ? " down" : ""), textContent: step.bend });
+    const kind = "num" + (faces()[step.bend]?.dir === "down" ? " down" : "");
+    const ball = el("span", { className: kind, textContent: step.bend });
     const where = [TURNS[step.turn], `gauge ${mm(step.gauge)}`,
       `${step.back === "child" ? all[step.bend] : "the rest"} at the back`, `station ${step.stage}`];
-    return el("li", {}, ball, el("b", { textContent: all[step.bend] + mates }), el("span", { textContent: seconds(step.cost) }),
-      el("small", { textContent: where.join(", ") }));
+    return el("li", {}, ball, el("b", { textContent: all[step.bend] + mates }),
+      el("span", { textContent: seconds(step.cost) }), el("small", { textContent: where.join(", ") }));
   });
+  const pairOf = ([key, value]) => [el("dt", { textContent: key }), el("dd", { textContent: value })];
   return [el("div", { className: "card" }, el("div", { className: "big", textContent: seconds(leastOf(answer)) }),
     el("div", { textContent: `${plan.steps.length} strokes; no other order costs less` }),
-    el("dl", { className: "facts" }, ...facts.flatMap(([key, value]) => [el("dt", { textContent: key }), el("dd", { textContent: value })])),
+    el("dl", { className: "facts" }, ...facts.flatMap(pairOf)),
     el("ol", { className: "strokes" }, ...strokes)), proposeCard("Cheaper stations?")];
 }
 
 const sizeOf = printed => printed.split("\n")[1].split(" ").slice(1).map(mm).join(" × ") + " mm";
 
 function noPlanCards(answer) {
-  const why = answer.words.slice(-1).map(text => el("p", { className: "tip", textContent: text.replace(/; '?brake .*$/, "") }));
+  const tipOf = text => el("p", { className: "tip", textContent: text.replace(/; '?brake .*$/, "") });
+  const why = answer.words.slice(-1).map(tipOf);
+  const words = "With these stations no order of bends is possible; this is proved. The sheet shows in red what is in "
+    + "the way.";
   return [el("div", { className: "card" }, el("div", { className: "big", textContent: "No plan" }),
-    el("div", { textContent: "With these stations no order of bends is possible; this is proved. The sheet shows in red what is in the way." }),
+    el("div", { textContent: words }),
     el("div", { className: "bar" }, button("Try my own order", () => tell("go", "order")))),
   el("div", { className: "words" }, ...why), proposeCard("Other stations")];
 }
@@ -109,23 +114,54 @@ function proposeCard(title) {
 
 async function propose(list, state) {
   state.replaceChildren(busy());
-  const ended = await run("propose", plan.job, (now, id) => { running = id; }).catch(fault => ({ answer: { error: fault.message } }));
+  const follow = (now, id) => { running = id; };
+  const ended = await run("propose", plan.job || job(), follow).catch(fault => ({ answer: { error: fault.message } }));
   const answer = ended.answer || { error: "cancelled" };
   state.textContent = "";
-  if (answer.error || ![0, 1].includes(answer.status)) { say(list, [answer.error || answer.words?.at(-1) || "no proposal"]); return; }
+  if (answer.error || answer.status) {
+    say(list, answer.error ? [answer.error] : [...answer.words, ...(answer.lines || [])].filter(line => line));
+    return;
+  }
   list.replaceChildren(...proposalRows(answer));
 }
 
 // The lines of `setups`: one for each setup of the list, then the cheapest one's plan.
 function proposalRows(answer) {
-  const rows = answer.out.split("\n").filter(line => /^setup \d+ /.test(line)).map(line => {
-    const words = line.split(" ");
-    return { number: +words[1], name: words[2], cost: /^\d+$/.test(words.at(-1)) ? +words.at(-1) : null, line };
+  const best = +/\nbest (\d+)/.exec(answer.out)[1];
+  const rows = answer.out.split("\n").filter(line => line.startsWith("try ")).map(line => {
+    const [, number, name, cost] = line.split(" ");
+    const words = line.split(" ").slice(3).join(" ");
+    return { number: +number, name, cost: /^\d+$/.test(cost) ? +cost : null, words };
   });
-  rows.sort((one, other) => (one.cost ?? Infinity) - (other.cost ?? Infinity));
+  const first = row => [row.number === best ? 0 : 1, row.cost ?? Infinity];
+  rows.sort((one, other) => first(one)[0] - first(other)[0] || first(one)[1] - first(other)[1]);
   return rows.map(row => el("div", { className: "try " + (row.cost === null ? "no" : "yes") },
-    el("b", { textContent: row.name }), el("span", { textContent: row.cost === null ? "no plan" : seconds(row.cost) }),
-    el("small", { textContent: row.line })));
+    el("b", { textContent: row.name }), el("span", { textContent: row.cost === null ? row.words : seconds(row.cost) }),
+    ...(row.number === best ? [el("small", { textContent: "the cheapest of these, with a certificate" }),
+      button("Take it", () => takeStations(answer, row.name))] : [])));
+}
+
+// The stations are this part's, so they go to a machine file of its own; a rack with punches turned round likewise.
+async function takeStations(answer, name) {
+  const files = [["f-machine", "machine", answer.take], ["f-tools", "tools", answer.tools]]
+    .filter(([, , text]) => text);
+  const stored = [];
+  try {
+    for (const [list, kind, text] of files) {
+      const own = chosen(kind).replace(/[^/]*$/, "") + `${base()}_${kind}.toml`;
+      const old = folder.files.some(file => file.name === own) ? (await readFile(own)).tag : null;
+      await storeFile(own, text, old);
+      mine(own);
+      stored.push([list, own]);
+    }
+  } catch (fault) { note(fault.message, true); return; }
+  await listFolder();
+  for (const [list, own] of stored) {
+    $(list).value = own;
+    $(list).dispatchEvent(new Event("change"));
+  }
+  told(`${name}: written to ${stored.map(([, own]) => own).join(" and ")}; the shared files stay as they are.`);
+  await goPlan();
 }
 
 // ---- the sheet
@@ -149,8 +185,8 @@ async function showSheet(answer) {
 // The first heading of the sheet that has red pictures.
 function showRed(page) {
   const heads = [...page.querySelectorAll("h2")];
-  const red = heads.find(head => head.textContent.startsWith("As far as")) || heads.find(head => head.textContent.startsWith("No order"));
-  red?.scrollIntoView();
+  const find = words => heads.find(head => head.textContent.startsWith(words));
+  (find("As far as") || find("No order"))?.scrollIntoView();
 }
 
 async function ownSheet(answer) {
@@ -158,7 +194,8 @@ async function ownSheet(answer) {
   const state = await run("motion", plan.job), made = state.answer;
   if (!made || made.error) return "<p>No sheet could be drawn.";
   return strokesSheet({
-    title: part.name, mark: `The plan of least cost. ${NO_DRAWER}`, strokes: made.strokes, names: made.names, total: leastOf(answer),
+    title: part.name, mark: `The plan of least cost. ${NO_DRAWER}`, strokes: made.strokes, names: made.names,
+    total: leastOf(answer),
   });
 }
 
@@ -174,7 +211,8 @@ function showPage(which) {
 // ---- old plans
 
 export function markOld() {
-  const isOld = !!plan.answer && (part.text !== plan.of || JSON.stringify(plan.job) !== JSON.stringify(job()) || plan.isOld);
+  const isOther = JSON.stringify(plan.job) !== JSON.stringify(job());
+  const isOld = !!plan.answer && (part.text !== plan.of || isOther || plan.isOld);
   $("r-old").hidden = !isOld;
   $("page-plan").classList.toggle("old", isOld);
   $("r-go").textContent = isSaved() ? "Plan" : "Save and plan";
@@ -188,18 +226,6 @@ export function forgetPlan() {
   emptySheet("The drawn setup sheet comes here.");
 }
 
-// Takes stations as a machine file of the part's own; the shared one stays as it is.
-export async function takeMachine(text, words) {
-  const own = chosen("machine").replace(/[^/]*$/, "") + base() + "_machine.toml";
-  const old = folder.files.some(file => file.name === own) ? (await readFile(own)).tag : null;
-  try { await storeFile(own, text, old); } catch (fault) { note(fault.message, true); return; }
-  mine(own);
-  await listFolder();
-  told(`${words}: written to ${own}; ${chosen("machine")} stays as it is.`);
-  $("f-machine").value = own;
-  await goPlan();
-}
-
 export function startPlan(offered) {
   offers = offered;
   $("r-go").onclick = goPlan;
@@ -211,7 +237,11 @@ export function startPlan(offered) {
   $("r-dxf").hidden = !offers.dxf;
   $("r-bar").onclick = event => event.target.dataset.view && showPage(event.target.dataset.view);
   on("part", markOld);
-  on("changed", name => { if (plan.job && Object.values(plan.job).includes(name)) { plan.isOld = name !== part.name; markOld(); } });
+  on("changed", name => {
+    if (!plan.job || !Object.values(plan.job).includes(name) || name === part.name) return;
+    plan.isOld = true;
+    markOld();
+  });
   startStrokes();
   forgetPlan();
 }

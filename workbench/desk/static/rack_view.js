@@ -8,11 +8,15 @@ import { asText } from "./text_file.js";
 
 export async function loadTools() {
   const name = chosen("tools");
-  try { folder.tools = name ? (await readFile(name)).data : {}; } catch (fault) { folder.tools = {}; note(fault.message, true); }
+  try { folder.tools = name ? (await readFile(name)).data : {}; } catch (fault) {
+    folder.tools = {};
+    note(fault.message, true);
+  }
   const rows = folder.tools.allow || [], materials = [...new Set(rows.map(row => row.material))];
   $("materials").replaceChildren(...materials.map(material => el("option", { value: material })));
+  const sayRow = row => `${row.material}  ${mm(row.thickness)}  r ${mm(row.radius)}`;
   $("p-row").replaceChildren(el("option", { value: "", textContent: "choose a row .." }),
-    ...rows.map((row, number) => el("option", { value: number, textContent: `${row.material}  ${mm(row.thickness)}  r ${mm(row.radius)}` })));
+    ...rows.map((row, number) => el("option", { value: number, textContent: sayRow(row) })));
 }
 
 const pieces = tool => (tool.sections || []).map(([length, count]) => `${count} × ${mm(length)}`).join(", ");
@@ -38,14 +42,18 @@ function toolCard(kind, tool, all) {
   const facts = kind === "die" ? `V ${mm(tool.v)}, height ${mm(tool.height)}, least flange ${mm(tool.least_flange)}`
     : `height ${mm(tool.height)}, nose ${mm(tool.nose)}`;
   const canTurn = isLopsided(tool) && !all.some(other => other.name === turnedRound(tool).name);
-  return el("div", { className: "tool" }, profile(tool.body || [], kind, tool), el("h3", { textContent: tool.name }),
-    el("div", { textContent: facts + " mm" }), el("div", { className: "soft", textContent: pieces(tool) }),
-    ...(canTurn ? [button("Add it turned round", () => addTurned(kind, tool), { ariaLabel: `add ${tool.name} turned round` })] : []));
+  const made = el("div", { className: "tool" }, profile(tool.body || [], kind, tool),
+    el("h3", { textContent: tool.name }), el("div", { textContent: facts + " mm" }),
+    el("div", { className: "soft", textContent: pieces(tool) }));
+  const label = { ariaLabel: `add ${tool.name} turned round` };
+  if (canTurn) made.append(button("Add it turned round", () => addTurned(kind, tool), label));
+  return made;
 }
 
 const COLUMNS = [
   ["material", row => row.material], ["thickness", row => mm(row.thickness) + " mm"],
-  ["inside radius", row => mm(row.radius) + " mm"], ["k (DIN 6935)", row => (row.k === undefined ? "" : (row.k / 1000).toFixed(3))],
+  ["inside radius", row => mm(row.radius) + " mm"],
+  ["k (DIN 6935)", row => (row.k === undefined ? "" : (row.k / 1000).toFixed(3))],
   ["measured deduction of a bend", row => (row.q === undefined ? "" : mm(2 * row.q) + " mm")],
 ];
 
@@ -58,13 +66,18 @@ function deductions() {
 
 async function show() {
   const box = $("rack"), name = chosen("tools"), tools = folder.tools;
-  if (!name) { box.replaceChildren(el("p", { className: "hint", textContent: "There is no tools file in this folder." })); return; }
+  const hint = text => el("p", { className: "hint", textContent: text });
+  const head = text => el("h2", { textContent: text });
+  if (!name) { box.replaceChildren(hint("There is no tools file in this folder.")); return; }
   const again = async () => { await loadTools(); await show(); };
-  if (tools.error) { box.replaceChildren(el("p", { className: "words" }, `${name}: ${tools.error}`), asText(name, again)); return; }
-  const shelf = kind => el("div", { className: "tools" }, ...(tools[kind] || []).map(tool => toolCard(kind, tool, tools[kind])));
-  box.replaceChildren(el("h2", { textContent: "Punches" }),
-    el("p", { className: "hint", textContent: `From the machine's right end, the operator at the left. ${name}` }), shelf("punch"),
-    el("h2", { textContent: "Dies" }), shelf("die"), el("h2", { textContent: "Deductions" }), deductions(), asText(name, again));
+  if (tools.error) {
+    box.replaceChildren(el("p", { className: "words" }, `${name}: ${tools.error}`), asText(name, again));
+    return;
+  }
+  const cards = kind => (tools[kind] || []).map(tool => toolCard(kind, tool, tools[kind]));
+  const shelf = kind => el("div", { className: "tools" }, ...cards(kind));
+  box.replaceChildren(head("Punches"), hint(`From the machine's right end, the operator at the left. ${name}`),
+    shelf("punch"), head("Dies"), shelf("die"), head("Deductions"), deductions(), asText(name, again));
 }
 
 export const rackView = { show };

@@ -52,7 +52,8 @@ function meshOf(blank, thick, tree, angle, picked) {
 export function solid(canvas) {
   const scene = makeScene(canvas);
   return {
-    show: (blank, thick, tree, degrees, picked) => scene.show(meshOf(blank, thick, tree, degrees * Math.PI / 180, picked)),
+    show: (blank, thick, tree, degrees, picked) =>
+      scene.show(meshOf(blank, thick, tree, degrees * Math.PI / 180, picked)),
     render: scene.render,
   };
 }

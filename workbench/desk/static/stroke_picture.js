@@ -1,5 +1,6 @@
 // A stroke seen from the machine's right end, the operator at the left; what a reason names is red.
-// `picture` has micrometres: boxes [face, half, x0 x1 y0 y1 z0 z1], tools [group, number, x0 .. z1], stage, nose, v, t, hit.
+// `picture` has micrometres: boxes [face, half, x0 x1 y0 y1 z0 z1], tools [group, number, x0 .. z1], stage, nose, v,
+// t, and hit.
 import { svg } from "./blank_picture.js";
 import { el } from "./dom.js";
 
@@ -22,7 +23,8 @@ const polygon = (points, at) => svg("polygon", {
 });
 
 function toolRect(tool, hit, rise) {
-  const [group, number, , , y0, y1, z0, z1] = tool, isHit = hit.tool && hit.tool[0] === group && hit.tool[1] === number;
+  const [group, number, , , y0, y1, z0, z1] = tool;
+  const isHit = hit.tool && hit.tool[0] === group && hit.tool[1] === number;
   const up = group === "lower" ? rise : 0;
   return svg("rect", {
     x: y0 / 1000, y: -(z1 / 1000 + up), width: (y1 - y0) / 1000, height: (z1 - z0) / 1000, ...THIN,
@@ -37,7 +39,8 @@ function partShapes(box, hit, degrees) {
       shapes.push(polygon(ring(box, angle), { fill: "none", stroke: "#b3261e", "stroke-dasharray": "3 3" }));
     }
   }
-  shapes.push(polygon(ring(box, degrees), { fill: isHit ? "#d9453a" : COLOURS[box[1]], stroke: isHit ? "#7d120b" : "#23405f" }));
+  const [fill, stroke] = isHit ? ["#d9453a", "#7d120b"] : [COLOURS[box[1]], "#23405f"];
+  shapes.push(polygon(ring(box, degrees), { fill, stroke }));
   return shapes;
 }
 
@@ -53,7 +56,8 @@ export function strokePicture(picture, degrees) {
   const reach = Math.max(40, ...ends.map(([y]) => Math.abs(y))) * 1.08;
   const top = Math.max(30, ...ends.map(([, z]) => z)) * 1.1, low = -Math.max(45, reach * .25);
   const made = svg("svg", {
-    viewBox: `${-reach} ${-top} ${2 * reach} ${top - low}`, role: "img", "aria-label": degrees ? "after the stroke" : "before the stroke",
+    viewBox: `${-reach} ${-top} ${2 * reach} ${top - low}`, role: "img",
+    "aria-label": degrees ? "after the stroke" : "before the stroke",
   });
   const rise = degrees ? picture.v / 2000 : 0;
   const near = tools.filter(tool => tool[2] < stage[1] && tool[3] > stage[0]);
@@ -79,7 +83,8 @@ export const beforeAlone = (picture, words) =>
 export function profile(body, kind, { nose = 0, v = 0 } = {}) {
   const all = body.map(box => box.map(n => n / 1000)), half = v / 2000, n = nose / 1000;
   const ys = all.flatMap(box => box.slice(0, 2)), zs = all.flatMap(box => box.slice(2)).concat(0);
-  const y0 = Math.min(...ys, -5), y1 = Math.max(...ys, 5), z0 = Math.min(...zs), z1 = Math.max(...zs), pad = (z1 - z0) * .06;
+  const y0 = Math.min(...ys, -5), y1 = Math.max(...ys, 5), z0 = Math.min(...zs), z1 = Math.max(...zs);
+  const pad = (z1 - z0) * .06;
   const made = svg("svg", {
     viewBox: `${y0 - pad} ${-z1 - pad} ${y1 - y0 + 2 * pad} ${z1 - z0 + 2 * pad}`, role: "img",
     "aria-label": `profile of the ${kind}, operator at the left`,

@@ -3,7 +3,8 @@ import { run } from "./api.js";
 import { $, note } from "./dom.js";
 import { makeScene, Mesh } from "./gl.js";
 
-const STEEL = [.72, .74, .77], LOWER = [.6, .62, .66], FINGER = [.11, .45, .78], FRONT = [.36, .50, .68], BACK = [.58, .68, .80];
+const STEEL = [.72, .74, .77], LOWER = [.6, .62, .66], FINGER = [.11, .45, .78];
+const FRONT = [.36, .50, .68], BACK = [.58, .68, .80];
 const view = { data: null, scene: null, at: 0 };
 
 const turn = (angle, sink) => ([x, y, z]) => {
@@ -61,7 +62,10 @@ function go(to) {
 export async function showStrokes(job) {
   if (!view.data) {
     const state = await run("motion", job);
-    if (!state.answer || state.answer.error) { note(`The strokes can't be shown: ${state.answer?.error || "cancelled"}`, true); return; }
+    if (!state.answer || state.answer.error) {
+      note(`The strokes can't be shown: ${state.answer?.error || "cancelled"}`, true);
+      return;
+    }
     view.data = state.answer;
     go(0);
   } else draw();

@@ -20,7 +20,8 @@ export function asText(name, after) {
     if (fault.answer?.tag) state.append(" ", button("Save over it", () => { tag = fault.answer.tag; store(); }));
   };
   const save = button("Save the text", store, { className: "main", disabled: true });
-  const made = el("details", {}, el("summary", { textContent: "The file as text" }), box, el("div", { className: "bar" }, save, state));
+  const bar = el("div", { className: "bar" }, save, state);
+  const made = el("details", {}, el("summary", { textContent: "The file as text" }), box, bar);
   made.ontoggle = async () => {
     if (!made.open || tag !== null) return;
     const file = await readFile(name);

@@ -13,7 +13,7 @@ from workbench.tests.desk.helper import LIMIT, Desk
 
 DRIVER = "/usr/bin/chromedriver"
 WORDS = ("--headless=new", "--no-sandbox", "--disable-dev-shm-usage", "--window-size=1400,900")
-WITHOUT_WEBGL = ("--disable-gpu",)
+WITHOUT_WEBGL = ("--disable-gpu", "--disable-3d-apis")
 WITH_WEBGL = ("--use-gl=angle", "--use-angle=swiftshader", "--enable-unsafe-swiftshader")
 EXPECTED = ("ERR_CONNECTION", "409", "400", "403")
 """Marks of lines in the console that belong to what a test does: refused requests, a server that is ended."""

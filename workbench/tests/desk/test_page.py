@@ -141,6 +141,23 @@ def test_three_edits_at_once_are_all_kept(page: Page) -> None:
     undo_all(page)
 
 
+def test_steps_back_that_come_fast(page: Page) -> None:
+    """Undo pressed four times at once takes back four edits; redo brings them again."""
+    open_part(page, "bracket")
+    before = page.value("#p-text")
+    for number in range(4):
+        page.put("face.2.length", str(16 + number))
+        page.until(lambda: f"length = {16 + number}000" in page.value("#p-text"))
+        page.put("face.1.length", str(51 + number))
+        page.until(lambda: f"length = {51 + number}000" in page.value("#p-text"))
+    after = page.value("#p-text")
+    page.js("for (let k = 0; k < 8; k++) document.getElementById('p-undo').click()")
+    page.until(lambda: page.text("#p-state") == "saved" and page.value("#p-text") == before)
+    page.js("for (let k = 0; k < 8; k++) document.getElementById('p-redo').click()")
+    page.until(lambda: page.value("#p-text") == after)
+    undo_all(page)
+
+
 def test_another_editor(page: Page, shop: Path) -> None:
     """Unedited here the new state is shown; edited here the user is asked."""
     open_part(page, "pan")

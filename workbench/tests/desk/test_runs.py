@@ -100,6 +100,20 @@ def test_millimetres_in_a_file_are_told_with_the_way_out(desk: Desk, shop: Path)
     assert any(slip["key"] == "thickness" and slip["take"] == "Take 2 mm" and slip["usual"] == 2000 for slip in slips)
 
 
+def test_proposed_stations(desk: Desk, shop: Path) -> None:
+    """The cheapest of the proposals is one that the program plans; its stations become a machine file."""
+    if not desk.get("/api/offers")["propose"]:
+        pytest.skip("this brake has no command propose")
+    answer = desk.run("/api/propose", three("bracket"))
+    assert answer["status"] == 0, answer
+    best = total_of(answer["out"])
+    (shop / "bracket/taken.toml").write_text(answer["take"])
+    plan = desk.run("/api/plan", {**three("bracket"), "machine": "bracket/taken.toml"})
+    assert plan["status"] == 0 and total_of(plan["out"]) == best
+    none = desk.run("/api/propose", three("tall_channel"))
+    assert none["status"] == 1 and any("no plan" in line for line in none["lines"])
+
+
 def test_commands_that_are_not_there(desk: Desk) -> None:
     offers = desk.get("/api/offers")
     for command, path in (("dxf", "/api/dxf"), ("propose", "/api/propose")):
