@@ -29,7 +29,7 @@ class Cut:
 
 
 def cut_of(blank: Blank, relief: tuple[int, int] | None = None) -> Cut:
-    """The cut of a blank with a relief of (width, depth) at the ends of bend lines. Raises Ends for faces that overlap."""
+    """The cut of a blank with a relief of (width, depth) at bend ends. Raises Ends where faces overlap."""
     notches = reliefs(blank, *relief) if relief else {}
     grid = _Grid(blank, notches)
     slits, bends, sides = [], {number: [] for number in blank.bends}, []
